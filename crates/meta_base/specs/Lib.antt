@@ -1,0 +1,6 @@
+pub mod Count
+pub mod Shelf
+pub mod Sink
+pub mod MemFiles
+pub mod MemShelves
+pub mod MemSinks

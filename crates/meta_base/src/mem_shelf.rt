@@ -1,0 +1,128 @@
+ghost use Rattle.std.specs.Prelude.{◌≡◌, ◌&&◌, List, [], ◌∷◌, ℕ, length, min, IfOk, is_ok, is_some, not, option_map, if◌then◌else◌};
+ghost use Rattle.std.specs.Option.{option_map_or};
+ghost use Rattle.meta_base.specs.Count.{raised};
+ghost use Rattle.meta_base.specs.Shelf.{Begins, Keeps, HasRead};
+ghost use Rattle.meta_base.specs.MemFiles.{bytes_at, bytes_named};
+
+use crate::calls::Calls;
+use crate::{Failed, List, Shelf, Text};
+
+/// A file in memory.
+#[derive(Drop)]
+pub struct MemFile {
+    pub name: Text,
+    pub bytes: List<u8>,
+}
+
+/// A shelf in memory that tells all, and some of whose calls fail: for tests, and for programs that
+/// have their files in memory. No call takes memory.
+#[derive(Drop)]
+pub struct MemShelf {
+    files: List<MemFile>,
+    calls: Calls,
+    // The place of the file that was begun.
+    begun: Option<usize>,
+    // How many bytes of that file were moved.
+    at: usize,
+    taken: u64,
+    ended: bool,
+}
+
+impl MemShelf {
+    ghost use Rattle.meta_base.specs.MemShelves.{files_of, failing_of, calls_of, fails_now, moment_of};
+
+    /// A shelf of these files, of which the first of a name counts. Calls of `begin` and `read` are
+    /// numbered together from 0; those whose numbers are in `failing` fail and raise the count of
+    /// faults. No file is begun.
+    pub fn new(files: List<MemFile>, failing: List<u64>) -> MemShelf
+        ensures files { files_of result ≡ files }
+        ensures failing { failing_of result ≡ failing }
+        ensures calls { calls_of result ≡ 0 }
+        ensures rest { (moment_of result).rest ≡ [] }
+        ensures faults { (moment_of result).faults ≡ 0 }
+    {
+        MemShelf {
+            files,
+            calls: Calls::new(failing),
+            begun: None,
+            at: 0,
+            taken: 0,
+            ended: false,
+        }
+    }
+}
+
+// The place of the first file of that name.
+fn place_of(files: &[MemFile], name: &str) -> Option<usize>
+    ensures { option_map (bytes_at files.now) result ≡ bytes_named name.now files.now }
+{
+    for (place, file) in files.iter().enumerate() {
+        if file.name.as_str() == name {
+            return Some(place);
+        }
+    }
+    None
+}
+
+// The bytes of the file that was begun, if one was.
+fn bytes_begun(files: &[MemFile], begun: Option<usize>) -> &[u8]
+    ensures { result.now ≡ option_map_or (bytes_at files.now) begun [] }
+{
+    match begun.and_then(|place| files.get(place)) {
+        Some(file) => file.bytes.as_slice(),
+        None => &[],
+    }
+}
+
+impl Shelf for MemShelf {
+    ghost use Rattle.meta_base.specs.MemShelves.{files_of, failing_of, calls_of, fails_now, moment_of};
+
+    ghost now_is = { moment_of };
+
+    fn begin(&mut self, name: &str) -> Result<(), Failed>
+        ensures begins { Begins (moment_of self.old) name.now (moment_of self.new) result }
+        ensures answer { is_ok result ≡ (not (fails_now self.old) && is_some (bytes_named name.now (files_of self.old))) }
+        ensures faults { (moment_of self.new).faults ≡ (if fails_now self.old then raised (moment_of self.old).faults 1 else (moment_of self.old).faults) }
+        ensures calls { calls_of self.new ≡ raised (calls_of self.old) 1 }
+        ensures failing { failing_of self.new ≡ failing_of self.old }
+        ensures files { files_of self.new ≡ files_of self.old }
+    {
+        self.taken = 0;
+        self.ended = false;
+        self.at = 0;
+        self.begun = None;
+        if self.calls.count() {
+            return Err(self.calls.fault());
+        }
+        self.begun = place_of(self.files.as_slice(), name);
+        match self.begun {
+            Some(_) => Ok(()),
+            None => Err(Failed),
+        }
+    }
+
+    fn read(&mut self, buf: &mut [u8]) -> Result<usize, Failed>
+        ensures keeps { Keeps (moment_of self.old) (moment_of self.new) }
+        ensures read { HasRead (moment_of self.old) buf.old result (moment_of self.new) buf.new }
+        ensures answer { is_ok result ≡ not (fails_now self.old) }
+        ensures amount { IfOk result (λ n. n ≡ min (length (moment_of self.old).rest) (length buf.old)) }
+        ensures faults { (moment_of self.new).faults ≡ (if fails_now self.old then raised (moment_of self.old).faults 1 else (moment_of self.old).faults) }
+        ensures calls { calls_of self.new ≡ raised (calls_of self.old) 1 }
+        ensures failing { failing_of self.new ≡ failing_of self.old }
+        ensures files { files_of self.new ≡ files_of self.old }
+    {
+        if self.calls.count() {
+            return Err(self.calls.fault());
+        }
+        let bytes = bytes_begun(self.files.as_slice(), self.begun);
+        let left = &bytes[self.at.min(bytes.len())..];
+        let n = left.len().min(buf.len());
+        buf[..n].copy_from_slice(&left[..n]);
+        self.at = self.at.saturating_add(n);
+        self.taken = self.taken.saturating_add(n as u64);
+        if n == 0 && !buf.is_empty() {
+            self.ended = true;
+        }
+        Ok(n)
+    }
+}

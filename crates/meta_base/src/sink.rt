@@ -1,0 +1,20 @@
+ghost use Rattle.meta_base.specs.Sink.{Held, HasWritten};
+
+use crate::Failed;
+
+/// Where bytes go.
+///
+/// A sink shows at every moment whether it tells what it took, the bytes that it took, and a count of
+/// faults that never falls and stops at the greatest `u64`.
+pub trait Sink {
+    /// What the sink shows.
+    ghost holds: { Self → Held };
+
+    /// Takes bytes from the front of the piece, at least one where it isn't empty, and answers how
+    /// many.
+    ///
+    /// It fails only on a piece that isn't empty, where the count of faults rose; it has then taken
+    /// nothing. An empty piece changes nothing.
+    fn write(&mut self, piece: &[u8]) -> Result<usize, Failed>
+        ensures { HasWritten (holds self.old) piece.now result (holds self.new) };
+}

@@ -1,0 +1,37 @@
+ghost use Rattle.std.specs.Prelude.{◌≡◌, IfOk};
+
+use crate::NoMemory;
+use std::alloc::Global;
+use std::marker::Model;
+
+/// An owned text, which contracts see as the list of its bytes.
+#[derive(Drop)]
+pub struct Text {
+    text: String,
+}
+
+impl Model for Text {
+    ghost use Rattle.std.specs.Prelude.{List, ℕ, string_bytes};
+
+    ghost Value = { List ℕ };
+
+    ghost view = { λ s. string_bytes s.text };
+}
+
+impl Text {
+    /// A text of the same bytes.
+    pub fn copy(alloc: Global, text: &str) -> Result<Text, NoMemory>
+        ensures { IfOk result (λ copied. copied ≡ text.now) }
+    {
+        Ok(Text {
+            text: String::from_str(alloc, text)?,
+        })
+    }
+
+    /// Lends the text.
+    pub fn as_str(&self) -> &str
+        ensures { result.now ≡ self.now }
+    {
+        self.text.as_str()
+    }
+}

@@ -1,0 +1,68 @@
+ghost use Rattle.std.specs.Prelude.{◌≡◌, ◌⊎◌, ◌<◌, ◌≤◌, ℕ, List, Some, None, true, length, IfOk, OnOk, IsTrue, IsErrOf};
+ghost use Rattle.meta_base.specs.Count.{HasRisen};
+ghost use Rattle.meta_base.specs.Shelf.{Keeps, IsAbsent};
+ghost use Rattle.meta_base.specs.Sink.{Puts};
+
+use crate::{Failed, List, Shelf, Sink, TakeError};
+use std::alloc::Global;
+
+// How many bytes are asked for at a time.
+const CHUNK: usize = 16384;
+
+/// Takes all bytes of the file `name`, which may have at most `limit` of them.
+///
+/// Each read is offered a buffer of 16,384 bytes. [`TakeError::Fault`] comes only where the shelf's
+/// count of faults rose or where the shelf tells that it has no such file, and
+/// [`TakeError::TooLong`] exactly where more than `limit` bytes were taken. The file stays begun,
+/// read as far as the answer needed.
+pub fn take_all<S: Shelf>(
+    alloc: Global,
+    shelf: &mut S,
+    name: &str,
+    limit: usize,
+) -> Result<List<u8>, TakeError>
+    requires { limit ≤ 4194304 }
+    ensures keeps { Keeps (S.now_is shelf.old) (S.now_is shelf.new) }
+
+    // Each refusal has its cause.
+    ensures fault { IsErrOf result TakeError.Fault →
+        HasRisen (S.now_is shelf.old).faults (S.now_is shelf.new).faults ⊎ IsAbsent (S.now_is shelf.old) name.now }
+    ensures too_long { IsErrOf result TakeError.TooLong → limit < (S.now_is shelf.new).taken }
+    ensures only_too_long { limit < (S.now_is shelf.new).taken → IsErrOf result TakeError.TooLong }
+    ensures too_long_told { IsErrOf result TakeError.TooLong → IsTrue (S.now_is shelf.old).tells →
+        ((bytes : List ℕ) × ((S.now_is shelf.old).file name.now ≡ Some bytes) × (limit < length bytes)) }
+
+    // What is taken is the file, to its end.
+    ensures count { IfOk result (λ bytes. length bytes ≡ (S.now_is shelf.new).taken) }
+    ensures end { OnOk result ((S.now_is shelf.new).ended ≡ true) }
+    ensures whole { IfOk result (λ bytes. IsTrue (S.now_is shelf.old).tells → (S.now_is shelf.old).file name.now ≡ Some bytes) }
+{
+    let mut bytes = Vec::new(alloc);
+    let mut chunk = [0u8; CHUNK];
+    match shelf.begin(name) {
+        Ok(()) => {}
+        Err(Failed) => return Err(TakeError::Fault),
+    }
+    loop {
+        match shelf.read(&mut chunk) {
+            Ok(0) => return Ok(List::from_vec(bytes)),
+            Ok(n) if n > limit - bytes.len() => return Err(TakeError::TooLong),
+            Ok(n) => bytes.extend_from_slice(&chunk[..n])?,
+            Err(Failed) => return Err(TakeError::Fault),
+        }
+    }
+}
+
+/// Writes the whole piece, in as many writes as the sink needs: each offers all that is left.
+///
+/// It fails only where the sink's count of faults rose; a front of the piece that isn't all of it was
+/// then appended.
+pub fn put_all<K: Sink>(out: &mut K, piece: &[u8]) -> Result<(), Failed>
+    ensures { Puts (K.holds out.old) piece.now result (K.holds out.new) }
+{
+    let mut done = 0;
+    while done < piece.len() {
+        done += out.write(&piece[done..])?;
+    }
+    Ok(())
+}
