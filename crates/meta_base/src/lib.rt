@@ -9,6 +9,7 @@ mod calls;
 mod errors;
 mod gate;
 mod ids;
+mod limits;
 mod list;
 mod mem_shelf;
 mod mem_sink;
@@ -20,6 +21,7 @@ mod whole;
 pub use errors::{Failed, NoMemory, TakeError};
 pub use gate::{Gate, OpenGate};
 pub use ids::{ArcId, Delivery, DestId, NodeId, Place, Which};
+pub use limits::{MAX_FILE_BYTES, MAX_NUMBER};
 pub use list::List;
 pub use mem_shelf::{MemFile, MemShelf};
 pub use mem_sink::MemSink;
@@ -56,7 +58,7 @@ mod tests {
         name: &str,
         limit: usize,
     ) -> Result<List<u8>, TakeError>
-        requires { limit ≤ 4194304 }
+        requires { limit ≤ MAX_FILE_BYTES }
     {
         take_all(alloc, shelf, name, limit)
     }

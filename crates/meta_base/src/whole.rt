@@ -3,7 +3,7 @@ ghost use Rattle.meta_base.specs.Count.{HasRisen};
 ghost use Rattle.meta_base.specs.Shelf.{Keeps, IsAbsent};
 ghost use Rattle.meta_base.specs.Sink.{Puts};
 
-use crate::{Failed, List, Shelf, Sink, TakeError};
+use crate::{Failed, List, MAX_FILE_BYTES, Shelf, Sink, TakeError};
 use std::alloc::Global;
 
 // How many bytes are asked for at a time.
@@ -21,7 +21,7 @@ pub fn take_all<S: Shelf>(
     name: &str,
     limit: usize,
 ) -> Result<List<u8>, TakeError>
-    requires { limit ≤ 4194304 }
+    requires { limit ≤ MAX_FILE_BYTES }
     ensures keeps { Keeps (S.now_is shelf.old) (S.now_is shelf.new) }
 
     // Each refusal has its cause.

@@ -1,0 +1,59 @@
+-- What violates a property, and what makes verdicts exact.
+use Rattle.std.specs.Prelude.{◌≡◌, Option, Some, None}
+use Rattle.alg_model.specs.Expressions.{Expression, PureLabel, PureValue}
+use Rattle.alg_model.specs.Carriers.{carrier_of, In, IsPreferred, AreEquivalent}
+use Rattle.alg_model.specs.Application.{IsLabel, App}
+use Rattle.alg_model.specs.Properties.{PureProperty, monotone, strict, isotone, cancellative, total, Has}
+
+-- a label with values at which it is said to lack a property
+pub record PureInstance : Type 0 where
+  pub property : PureProperty
+  pub label : PureLabel
+  pub first : PureValue
+  pub second : Option PureValue
+
+-- at these values the label lacks the property
+abbrev pub Shows : PureProperty → Expression → PureLabel → PureValue → Option PureValue → Type 0
+Shows monotone a l u None = IsPreferred (carrier_of a) (App a l u) (Some u)
+Shows strict a l u None = (w : PureValue) × (App a l u ≡ Some w) × ¬ IsPreferred (carrier_of a) (Some u) (Some w)
+Shows isotone a l u (Some v) = (¬ IsPreferred (carrier_of a) (Some v) (Some u)) × IsPreferred (carrier_of a) (App a l v) (App a l u)
+Shows cancellative a l u (Some v) = AreEquivalent (carrier_of a) (App a l u) (App a l v) × ¬ AreEquivalent (carrier_of a) (Some u) (Some v)
+Shows total a l u None = App a l u ≡ None
+Shows _ _ _ _ _ = ⊥
+
+-- the second value is in the carrier, if it is there
+abbrev pub SecondIn : Expression → Option PureValue → Type 0
+SecondIn a None = Unit {0}
+SecondIn a (Some v) = In (carrier_of a) v
+
+-- the instance is of the algebra, and shows that its label lacks its property
+pub record Violates (a : Expression) (x : PureInstance) : Type 0 where
+  pub label : IsLabel a x.label
+  pub first : In (carrier_of a) x.first
+  pub second : SecondIn a x.second
+  pub shows : Shows x.property a x.label x.first x.second
+
+-- a property holds, or it fails, with an instance
+pub data PureVerdict : Type 0 where
+  holds : PureVerdict
+  fails : PureInstance → PureVerdict
+
+pub record PureVerdicts : Type 0 where
+  pub monotone : PureVerdict
+  pub strict : PureVerdict
+  pub isotone : PureVerdict
+  pub cancellative : PureVerdict
+  pub total : PureVerdict
+
+-- all labels of the set have the property; or one of them violates it
+abbrev pub IsExact : PureProperty → Expression → (PureLabel → Type 0) → PureVerdict → Type 0
+IsExact p a S holds = (l : PureLabel) → S l → Has p a l
+IsExact p a S (fails x) = (x.property ≡ p) × S x.label × Violates a x
+
+-- the verdicts are right for the labels of the set
+pub record ExactFor (a : Expression) (S : PureLabel → Type 0) (v : PureVerdicts) : Type 0 where
+  pub monotone : IsExact monotone a S v.monotone
+  pub strict : IsExact strict a S v.strict
+  pub isotone : IsExact isotone a S v.isotone
+  pub cancellative : IsExact cancellative a S v.cancellative
+  pub total : IsExact total a S v.total
