@@ -1,0 +1,5 @@
+pub mod Bytes
+pub mod Tokens
+pub mod Views
+pub mod Faults
+pub mod ExprText

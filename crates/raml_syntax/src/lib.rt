@@ -1,0 +1,9 @@
+//! Reads expression files. It knows their tokens and their grammar, and what algebra a text means;
+//! what an algebra does is `alg_model`'s. It stands on `meta_base` and `alg_model`.
+#![tactic(auto)]
+
+mod bytes;
+mod expression;
+mod tokens;
+
+pub use expression::{AlgError, ExprFault, ExprKind, read_alg};
