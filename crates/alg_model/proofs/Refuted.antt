@@ -19,4 +19,4 @@ shown total a l u None i j s h = let e = (h u i).1 in cc
 shown total a l u (Some v) i j s h = absurd s
 
 pub refuted : (a : Expression) (x : PureInstance) → Violates a x → ¬ Has x.property a x.label
-refuted a x v = shown x.property a x.label x.first x.second v.first v.second v.shows
+refuted a x v = shown x.property a x.label x.first x.second v.is_of.first v.is_of.second v.shows

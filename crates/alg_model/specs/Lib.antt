@@ -6,3 +6,5 @@ pub mod Bounds
 pub mod Formation
 pub mod Properties
 pub mod Verdicts
+pub mod Instances
+pub mod Texts

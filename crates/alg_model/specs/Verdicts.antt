@@ -26,11 +26,15 @@ abbrev pub SecondIn : Expression → Option PureValue → Type 0
 SecondIn a None = Unit {0}
 SecondIn a (Some v) = In (carrier_of a) v
 
--- the instance is of the algebra, and shows that its label lacks its property
-pub record Violates (a : Expression) (x : PureInstance) : Type 0 where
+-- the instance's label and values are the algebra's
+pub record IsInstanceOf (a : Expression) (x : PureInstance) : Type 0 where
   pub label : IsLabel a x.label
   pub first : In (carrier_of a) x.first
   pub second : SecondIn a x.second
+
+-- the instance is the algebra's, and shows that its label lacks its property
+pub record Violates (a : Expression) (x : PureInstance) : Type 0 where
+  pub is_of : IsInstanceOf a x
   pub shows : Shows x.property a x.label x.first x.second
 
 -- a property holds, or it fails, with an instance

@@ -1,0 +1,3 @@
+pub mod Additive
+pub mod Checked
+pub mod Written

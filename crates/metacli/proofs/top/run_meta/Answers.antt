@@ -1,0 +1,9 @@
+use Rattle.metacli.specs.Words.{Words}
+use Rattle.metacli.proofs.Checked.{reanswered, complete}
+use Rattle.metacli.proofs.top.run_meta.Goals as goal
+
+pub returns-clause-ended : goal.returns-clause-ended
+returns-clause-ended g c = reanswered c.args.words.now _ _ c.decide-ended.result c.print-ended.result (Words c.args.words.now) c.decide-ended.ensures.ended
+
+pub returns-clause-complete : goal.returns-clause-complete
+returns-clause-complete g c = complete c.args.words.now _ _ _ (Words c.args.words.now) (returns-clause-ended g c)

@@ -1,0 +1,5 @@
+pub mod Words
+pub mod Views
+pub mod Answers
+pub mod Texts
+pub mod Outcome

@@ -1,0 +1,115 @@
+-- The printed text of what was decided, and what of it was written.
+use Rattle.std.specs.Prelude.{◌≡◌, ℕ, ◌^◌, List, [], ◌++◌, Option, Some, None, take, codes, decimal}
+use Rattle.meta_base.specs.Sink.{Held, Appended, AppendedPart}
+use Rattle.meta_base.specs.declared.ids.Which.{Which}
+use Rattle.meta_base.specs.declared.ids.Which.TheVariants.{Expr, Network}
+use Rattle.alg_model.specs.Expressions.{Expression, PureCarrier, PureValue, PureLabel}
+use Rattle.alg_model.specs.Carriers.{carrier_of}
+use Rattle.alg_model.specs.Application.{App}
+use Rattle.alg_model.specs.Verdicts.{PureInstance, IsInstanceOf, PureVerdict, holds, fails, PureVerdicts}
+use Rattle.alg_model.specs.Instances.{InstanceAtMost}
+use Rattle.alg_model.specs.Texts.{value_text, label_text}
+use Rattle.raml_syntax.specs.Faults.{fault_number}
+use Rattle.metacli.specs.Words.{words_fault_number}
+use Rattle.metacli.specs.Views.{pure_verdicts}
+use Rattle.metacli.specs.declared.verdict.Verdicts.{Verdicts}
+use Rattle.metacli.specs.declared.ended.Ended.{Ended}
+use Rattle.metacli.specs.declared.ended.Answer.{Answer}
+use Rattle.metacli.specs.declared.ended.Answer.TheVariants.{Done, BadWords, BadExpr, ReadFault, WriteFault, NoMemory, TooLong}
+
+-- a value, or none
+abbrev pub image_text : PureCarrier → Option PureValue → List ℕ
+image_text c None = codes "none"
+image_text c (Some v) = value_text c v
+
+-- the second value of an instance, and its image, where it is there
+abbrev pub second_text : PureCarrier → Option PureValue → List ℕ
+second_text c None = []
+second_text c (Some v) = codes " and " ++ value_text c v
+
+abbrev pub second_image_text : Expression → PureLabel → Option PureValue → List ℕ
+second_image_text a l None = []
+second_image_text a l (Some v) = codes " and " ++ image_text (carrier_of a) (App a l v)
+
+-- LABEL on VALUE gives IMAGE, or LABEL on VALUE and VALUE gives IMAGE and IMAGE
+abbrev pub instance_text : Expression → PureInstance → List ℕ
+instance_text a x =
+    label_text a x.label ++ codes " on " ++ value_text (carrier_of a) x.first ++ second_text (carrier_of a) x.second
+    ++ codes " gives " ++ image_text (carrier_of a) (App a x.label x.first) ++ second_image_text a x.label x.second
+
+-- the line of one verdict
+abbrev pub verdict_text : Expression → List ℕ → PureVerdict → List ℕ
+verdict_text a word holds = word ++ codes " yes\n"
+verdict_text a word (fails x) = word ++ codes " no: " ++ instance_text a x ++ codes "\n"
+
+-- the five lines of verdicts
+abbrev pub verdicts_text : Expression → PureVerdicts → List ℕ
+verdicts_text a v =
+    verdict_text a (codes "monotone") v.monotone
+    ++ verdict_text a (codes "strict") v.strict
+    ++ verdict_text a (codes "isotone") v.isotone
+    ++ verdict_text a (codes "cancellative") v.cancellative
+    ++ verdict_text a (codes "total") v.total
+
+abbrev pub which_text : Which → List ℕ
+which_text Expr = codes "expression"
+which_text Network = codes "network"
+
+-- the line of a refusal
+abbrev pub refusal_text : Answer → List ℕ
+refusal_text (BadWords f) = codes "words refused: C" ++ decimal (words_fault_number f) ++ codes "\n"
+refusal_text (BadExpr f) = codes "expression refused: X" ++ decimal (fault_number f.kind) ++ codes " at " ++ decimal f.place.line ++ codes ":" ++ decimal f.place.column ++ codes "\n"
+refusal_text (ReadFault w) = codes "read fault on the " ++ which_text w ++ codes "\n"
+refusal_text (TooLong w) = codes "too long: the " ++ which_text w ++ codes "\n"
+refusal_text NoMemory = codes "out of memory\n"
+refusal_text Done = []
+refusal_text WriteFault = []
+
+-- what is printed where the command was carried out
+abbrev pub done_text : Option Expression → Option Verdicts → List ℕ
+done_text (Some a) (Some v) = verdicts_text a (pure_verdicts v)
+done_text _ _ = []
+
+abbrev pub text_for : Ended → Answer → List ℕ
+text_for e Done = done_text e.alg e.verdicts
+text_for e answer = refusal_text answer
+
+-- the text of what was decided
+abbrev pub TextOf : Ended → List ℕ
+TextOf e = text_for e e.decided
+
+-- the instance is the algebra's, and its images can be computed
+pub record CanPrint (a : Expression) (x : PureInstance) : Type 0 where
+  pub is_of : IsInstanceOf a x
+  pub bound : InstanceAtMost (2 ^ 62) x
+
+abbrev pub CanPrintVerdict : Expression → PureVerdict → Type 0
+CanPrintVerdict a holds = Unit {0}
+CanPrintVerdict a (fails x) = CanPrint a x
+
+pub record CanPrintVerdicts (a : Expression) (v : PureVerdicts) : Type 0 where
+  pub monotone : CanPrintVerdict a v.monotone
+  pub strict : CanPrintVerdict a v.strict
+  pub isotone : CanPrintVerdict a v.isotone
+  pub cancellative : CanPrintVerdict a v.cancellative
+  pub total : CanPrintVerdict a v.total
+
+abbrev pub CanPrintDone : Option Expression → Option Verdicts → Type 0
+CanPrintDone (Some a) (Some v) = CanPrintVerdicts a (pure_verdicts v)
+CanPrintDone _ _ = ⊥
+
+abbrev pub IsPrintableAs : Ended → Answer → Type 0
+IsPrintableAs e Done = CanPrintDone e.alg e.verdicts
+IsPrintableAs e WriteFault = ⊥
+IsPrintableAs e answer = Unit {0}
+
+-- the text of what was decided can be made
+abbrev pub IsPrintable : Ended → Type 0
+IsPrintable e = IsPrintableAs e e.decided
+
+-- What was written of the text, by the answer in the end: a proper front of it after a write fault; a
+-- front of it where memory was refused, and all of it where that was decided before; else all of it.
+abbrev pub Written : Held → List ℕ → Held → Answer → Answer → Type 0
+Written old text new decided WriteFault = AppendedPart old text new
+Written old text new decided NoMemory = (decided ≡ NoMemory → Appended old text new) × ((n : ℕ) × Appended old (take n text) new)
+Written old text new decided answer = (answer ≡ decided) × Appended old text new

@@ -1,0 +1,20 @@
+-- What the words of a command line mean.
+use Rattle.std.specs.Prelude.{ℕ, List, [], ◌∷◌, None, Result, Ok, Err, if◌then◌else◌, codes}
+use Rattle.std.specs.Str.{bytes_eq}
+use Rattle.metacli.specs.declared.words.Command.{Command}
+use Rattle.metacli.specs.declared.words.Command.TheVariants.{Check}
+use Rattle.metacli.specs.declared.words.WordsFault.{WordsFault}
+use Rattle.metacli.specs.declared.words.WordsFault.TheVariants.{UnknownCommand}
+
+-- the command of the words, or the first fault in them
+abbrev pub Words : List (List ℕ) → Result Command WordsFault
+Words (w ∷ file ∷ []) = if bytes_eq w (codes "check") then Ok (Check 1 None) else Err UnknownCommand
+Words _ = Err UnknownCommand
+
+-- the place in the words of the expression file's name
+abbrev pub expression_place : Command → ℕ
+expression_place (Check file net) = file
+
+-- the number that stands behind the C of a printed fault
+abbrev pub words_fault_number : WordsFault → ℕ
+words_fault_number UnknownCommand = 2

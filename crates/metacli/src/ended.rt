@@ -1,0 +1,57 @@
+ghost use Rattle.std.specs.Prelude.{◌≡◌};
+ghost use Rattle.metacli.specs.Answers.{status_of};
+
+use crate::{Command, Verdicts, WordsFault};
+use alg_model::Alg;
+use meta_base::Which;
+use raml_syntax::ExprFault;
+
+/// How a run ended.
+#[derive(Clone, Copy, Debug, PartialEq, Eq)]
+pub enum Answer {
+    /// The command was carried out.
+    Done,
+    /// The words mean no command.
+    BadWords(WordsFault),
+    /// The bytes of the expression file mean no algebra.
+    BadExpr(ExprFault),
+    /// The file could not be begun or read to its end.
+    ReadFault(Which),
+    /// The text could not be written to its end.
+    WriteFault,
+    /// There was no memory.
+    NoMemory,
+    /// The file has more bytes than [`meta_base::MAX_FILE_BYTES`].
+    TooLong(Which),
+}
+
+/// What a run came to.
+#[derive(Drop)]
+pub struct Ended {
+    /// What the words asked for, where they mean a command.
+    pub command: Option<Command>,
+    /// The algebra of the expression file, where that was read and means one.
+    pub alg: Option<Alg>,
+    /// The verdicts, where `check` was carried out.
+    pub verdicts: Option<Verdicts>,
+    /// The answer before anything was written.
+    pub decided: Answer,
+    /// The answer: `decided`, or `WriteFault` or `NoMemory` where writing ended early.
+    pub answer: Answer,
+}
+
+/// The status that the program ends with: 0 done, 1 bad words, 2 a bad expression, 5 a read fault, 6 a
+/// write fault, 7 out of memory, 8 a file that is too long.
+pub fn status(answer: &Answer) -> u8
+    ensures { result ≡ status_of answer.now }
+{
+    match answer {
+        Answer::Done => 0,
+        Answer::BadWords(_) => 1,
+        Answer::BadExpr(_) => 2,
+        Answer::ReadFault(_) => 5,
+        Answer::WriteFault => 6,
+        Answer::NoMemory => 7,
+        Answer::TooLong(_) => 8,
+    }
+}

@@ -1,0 +1,194 @@
+// The texts that are printed.
+ghost use Rattle.std.specs.Prelude.{◌≡◌, ◌<◌, ◌≤◌, ◌++◌, ◌^◌, length, codes, decimal, string_bytes, option_copied, OnOk, IfOk};
+ghost use Rattle.meta_base.specs.declared.limits.TheConstants.{MAX_NUMBER};
+ghost use Rattle.meta_base.specs.Sink.{Puts};
+ghost use Rattle.alg_model.specs.Views.{pure_value, pure_label};
+ghost use Rattle.alg_model.specs.Bounds.{AtMost, LabelAtMost};
+ghost use Rattle.alg_model.specs.Carriers.{carrier_of, In};
+ghost use Rattle.alg_model.specs.Application.{IsLabel, App};
+ghost use Rattle.alg_model.specs.Texts.{value_text, label_text};
+ghost use Rattle.metacli.specs.Views.{pure_instance, pure_verdict, pure_verdicts};
+ghost use Rattle.metacli.specs.Texts.{CanPrint, CanPrintVerdict, CanPrintVerdicts, image_text, instance_text, verdict_text, verdicts_text, which_text, refusal_text};
+
+use crate::{Answer, Instance, Verdict, Verdicts};
+use alg_model::{Alg, Label, Tree, Value, apply};
+use itoa::Buffer;
+use meta_base::{Failed, NoMemory, Sink, Text, Which, put_all};
+use std::alloc::Global;
+
+fn push_number(out: &mut String, n: u64) -> Result<(), NoMemory>
+    ensures { OnOk result (string_bytes out.new ≡ string_bytes out.old ++ decimal n) }
+{
+    out.push_str(Buffer::new().format(n))?;
+    Ok(())
+}
+
+fn push_value(out: &mut String, alg: &Alg, value: &Value) -> Result<(), NoMemory>
+    requires { In (carrier_of alg.now) (pure_value value.now) }
+    ensures { OnOk result (string_bytes out.new ≡ string_bytes out.old ++ value_text (carrier_of alg.now) (pure_value value.now)) }
+{
+    match (alg.tree(), value) {
+        (Tree::Add { .. }, Value::Number(n)) => push_number(out, *n),
+    }
+}
+
+fn push_label(out: &mut String, alg: &Alg, label: &Label) -> Result<(), NoMemory>
+    requires { IsLabel alg.now (pure_label label.now) }
+    ensures { OnOk result (string_bytes out.new ≡ string_bytes out.old ++ label_text alg.now (pure_label label.now)) }
+{
+    match (alg.tree(), label) {
+        (Tree::Add { .. }, Label::Number(n)) => push_number(out, *n),
+    }
+}
+
+// The text of what a label makes of a value.
+fn push_image(
+    alloc: Global,
+    out: &mut String,
+    alg: &Alg,
+    label: &Label,
+    value: &Value,
+) -> Result<(), NoMemory>
+    requires label { IsLabel alg.now (pure_label label.now) }
+    requires value { In (carrier_of alg.now) (pure_value value.now) }
+    requires small_label { LabelAtMost MAX_NUMBER (pure_label label.now) }
+    requires small_value { AtMost (2 ^ 62) (pure_value value.now) }
+    ensures { OnOk result (string_bytes out.new ≡ string_bytes out.old
+        ++ image_text (carrier_of alg.now) (App alg.now (pure_label label.now) (pure_value value.now))) }
+{
+    match apply(alloc, alg, label, value)? {
+        Some(image) => push_value(out, alg, &image),
+        None => Ok(out.push_str("none")?),
+    }
+}
+
+fn push_instance(
+    alloc: Global,
+    out: &mut String,
+    alg: &Alg,
+    instance: &Instance,
+) -> Result<(), NoMemory>
+    requires { CanPrint alg.now (pure_instance instance.now) }
+    ensures { OnOk result (string_bytes out.new ≡ string_bytes out.old ++ instance_text alg.now (pure_instance instance.now)) }
+{
+    push_label(out, alg, &instance.label)?;
+    out.push_str(" on ")?;
+    push_value(out, alg, &instance.first)?;
+    if let Some(second) = &instance.second {
+        out.push_str(" and ")?;
+        push_value(out, alg, second)?;
+    }
+    out.push_str(" gives ")?;
+    push_image(alloc, out, alg, &instance.label, &instance.first)?;
+    if let Some(second) = &instance.second {
+        out.push_str(" and ")?;
+        push_image(alloc, out, alg, &instance.label, second)?;
+    }
+    Ok(())
+}
+
+fn push_verdict(
+    alloc: Global,
+    out: &mut String,
+    alg: &Alg,
+    word: &str,
+    verdict: &Verdict,
+) -> Result<(), NoMemory>
+    requires { CanPrintVerdict alg.now (pure_verdict verdict.now) }
+    ensures { OnOk result (string_bytes out.new ≡ string_bytes out.old ++ verdict_text alg.now word.now (pure_verdict verdict.now)) }
+{
+    out.push_str(word)?;
+    match verdict {
+        Verdict::Yes => out.push_str(" yes\n")?,
+        Verdict::No(instance) => {
+            out.push_str(" no: ")?;
+            push_instance(alloc, out, alg, instance)?;
+            out.push_str("\n")?;
+        }
+    }
+    Ok(())
+}
+
+// The five lines of the verdicts on an algebra or on labels of it.
+pub fn verdict_lines(alloc: Global, alg: &Alg, verdicts: &Verdicts) -> Result<Text, NoMemory>
+    requires { CanPrintVerdicts alg.now (pure_verdicts verdicts.now) }
+    ensures { IfOk result (λ text. text ≡ verdicts_text alg.now (pure_verdicts verdicts.now)) }
+{
+    let mut out = String::new(alloc);
+    push_verdict(alloc, &mut out, alg, "monotone", &verdicts.monotone)?;
+    push_verdict(alloc, &mut out, alg, "strict", &verdicts.strict)?;
+    push_verdict(alloc, &mut out, alg, "isotone", &verdicts.isotone)?;
+    push_verdict(alloc, &mut out, alg, "cancellative", &verdicts.cancellative)?;
+    push_verdict(alloc, &mut out, alg, "total", &verdicts.total)?;
+    Ok(Text::from_string(out))
+}
+
+fn which_word(which: Which) -> &'static str
+    ensures { result.now ≡ which_text which }
+{
+    match which {
+        Which::Expr => "expression",
+        Which::Network => "network",
+    }
+}
+
+// The one line of a refusal.
+pub fn refusal_line(alloc: Global, answer: Answer) -> Result<Text, NoMemory>
+    ensures { IfOk result (λ text. text ≡ refusal_text answer) }
+{
+    let mut out = String::new(alloc);
+    match answer {
+        Answer::Done | Answer::WriteFault => {}
+        Answer::BadWords(fault) => {
+            out.push_str("words refused: C")?;
+            push_number(&mut out, u64::from(fault.number()))?;
+            out.push_str("\n")?;
+        }
+        Answer::BadExpr(fault) => {
+            out.push_str("expression refused: X")?;
+            push_number(&mut out, u64::from(fault.kind.number()))?;
+            out.push_str(" at ")?;
+            push_number(&mut out, u64::from(fault.place.line))?;
+            out.push_str(":")?;
+            push_number(&mut out, u64::from(fault.place.column))?;
+            out.push_str("\n")?;
+        }
+        Answer::ReadFault(which) => {
+            out.push_str("read fault on the ")?;
+            out.push_str(which_word(which))?;
+            out.push_str("\n")?;
+        }
+        Answer::TooLong(which) => {
+            out.push_str("too long: the ")?;
+            out.push_str(which_word(which))?;
+            out.push_str("\n")?;
+        }
+        Answer::NoMemory => out.push_str("out of memory\n")?,
+    }
+    Ok(Text::from_string(out))
+}
+
+// Where the line ends that begins at `start`: behind its line feed, or at the text's end.
+fn line_end(text: &[u8], start: usize) -> usize
+    requires { start < length text.now }
+    ensures after { start < result }
+    ensures within { result ≤ length text.now }
+{
+    match text[start..].iter().position(|byte| *byte == b'\n') {
+        Some(place) => start + place + 1,
+        None => text.len(),
+    }
+}
+
+// Writes a text, a line at a time.
+pub fn put_lines<K: Sink>(out: &mut K, text: &[u8]) -> Result<(), Failed>
+    ensures { Puts (K.holds out.old) text.now result (K.holds out.new) }
+{
+    let mut start = 0;
+    while start < text.len() {
+        let end = line_end(text, start);
+        put_all(out, &text[start..end])?;
+        start = end;
+    }
+    Ok(())
+}

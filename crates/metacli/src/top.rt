@@ -1,0 +1,148 @@
+ghost use Rattle.std.specs.Prelude.{◌≡◌, ◌≢◌, ◌<◌, length, slice_index_or, [], Some, None, IfOk};
+ghost use Rattle.metacli.specs.declared.ended.Answer.TheVariants.{WriteFault};
+ghost use Rattle.metacli.specs.Words.{expression_place};
+ghost use Rattle.metacli.specs.Outcome.{ReadsExpression, IsChecked, IsEnded, IsComplete};
+ghost use Rattle.metacli.specs.Texts.{TextOf, IsPrintable, Written};
+
+use crate::text::{put_lines, refusal_line, verdict_lines};
+use crate::{Answer, Command, Ended, read_words, verdicts};
+use alg_model::Alg;
+use meta_base::{
+    Failed, Gate, MAX_FILE_BYTES, NoMemory, Shelf, Sink, TakeError, Text, Which, take_all,
+};
+use raml_syntax::{AlgError, read_alg};
+use std::alloc::Global;
+
+/// All that the program does: it reads what the words mean, reads the files that they name, decides,
+/// and writes what was decided.
+///
+/// What comes back says all that was read, decided and answered, and the bytes written are the text of
+/// that. Each refusal has its cause, and where the words mean a command, the file is in the grammar
+/// and no fault came, the command is carried out unless memory is refused.
+pub fn run_meta<R: AllocGlobal, S: Shelf, K: Sink, G: Gate>(
+    rt: &R,
+    words: &[Text],
+    shelf: &mut S,
+    out: &mut K,
+    _gate: &G,
+) -> Ended
+    ensures ended { IsEnded words.now (S.now_is shelf.old) (S.now_is shelf.new) result }
+    ensures complete { IsComplete words.now (S.now_is shelf.old) (S.now_is shelf.new) result }
+    ensures written { Written (K.holds out.old) (TextOf result) (K.holds out.new) result.decided result.answer }
+{
+    let mut ended = decide(rt.alloc(), words, shelf);
+    ended.answer = print(rt.alloc(), out, &ended);
+    ended
+}
+
+// What the run comes to before anything is written.
+fn decide<S: Shelf>(alloc: Global, words: &[Text], shelf: &mut S) -> Ended
+    ensures ended { IsEnded words.now (S.now_is shelf.old) (S.now_is shelf.new) result }
+    ensures printable { IsPrintable result }
+{
+    match read_words(words) {
+        Ok(command) => check(alloc, command, expression_name(words, command), shelf),
+        Err(fault) => refused(None, Answer::BadWords(fault)),
+    }
+}
+
+// The name of a command's expression file.
+fn expression_name(words: &[Text], command: Command) -> &str
+    requires { expression_place command < length words.now }
+    ensures { result.now ≡ slice_index_or words.now (expression_place command) [] }
+{
+    let Command::Check { file, .. } = command;
+    words[file].as_str()
+}
+
+// The end of a run that was refused before it had an algebra.
+fn refused(command: Option<Command>, answer: Answer) -> Ended
+    ensures { result ≡ record { command = command; alg = None; verdicts = None; decided = answer; answer = answer } }
+{
+    Ended {
+        command,
+        alg: None,
+        verdicts: None,
+        decided: answer,
+        answer,
+    }
+}
+
+// What `check` comes to on the expression file of that name.
+#[tactic(auto, using(crate::proofs::Checked::printable))]
+fn check<S: Shelf>(alloc: Global, command: Command, name: &str, shelf: &mut S) -> Ended
+    ensures command { result.command ≡ Some command }
+    ensures checked { IsChecked name.now (S.now_is shelf.old) (S.now_is shelf.new) result }
+    ensures printable { IsPrintable result }
+{
+    let alg = match read_expression(alloc, shelf, name) {
+        Ok(alg) => alg,
+        Err(answer) => return refused(Some(command), answer),
+    };
+    let (verdicts, decided) = match verdicts(alloc, &alg) {
+        Ok(verdicts) => (Some(verdicts), Answer::Done),
+        Err(NoMemory) => (None, Answer::NoMemory),
+    };
+    Ended {
+        command: Some(command),
+        alg: Some(alg),
+        verdicts,
+        decided,
+        answer: decided,
+    }
+}
+
+// The algebra of the expression file of that name, or why there is none.
+fn read_expression<S: Shelf>(alloc: Global, shelf: &mut S, name: &str) -> Result<Alg, Answer>
+    ensures { ReadsExpression name.now (S.now_is shelf.old) result (S.now_is shelf.new) }
+{
+    let bytes = match take_all(alloc, shelf, name, MAX_FILE_BYTES) {
+        Ok(bytes) => bytes,
+        Err(TakeError::Fault) => return Err(Answer::ReadFault(Which::Expr)),
+        Err(TakeError::TooLong) => return Err(Answer::TooLong(Which::Expr)),
+        Err(TakeError::NoMemory) => return Err(Answer::NoMemory),
+    };
+    match read_alg(alloc, bytes.as_slice()) {
+        Ok(alg) => Ok(alg),
+        Err(AlgError::Bad(fault)) => Err(Answer::BadExpr(fault)),
+        Err(AlgError::NoMemory) => Err(Answer::NoMemory),
+    }
+}
+
+// Writes the text of what was decided, and answers how that went. That there was no memory is said
+// without any.
+fn print<K: Sink>(alloc: Global, out: &mut K, ended: &Ended) -> Answer
+    requires { IsPrintable ended.now }
+    ensures { Written (K.holds out.old) (TextOf ended.now) (K.holds out.new) ended.now.decided result }
+{
+    match ended.decided {
+        Answer::NoMemory => write(out, b"out of memory\n", Answer::NoMemory),
+        decided => match text(alloc, ended) {
+            Ok(text) => write(out, text.as_str().as_bytes(), decided),
+            Err(NoMemory) => Answer::NoMemory,
+        },
+    }
+}
+
+// Writes a text, and answers what was decided, or that the sink failed.
+#[tactic(auto, using(crate::proofs::Written::all_written))]
+fn write<K: Sink>(out: &mut K, text: &[u8], decided: Answer) -> Answer
+    requires { decided ≢ WriteFault }
+    ensures { Written (K.holds out.old) text.now (K.holds out.new) decided result }
+{
+    match put_lines(out, text) {
+        Ok(()) => decided,
+        Err(Failed) => Answer::WriteFault,
+    }
+}
+
+// The text of what was decided.
+fn text(alloc: Global, ended: &Ended) -> Result<Text, NoMemory>
+    requires { IsPrintable ended.now }
+    ensures { IfOk result (λ text. text ≡ TextOf ended.now) }
+{
+    match (ended.decided, &ended.alg, &ended.verdicts) {
+        (Answer::Done, Some(alg), Some(verdicts)) => verdict_lines(alloc, alg, verdicts),
+        (answer, _, _) => refusal_line(alloc, answer),
+    }
+}
