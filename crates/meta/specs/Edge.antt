@@ -1,0 +1,10 @@
+-- What the real outside shows: counts alone.
+use Rattle.std.specs.Prelude.{ℕ, Bool, false, [], None}
+use Rattle.meta_base.specs.Shelf.{Moment}
+use Rattle.meta_base.specs.Sink.{Held}
+
+abbrev pub silent_shelf : ℕ → Bool → ℕ → Moment
+silent_shelf taken ended faults = record { tells = false; file = λ _. None; rest = []; taken = taken; ended = ended; faults = faults }
+
+abbrev pub silent_sink : ℕ → Held
+silent_sink faults = record { tells = false; bytes = []; faults = faults }

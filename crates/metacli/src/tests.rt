@@ -1,0 +1,187 @@
+use super::*;
+use meta_base::{List, MAX_FILE_BYTES, MemFile, MemShelf, MemSink, NoMemory, OpenGate, Text};
+use std::alloc::Global;
+use std::str;
+use std::test::Fail;
+
+// What a run over memory came to: its status, and the bytes that were taken.
+#[derive(Drop)]
+struct Outcome {
+    status: u8,
+    taken: Vec<u8>,
+}
+
+// What stands around a run: the bytes of the file `f`, the calls of the shelf and of the sink that
+// fail, and how much the sink takes at a time.
+#[derive(Clone, Copy)]
+struct Around<'a> {
+    file: &'a [u8],
+    failing_calls: &'a [u64],
+    failing_writes: &'a [u64],
+    bite: usize,
+}
+
+fn list_of<T: Copy>(alloc: Global, items: &[T]) -> Result<List<T>, NoMemory> {
+    Ok(List::from_vec(Vec::from_slice(alloc, items)?))
+}
+
+// A run of these words.
+fn run_around(rt: &impl AllocGlobal, words: &[&str], around: Around) -> Result<Outcome, Fail> {
+    let alloc = rt.alloc();
+    let mut files = List::new(alloc);
+    files.push(MemFile {
+        name: Text::copy(alloc, "f")?,
+        bytes: list_of(alloc, around.file)?,
+    })?;
+    let mut shelf = MemShelf::new(files, list_of(alloc, around.failing_calls)?);
+    let failing = list_of(alloc, around.failing_writes)?;
+    let mut out = MemSink::new(alloc, 1000, around.bite.max(1), failing)?;
+    let mut texts = Vec::new(alloc);
+    for word in words {
+        texts.push(Text::copy(alloc, *word)?)?;
+    }
+    let ended = run_meta(rt, &texts, &mut shelf, &mut out, &OpenGate);
+    Ok(Outcome {
+        status: status(&ended.answer),
+        taken: out.taken().to_vec(alloc)?,
+    })
+}
+
+// A run of these words without a fault.
+fn run(rt: &impl AllocGlobal, words: &[&str], file: &[u8]) -> Result<Outcome, Fail> {
+    run_around(
+        rt,
+        words,
+        Around {
+            file,
+            failing_calls: &[],
+            failing_writes: &[],
+            bite: 100,
+        },
+    )
+}
+
+const ALL_HOLD: &[u8] = b"monotone yes\nstrict yes\nisotone yes\ncancellative yes\ntotal yes\n";
+
+#[test]
+fn all_five_hold(rt: HostRuntime) -> Result<(), Fail> {
+    for file in [
+        b"main add(1..10);".as_slice(),
+        b"\tmain\r\nadd (0001 ..4294967295 ) ;\n",
+    ] {
+        let outcome = run(&rt, &["check", "f"], file)?;
+        assert_eq!(rt; outcome.taken.as_slice(), ALL_HOLD);
+        assert_eq!(rt; outcome.status, 0);
+    }
+    Ok(())
+}
+
+// Any value shows that adding 0 isn't strict.
+#[test]
+fn strict_fails_on_zero(rt: HostRuntime) -> Result<(), Fail> {
+    let outcome = run(&rt, &["check", "f"], b"main add(0..10);")?;
+    let text = str::from_utf8(&outcome.taken)?;
+    let rest = text
+        .strip_prefix("monotone yes\nstrict no: 0 on ")
+        .ok_or("strict isn't denied")?;
+    let value = rest
+        .strip_suffix("\nisotone yes\ncancellative yes\ntotal yes\n")
+        .ok_or("another property is denied")?;
+    let (value, image) = value.split_once(" gives ").ok_or("no image")?;
+    assert_eq!(rt; value.parse::<u64>()?, image.parse::<u64>()?);
+    assert_eq!(rt; outcome.status, 0);
+    Ok(())
+}
+
+#[test]
+fn words_are_refused(rt: HostRuntime) -> Result<(), Fail> {
+    let none: &[&str] = &[];
+    for words in [none, &["walk", "f"], &["check"], &["check", "f", "f"]] {
+        let outcome = run(&rt, words, b"main add(1..10);")?;
+        assert_eq!(rt; outcome.taken.as_slice(), b"words refused: C2\n".as_slice());
+        assert_eq!(rt; outcome.status, 1);
+    }
+    Ok(())
+}
+
+#[test]
+fn expressions_are_refused(rt: HostRuntime) -> Result<(), Fail> {
+    for file in [
+        b"".as_slice(),
+        b"main add(5..4);",
+        b"main add(1..4294967296);",
+        b"main add(1..10); # all",
+        b"main add(1..10)\0;",
+        b"main add(1. .10);",
+        b"main add(1..10);;",
+        b"let a = add(1..10); main a;",
+    ] {
+        let outcome = run(&rt, &["check", "f"], file)?;
+        assert_eq!(rt;
+            outcome.taken.as_slice(),
+            b"expression refused: X2 at 1:1\n".as_slice()
+        );
+        assert_eq!(rt; outcome.status, 2);
+    }
+    Ok(())
+}
+
+#[test]
+fn long_files(rt: HostRuntime) -> Result<(), Fail> {
+    let mut file = vec![in rt.alloc(); b'#'; MAX_FILE_BYTES]?;
+    let outcome = run(&rt, &["check", "f"], &file)?;
+    assert_eq!(rt;
+        outcome.taken.as_slice(),
+        b"expression refused: X2 at 1:1\n".as_slice()
+    );
+    file.push(b'#')?;
+    let outcome = run(&rt, &["check", "f"], &file)?;
+    assert_eq!(rt;
+        outcome.taken.as_slice(),
+        b"too long: the expression\n".as_slice()
+    );
+    assert_eq!(rt; outcome.status, 8);
+    Ok(())
+}
+
+// The file is begun by call 0, read whole by call 1, and found to end by call 2.
+#[test]
+fn reading_fails(rt: HostRuntime) -> Result<(), Fail> {
+    let mut outcomes = Vec::new(rt.alloc());
+    outcomes.push(run(&rt, &["check", "g"], b"main add(1..10);")?)?;
+    for call in 0..3 {
+        let around = Around {
+            file: b"main add(1..10);",
+            failing_calls: &[call],
+            failing_writes: &[],
+            bite: 100,
+        };
+        outcomes.push(run_around(&rt, &["check", "f"], around)?)?;
+    }
+    for outcome in &outcomes {
+        assert_eq!(rt;
+            outcome.taken.as_slice(),
+            b"read fault on the expression\n".as_slice()
+        );
+        assert_eq!(rt; outcome.status, 5);
+    }
+    Ok(())
+}
+
+// Each write offers a line or the rest of one, of which the sink takes five bytes.
+#[test]
+fn writing_fails(rt: HostRuntime) -> Result<(), Fail> {
+    let lengths = [0, 5, 10, 13, 18, 23, 24, 29, 34, 36, 41, 46, 51, 53, 58];
+    for (write, length) in lengths.iter().enumerate() {
+        let around = Around {
+            file: b"main add(1..10);",
+            failing_calls: &[],
+            failing_writes: &[write as u64],
+            bite: 5,
+        };
+        let outcome = run_around(&rt, &["check", "f"], around)?;
+        assert_eq!(rt; Some(outcome.taken.as_slice()), ALL_HOLD.get(..*length));
+        assert_eq!(rt; outcome.status, 6);
+    }
+    Ok(())
+}
