@@ -1,5 +1,6 @@
 pub mod Expressions
 pub mod Carriers
+pub mod Preorder
 pub mod Application
 pub mod Views
 pub mod Bounds

@@ -5,6 +5,8 @@ ghost use Rattle.alg_model.specs.Bounds.{ExpressionAtMost};
 ghost use Rattle.meta_base.specs.declared.limits.TheConstants.{MAX_NUMBER};
 
 use crate::Tree;
+use meta_base::NoMemory;
+use std::alloc::Global;
 use std::marker::Model;
 use thiserror::Error;
 
@@ -53,6 +55,17 @@ impl Alg {
             None => Ok(Alg { tree }),
             Some(shape) => Err(shape),
         }
+    }
+
+    /// An algebra with a tree equal to `part`, which meets the formation rules, as each part of an
+    /// algebra's tree does. Given the algebra's own tree it copies the whole.
+    pub fn copy_part(&self, alloc: Global, part: &Tree) -> Result<Alg, NoMemory>
+        requires { IsFormed (expression_of part.now) }
+        ensures { IfOk result (λ alg. alg ≡ expression_of part.now) }
+    {
+        Ok(Alg {
+            tree: part.copy(alloc)?,
+        })
     }
 
     /// Lends the tree.
