@@ -50,7 +50,8 @@ mod tests {
             Alg::checked(Tree::Add { low: 5, high: 4 }).err(),
             Some(Shape::Range)
         );
-        let Tree::Add { low, high } = alg.copy_part(rt.alloc(), alg.tree())?.tree();
+        let copied = alg.copy_part(rt.alloc(), alg.tree())?;
+        let Tree::Add { low, high } = copied.tree();
         assert_eq!(rt; (*low, *high), (1, 10));
         Ok(())
     }
