@@ -1,0 +1,9 @@
+use Rattle.std.proofs.Common.{◌≡◌}
+use Rattle.link_queues.specs.Links.{out_link}
+use Rattle.link_queues.proofs.tests.send_numbers.Given as goal
+
+abbrev pub invariant-loop-number : goal.invariant-loop-number
+invariant-loop-number l = out_link l.out ≡ out_link l.fn.out
+
+abbrev pub invariant-loop : goal.invariant-loop
+invariant-loop l = out_link l.out ≡ out_link l.fn.out
