@@ -62,9 +62,9 @@ fn ends_look_again(rt: HostRuntime) -> Result<(), Fail> {
     let (mut out, mut into) = three_sent(rt.alloc())?;
     assert_eq!(rt; into.take(), Some('p'));
     out.flush();
-    assert!(rt; into.sees());
-    assert_eq!(rt; *into.front(), 'q');
     assert_eq!(rt; into.take(), Some('q'));
+    assert!(rt; into.sees());
+    assert_eq!(rt; *into.front(), 'r');
     assert_eq!(rt; into.take(), Some('r'));
     assert!(rt; !into.sees());
     Ok(())
