@@ -1,5 +1,5 @@
-ghost use Rattle.std.specs.Prelude.{◌≡◌, IfOk};
-ghost use Rattle.link_queues.specs.Links.{out_link, in_link};
+ghost use Rattle.std.specs.Prelude.{◌≡◌, ◌≤◌, IfOk};
+ghost use Rattle.link_queues.specs.Links.{spare_of, out_link, in_link};
 
 use super::*;
 use meta_base::NoMemory;
@@ -71,11 +71,11 @@ fn ends_look_again(rt: HostRuntime) -> Result<(), Fail> {
 }
 
 // Sends the numbers from 0 on, and flushes until it is told that they came, at most LOOKS times.
-fn send_numbers(mut out: OutEnd<u64>, told: &AtomicBool) -> Result<OutEnd<u64>, NoMemory>
-    ensures { IfOk result (λ end. out_link end ≡ out_link out) }
+fn send_numbers(mut out: OutEnd<u64>, told: &AtomicBool) -> OutEnd<u64>
+    requires { ITEMS ≤ spare_of out }
+    ensures { out_link result ≡ out_link out }
 {
     for number in 0..ITEMS {
-        out.reserve(1)?;
         out.send(number);
         out.flush();
     }
@@ -86,7 +86,7 @@ fn send_numbers(mut out: OutEnd<u64>, told: &AtomicBool) -> Result<OutEnd<u64>, 
         out.flush();
         thread::yield_now();
     }
-    Ok(out)
+    out
 }
 
 // Takes the numbers in order, and tells so. It gives up at another number, or after LOOKS looks.
@@ -110,7 +110,8 @@ fn take_numbers(mut into: InEnd<u64>, told: &AtomicBool) -> (InEnd<u64>, u64)
 
 #[test]
 fn numbers_across_threads(rt: HostRuntime) -> Result<(), Fail> {
-    let (out, into) = link(rt.alloc(), 4)?;
+    let (mut out, into) = link(rt.alloc(), 4)?;
+    out.reserve(1000)?;
     let told = AtomicBool::new(false);
     let (out, (into, taken)) = thread::join(
         &rt,
@@ -118,7 +119,7 @@ fn numbers_across_threads(rt: HostRuntime) -> Result<(), Fail> {
         || take_numbers(into, &told),
     );
     assert_eq!(rt; taken, ITEMS);
-    let waiting = settle_pair(rt.alloc(), out?, into)?;
+    let waiting = settle_pair(rt.alloc(), out, into)?;
     assert!(rt; waiting.as_slice().is_empty());
     Ok(())
 }
