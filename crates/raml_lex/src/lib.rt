@@ -1,0 +1,14 @@
+//! Cuts the text of an expression file into tokens, each a slice of the text. It knows words,
+//! numbers and marks, spaces and comments, and the places of all of them; it knows no grammar. It
+//! takes no memory, and looks at each byte of the text a bounded number of times.
+#![tactic(auto)]
+
+mod bytes;
+mod front;
+mod gap;
+mod place;
+mod token;
+mod tokens;
+
+pub use token::{LexFault, LexKind, Token, TokenKind};
+pub use tokens::Tokens;
