@@ -2,3 +2,4 @@ pub mod Fronts
 pub mod Gaps
 pub mod Places
 pub mod Sources
+pub mod Lexing
