@@ -1,6 +1,6 @@
 -- Lists of tokens of one text.
-use Rattle.std.proofs.Common.{◌≡◌, ℕ, List, [], ◌∷◌, refl, ap, sym, ◌∙◌, subst}
-use Rattle.raml_lex.specs.Tokens.{Tok, Step, step_of, token, end, Lexes}
+use Rattle.std.proofs.Common.{◌≡◌, ℕ, List, [], ◌∷◌, refl, sym, ◌∙◌, subst}
+use Rattle.raml_lex.specs.Tokens.{Tok, token, end, Lexes}
 
 -- no text has two of them
 pub Lexes_same : (greatest : ℕ) (text : List ℕ) (ts us : List Tok) → Lexes greatest ts text → Lexes greatest us text → ts ≡ us

@@ -1,15 +1,15 @@
 -- Going on in a source.
-use Rattle.std.proofs.Common.{◌≡◌, false, ℕ, ◌+◌, ◌-◌, ◌≤◌, ◌<◌, List, [], ◌++◌, length, take, drop, Option, Some, None, refl, ap, sym, ◌∙◌, arith, length-drop, length-append, append_assoc}
+use Rattle.std.proofs.Common.{◌≡◌, false, ℕ, ◌+◌, ◌≤◌, List, [], ◌++◌, length, take, drop, Option, None, refl, ap, sym, ◌∙◌, arith, length-drop, append_assoc}
 use Rattle.std.proofs.Math.Seq.{take-add}
-use Rattle.std.proofs.lemmas.List.{drop-drop, length-take, length-take-le, take-append-drop, append-nil, take_all}
+use Rattle.std.proofs.lemmas.List.{drop-drop, length-take-le, take-append-drop, append-nil}
 use Rattle.meta_base.specs.declared.ids.Place.{Place}
 use Rattle.raml_lex.specs.declared.token.Token.{Token}
 use Rattle.raml_lex.specs.declared.token.LexFault.{LexFault}
-use Rattle.raml_lex.specs.Gaps.{gap_of, behind_gap, IsGap}
-use Rattle.raml_lex.specs.Lexers.{Lexer, Found, Ended}
+use Rattle.raml_lex.specs.Gaps.{gap_of, behind_gap}
+use Rattle.raml_lex.specs.Lexers.{Found, Ended}
 use Rattle.raml_lex.specs.Places.{place_after, moved_over}
 use Rattle.raml_lex.specs.Sources.{IsSource}
-use Rattle.raml_lex.specs.Tokens.{step_of, token_at, token, end}
+use Rattle.raml_lex.specs.Tokens.{token_at, token}
 use Rattle.raml_lex.specs.Views.{tok_of, IsWithin}
 use Rattle.raml_lex.proofs.Gaps.{gap_split, gap_is_gap}
 use Rattle.raml_lex.proofs.Places.{place_after-append, moved_over-line}

@@ -1,5 +1,6 @@
--- What stands between two tokens: spaces, and comments from a `#` to the end of its line. The first
--- argument says whether a comment is open.
+-- What stands between two tokens: spaces, and comments. A comment runs from a `#` to the line feed that
+-- ends its line, or to the end of the text, and may hold any bytes. The first argument says whether a
+-- comment is open.
 use Rattle.std.specs.Prelude.{◌≡◌, ◌⊎◌, ℕ, List, [], ◌∷◌, Bool, true, false, not, ◌==◌, IsTrue, Option, Some, None, if◌then◌else◌}
 use Rattle.raml_lex.specs.Bytes.{is_space, is_line_feed}
 
@@ -20,7 +21,8 @@ abbrev pub gap_step : Bool → ℕ → Option Bool
 gap_step true c = Some (not (is_line_feed c))
 gap_step false c = if c == 35 then Some true else (if is_space c then Some false else None)
 
--- only spaces and whole comments: a comment that no line feed ends has nothing behind it
+-- the first list holds only spaces and whole comments, where the second comes behind it: a comment that
+-- no line feed ends has nothing behind it
 abbrev pub IsGap : Bool → List ℕ → List ℕ → Type 0
 IsGap false [] rest = Unit {0}
 IsGap true [] rest = rest ≡ []

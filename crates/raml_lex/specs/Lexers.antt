@@ -1,5 +1,5 @@
 -- What a reader of tokens shows, and what a call does to that.
-use Rattle.std.specs.Prelude.{◌≡◌, ◌⊎◌, ◌<◌, ℕ, List, [], ◌++◌, Bool, false, length, Option, Some, None}
+use Rattle.std.specs.Prelude.{◌≡◌, ◌⊎◌, ◌<◌, ℕ, List, [], ◌++◌, false, length, Option, Some, None}
 use Rattle.meta_base.specs.declared.ids.Place.{Place}
 use Rattle.raml_lex.specs.declared.token.Token.{Token}
 use Rattle.raml_lex.specs.declared.token.LexFault.{LexFault}
@@ -27,11 +27,14 @@ next_place x = place_after (x.before ++ gap_of false x.rest)
 -- before, with only spaces and comments between
 pub record Found (old : Lexer) (t : Token) (new : Lexer) : Type 0 where
   pub no_fault : old.fault ≡ None
+  -- it is the token that stands at the front, and what comes behind it is left
   pub step : step_of old.greatest old.rest ≡ token (tok_of t.kind t.text.now) new.rest
   pub some : 0 < length t.text.now
+  -- where its text stands
   pub text : old.rest ≡ gap_of false old.rest ++ (t.text.now ++ new.rest)
   pub gap : IsGap false (gap_of false old.rest) (t.text.now ++ new.rest)
   pub place : t.place ≡ next_place old
+  -- what is shown then
   pub before : new.before ≡ old.before ++ (gap_of false old.rest ++ t.text.now)
   pub greatest : new.greatest ≡ old.greatest
   pub still_none : new.fault ≡ None

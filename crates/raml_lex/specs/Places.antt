@@ -1,11 +1,11 @@
--- Places in a text.
-use Rattle.std.specs.Prelude.{ℕ, ◌+◌, List, [], ◌∷◌, Bool, not, count_by, if◌then◌else◌}
+-- Places in a text: the line and the column, both from 1.
+use Rattle.std.specs.Prelude.{ℕ, ◌+◌, List, [], ◌∷◌, not, count_by, if◌then◌else◌}
 use Rattle.std.specs.List.{suffix_len}
 use Rattle.meta_base.specs.declared.ids.Place.{Place}
 use Rattle.raml_lex.specs.Bytes.{is_line_feed}
 
--- the place that these bytes come before: its line counts the line feeds, its column the bytes since
--- the last of them
+-- the place behind these bytes: one line more than they have line feeds, one column more than the bytes
+-- since the last of those
 abbrev pub place_after : List ℕ → Place
 place_after before = record { line = 1 + count_by is_line_feed before; column = 1 + suffix_len (λ c. not (is_line_feed c)) before }
 

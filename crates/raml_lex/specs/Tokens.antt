@@ -1,5 +1,5 @@
 -- The tokens of a text. The greatest number that a text may hold is an argument.
-use Rattle.std.specs.Prelude.{◌≡◌, ℕ, List, [], ◌∷◌, Bool, false, ◌==◌, nat_le, if◌then◌else◌}
+use Rattle.std.specs.Prelude.{◌≡◌, ℕ, List, [], ◌∷◌, false, ◌==◌, nat_le, if◌then◌else◌}
 use Rattle.raml_lex.specs.declared.token.LexKind.{LexKind}
 use Rattle.raml_lex.specs.declared.token.LexKind.TheVariants.{BadByte, NumberTooLarge}
 use Rattle.raml_lex.specs.Bytes.{is_digit, is_letter, is_word_byte, front, behind, number_from}

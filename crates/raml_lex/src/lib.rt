@@ -1,6 +1,6 @@
 //! Cuts the text of an expression file into tokens, each a slice of the text. It knows words,
 //! numbers and marks, spaces and comments, and the places of all of them; it knows no grammar. It
-//! takes no memory, and looks at each byte of the text a bounded number of times.
+//! takes no memory.
 #![tactic(auto)]
 
 ghost use Rattle.std.specs.Prelude.{◌≤◌, length};

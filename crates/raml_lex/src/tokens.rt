@@ -1,4 +1,4 @@
-ghost use Rattle.std.specs.Prelude.{◌≡◌, ◌≤◌, [], length, IfSome, IfOk, IfErr, IfNone, Some, None, Ok, Err};
+ghost use Rattle.std.specs.Prelude.{◌≡◌, ◌≤◌, [], length, IfSome, IfOk, IfErr, IfNone, IsNone, OnSome, Some, None, Ok, Err};
 
 use crate::front::{Front, token_at_front};
 use crate::gap::gap_end;
@@ -11,8 +11,8 @@ const GREATEST: u64 = 4294967295;
 
 /// The tokens of a text, one after another.
 ///
-/// Contracts see the bytes before, those that are left, the greatest number that a token may hold,
-/// and the fault that was met, if one was.
+/// Contracts see the bytes that were taken, those that are left, the greatest number that a token may
+/// hold, and the fault that was met, if one was. The text is the bytes taken and then those left.
 #[derive(Drop)]
 pub struct Tokens<'a> {
     source: &'a [u8],
@@ -40,9 +40,10 @@ impl<'a> Model for Tokens<'a> {
 impl<'a> Tokens<'a> {
     ghost use Rattle.raml_lex.specs.Lexers.{Lexer, Found, Ended, Faulted};
     ghost use Rattle.raml_lex.specs.Places.{place_after};
+    ghost use Rattle.raml_lex.specs.Tokens.{step_of, end};
 
-    /// The tokens of the source, none of which has been handed out. A number may be at most
-    /// 4,294,967,295.
+    /// The tokens of the source, none of which was taken. The source has at most 4,194,304 bytes, and a
+    /// number is at most 4,294,967,295.
     pub fn new(source: &'a [u8]) -> Tokens<'a>
         requires { length source.now ≤ 4194304 }
         ensures { result ≡ record { before = []; rest = source.now; greatest = 4294967295; fault = None } }
@@ -56,7 +57,8 @@ impl<'a> Tokens<'a> {
         }
     }
 
-    /// The place behind the bytes that were taken: at the end, just past the last byte.
+    /// The place behind the bytes that were taken: once `next` has answered `None`, just past the last
+    /// byte of the source.
     pub fn place(&self) -> Place
         ensures { result ≡ place_after self.now.before }
     {
@@ -65,13 +67,20 @@ impl<'a> Tokens<'a> {
 
     /// The next token, or `None` exactly where only spaces and comments are left.
     ///
-    /// The longest token is taken. A fault comes where its byte or number stands, and again at each
-    /// later call; nothing else changes then. Each byte is looked at a bounded number of times.
+    /// The longest token is taken. Its text is a slice of the source, and only spaces and comments
+    /// stand between it and the token before. [`LexKind::BadByte`](crate::LexKind) comes exactly at a
+    /// byte outside comments that begins no token, and `NumberTooLarge` exactly at a run of digits
+    /// whose value is above the greatest; the same fault comes again at each later call. The
+    /// time of all calls together grows with the bytes of the source alone.
     pub fn next(&mut self) -> Option<Result<Token<'a>, LexFault>>
         ensures end { IfNone result (Ended self.old self.new) }
         ensures token { IfSome result (λ r. IfOk r (λ t. Found self.old t self.new)) }
         ensures fault { IfSome result (λ r. IfErr r (λ f. Faulted self.old f self.new)) }
+        ensures end_only { IsNone self.old.fault → step_of self.old.greatest self.old.rest ≡ end → IsNone result }
+
+        // A fault that was met is answered again, and nothing changes.
         ensures again { IfSome self.old.fault (λ f. result ≡ Some (Err f)) }
+        ensures kept { OnSome self.old.fault (self.new ≡ self.old) }
     {
         if let Some(fault) = self.fault {
             return Some(Err(fault));

@@ -1,4 +1,4 @@
-use Rattle.std.proofs.Common.{◌≡◌, ◌++◌, ◌∙◌, ap, take, drop, length, arith, length-take}
+use Rattle.std.proofs.Common.{◌++◌, ◌∙◌, ap, take, arith, length-take}
 use Rattle.std.proofs.Math.Seq.{take-add}
 use Rattle.raml_lex.proofs.Places.{column_le}
 use Rattle.raml_lex.proofs.Sources.{IsSource-more}

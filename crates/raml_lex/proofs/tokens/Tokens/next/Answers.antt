@@ -1,4 +1,4 @@
-use Rattle.std.proofs.Common.{◌≡◌, ◌∙◌, ap, take, drop, length, Some, None, arith, rules, length-take}
+use Rattle.std.proofs.Common.{◌≡◌, ap, take, None, arith, rules, length-take}
 use Rattle.raml_lex.proofs.Places.{column_le}
 use Rattle.raml_lex.proofs.Sources.{IsSource-token, Ended-at, Found-at}
 use Rattle.raml_lex.proofs.tokens.Tokens.next.Goals as goal
