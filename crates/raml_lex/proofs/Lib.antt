@@ -1,0 +1,5 @@
+pub mod Fronts
+pub mod Gaps
+pub mod Places
+pub mod Sources
+pub mod Lexing

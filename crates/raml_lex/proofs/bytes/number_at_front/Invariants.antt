@@ -1,0 +1,13 @@
+use Rattle.std.proofs.Common.{◌≡◌, ◌++◌, ◌≤◌, take, drop}
+use Rattle.raml_lex.specs.Bytes.{is_digit, front, behind, number_from}
+use Rattle.raml_lex.proofs.bytes.number_at_front.Given as goal
+
+-- the digits so far spell the number
+abbrev pub invariant-loop-byte : goal.invariant-loop-byte
+invariant-loop-byte l = record {
+  count : l.len ≡ l.byte-index;
+  small : l.number ≤ l.greatest;
+  bytes : take l.len l.text ++ front is_digit (drop l.len l.text) ≡ front is_digit l.text;
+  left : behind is_digit (drop l.len l.text) ≡ behind is_digit l.text;
+  value : number_from l.number (front is_digit (drop l.len l.text)) ≡ number_from 0 (front is_digit l.text);
+}

@@ -1,0 +1,11 @@
+use Rattle.std.proofs.Common.{◌≡◌, ◌++◌, take, drop}
+use Rattle.raml_lex.specs.Bytes.{is_word_byte, front, behind}
+use Rattle.raml_lex.proofs.bytes.word_len.Given as goal
+
+-- the bytes so far are those of the word
+abbrev pub invariant-loop-byte : goal.invariant-loop-byte
+invariant-loop-byte l = record {
+  count : l.len ≡ l.byte-index;
+  bytes : take l.len l.text ++ front is_word_byte (drop l.len l.text) ≡ front is_word_byte l.text;
+  left : behind is_word_byte (drop l.len l.text) ≡ behind is_word_byte l.text;
+}

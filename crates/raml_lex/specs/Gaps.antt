@@ -1,0 +1,30 @@
+-- What stands between two tokens: spaces, and comments. A comment runs from a `#` to the line feed that
+-- ends its line, or to the end of the text, and may hold any bytes. The first argument says whether a
+-- comment is open.
+use Rattle.std.specs.Prelude.{◌≡◌, ◌⊎◌, ℕ, List, [], ◌∷◌, Bool, true, false, not, ◌==◌, IsTrue, Option, Some, None, if◌then◌else◌}
+use Rattle.raml_lex.specs.Bytes.{is_space, is_line_feed}
+
+-- the spaces and comments at the front
+abbrev pub gap_of : Bool → List ℕ → List ℕ
+gap_of in_comment [] = []
+gap_of true (c ∷ cs) = c ∷ gap_of (not (is_line_feed c)) cs
+gap_of false (c ∷ cs) = if c == 35 then c ∷ gap_of true cs else (if is_space c then c ∷ gap_of false cs else [])
+
+-- what comes behind them
+abbrev pub behind_gap : Bool → List ℕ → List ℕ
+behind_gap in_comment [] = []
+behind_gap true (c ∷ cs) = behind_gap (not (is_line_feed c)) cs
+behind_gap false (c ∷ cs) = if c == 35 then behind_gap true cs else (if is_space c then behind_gap false cs else c ∷ cs)
+
+-- whether a comment is open behind a byte, or none where the byte is no part of a gap
+abbrev pub gap_step : Bool → ℕ → Option Bool
+gap_step true c = Some (not (is_line_feed c))
+gap_step false c = if c == 35 then Some true else (if is_space c then Some false else None)
+
+-- the first list holds only spaces and whole comments, where the second comes behind it: a comment that
+-- no line feed ends has nothing behind it
+abbrev pub IsGap : Bool → List ℕ → List ℕ → Type 0
+IsGap false [] rest = Unit {0}
+IsGap true [] rest = rest ≡ []
+IsGap true (c ∷ cs) rest = IsGap (not (is_line_feed c)) cs rest
+IsGap false (c ∷ cs) rest = ((c ≡ 35) × IsGap true cs rest) ⊎ (IsTrue (is_space c) × IsGap false cs rest)

@@ -1,0 +1,73 @@
+// Kinds of bytes, and the longest fronts of one kind.
+ghost use Rattle.std.specs.Prelude.{◌≡◌, ◌+◌, ◌-◌, ◌*◌, ◌<◌, ◌≤◌, take, drop, length, nat_le, Some, None, if◌then◌else◌};
+ghost use Rattle.raml_lex.specs.Bytes.{is_space, is_digit, is_letter, is_word_byte, front, behind};
+ghost use Rattle.raml_lex.specs.Numbers.{SpellsAtMost, at_most};
+
+pub fn is_space(byte: u8) -> bool
+    ensures { result ≡ is_space byte }
+{
+    matches!(byte, b' ' | b'\t' | b'\n' | b'\r')
+}
+
+pub fn is_digit(byte: u8) -> bool
+    ensures { result ≡ is_digit byte }
+{
+    byte.is_ascii_digit()
+}
+
+pub fn is_letter(byte: u8) -> bool
+    ensures { result ≡ is_letter byte }
+{
+    byte.is_ascii_alphabetic() || byte == b'_'
+}
+
+fn is_word_byte(byte: u8) -> bool
+    ensures { result ≡ is_word_byte byte }
+{
+    is_letter(byte) || is_digit(byte)
+}
+
+// How many bytes of a word stand at the front.
+pub fn word_len(text: &[u8]) -> usize
+    ensures within { result ≤ length text.now }
+    ensures front { take result text.now ≡ front is_word_byte text.now }
+    ensures behind { drop result text.now ≡ behind is_word_byte text.now }
+{
+    let mut len = 0;
+    for byte in text {
+        if !is_word_byte(*byte) {
+            break;
+        }
+        len += 1;
+    }
+    len
+}
+
+// The number with one more digit behind it, if it is at most the greatest.
+fn with_digit(number: u64, digit: u8, greatest: u64) -> Option<u64>
+    requires { digit < 10 }
+    ensures { result ≡ at_most greatest (10 * number + digit) }
+{
+    let wide = 10 * u128::from(number) + u128::from(digit);
+    if wide <= u128::from(greatest) {
+        Some(wide as u64)
+    } else {
+        None
+    }
+}
+
+// The number that the digits at the front spell and how many they are, if it is at most the greatest.
+pub fn number_at_front(text: &[u8], greatest: u64) -> Option<(u64, usize)>
+    ensures { SpellsAtMost greatest text.now result }
+{
+    let mut len = 0;
+    let mut number = 0;
+    for byte in text {
+        if !is_digit(*byte) {
+            break;
+        }
+        number = with_digit(number, *byte - b'0', greatest)?;
+        len += 1;
+    }
+    Some((number, len))
+}
