@@ -20,7 +20,7 @@ pub use tokens::Tokens;
 #[cfg(test)]
 mod tests {
     use super::*;
-    use meta_base::Place;
+    use meta_base::{MAX_FILE_BYTES, Place};
     use std::process::Abort;
     use std::test::Fail;
 
@@ -32,7 +32,7 @@ mod tests {
         expected: &[(TokenKind, &[u8], u32, u32)],
         end: Option<LexFault>,
     )
-        requires { length source.now ≤ 4194304 }
+        requires { length source.now ≤ MAX_FILE_BYTES }
     {
         let mut tokens = Tokens::new(source);
         for (kind, text, line, column) in expected {
@@ -128,15 +128,15 @@ mod tests {
     // all that is left, this would not end.
     #[test]
     fn the_longest_source(rt: HostRuntime) -> Result<(), Fail> {
-        let source = vec![in rt.alloc(); b'('; 4194304]?;
+        let source = vec![in rt.alloc(); b'('; MAX_FILE_BYTES]?;
         let mut tokens = Tokens::new(&source);
         let mut seen = 0u64;
-        for _ in 0..4194304 {
+        for _ in 0..MAX_FILE_BYTES {
             if let Some(Ok(_)) = tokens.next() {
                 seen = seen.saturating_add(1);
             }
         }
-        assert_eq!(rt; seen, 4194304);
+        assert_eq!(rt; seen, MAX_FILE_BYTES);
         assert!(rt; tokens.next().is_none());
         assert_eq!(rt;
             tokens.place(),
@@ -146,7 +146,7 @@ mod tests {
             }
         );
 
-        let digits = vec![in rt.alloc(); b'0'; 4194304]?;
+        let digits = vec![in rt.alloc(); b'0'; MAX_FILE_BYTES]?;
         let mut tokens = Tokens::new(&digits);
         match tokens.next() {
             Some(Ok(token)) => assert_eq!(rt; token.kind, TokenKind::Number(0)),

@@ -3,11 +3,8 @@ ghost use Rattle.std.specs.Prelude.{◌≡◌, ◌≤◌, [], length, IfSome, If
 use crate::front::{Front, token_at_front};
 use crate::gap::gap_end;
 use crate::{LexFault, Token};
-use meta_base::Place;
+use meta_base::{MAX_FILE_BYTES, MAX_NUMBER, Place};
 use std::marker::Model;
-
-// The greatest number that a text may hold.
-const GREATEST: u64 = 4294967295;
 
 /// The tokens of a text, one after another.
 ///
@@ -42,17 +39,17 @@ impl<'a> Tokens<'a> {
     ghost use Rattle.raml_lex.specs.Places.{place_after};
     ghost use Rattle.raml_lex.specs.Tokens.{step_of, end};
 
-    /// The tokens of the source, none of which was taken. The source has at most 4,194,304 bytes, and a
-    /// number is at most 4,294,967,295.
+    /// The tokens of the source, none of which was taken. The source has at most
+    /// [`meta_base::MAX_FILE_BYTES`] bytes, and a number is at most [`meta_base::MAX_NUMBER`].
     pub fn new(source: &'a [u8]) -> Tokens<'a>
-        requires { length source.now ≤ 4194304 }
-        ensures { result ≡ record { before = []; rest = source.now; greatest = 4294967295; fault = None } }
+        requires { length source.now ≤ MAX_FILE_BYTES }
+        ensures { result ≡ record { before = []; rest = source.now; greatest = MAX_NUMBER; fault = None } }
     {
         Tokens {
             source,
             at: 0,
             place: Place { line: 1, column: 1 },
-            greatest: GREATEST,
+            greatest: MAX_NUMBER,
             fault: None,
         }
     }
