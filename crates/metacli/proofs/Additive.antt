@@ -1,9 +1,9 @@
 -- An additive algebra has each property but the strict one, which it has where no label is 0.
-use Rattle.std.proofs.Common.{◌≡◌, ℕ, ◌+◌, ◌<◌, ◌≤◌, refl, arith, Some}
+use Rattle.std.proofs.Common.{◌≡◌, ℕ, ◌+◌, ◌<◌, refl, arith}
 use Rattle.std.proofs.lemmas.Bool.Decides.{nat_tests}
 use Rattle.std.specs.Ordering.{nat_cmp}
 use Rattle.std.specs.declared.cmp.Ordering.TheVariants.{Less, Equal}
-use Rattle.alg_model.specs.Expressions.{PureLabel, number_label, PureValue, number, add}
+use Rattle.alg_model.specs.Expressions.{PureLabel, number_label, number, add}
 use Rattle.alg_model.specs.Application.{IsLabel}
 use Rattle.alg_model.specs.Properties.{IsMonotone, IsStrict, IsIsotone, IsCancellative, IsTotal}
 
