@@ -1,3 +1,5 @@
 pub mod Additive
-pub mod Checked
+pub mod Answered
+pub mod Completeness
+pub mod Printable
 pub mod Written

@@ -2,4 +2,6 @@ pub mod Words
 pub mod Views
 pub mod Answers
 pub mod Texts
+pub mod Reading
 pub mod Outcome
+pub mod Complete

@@ -1,5 +1,5 @@
 -- What the words of a command line mean.
-use Rattle.std.specs.Prelude.{ℕ, List, [], ◌∷◌, None, Result, Ok, Err, if◌then◌else◌, codes}
+use Rattle.std.specs.Prelude.{ℕ, ◌<◌, length, List, [], ◌∷◌, None, Result, Ok, Err, if◌then◌else◌, codes}
 use Rattle.std.specs.Str.{bytes_eq}
 use Rattle.metacli.specs.declared.words.Command.{Command}
 use Rattle.metacli.specs.declared.words.Command.TheVariants.{Check}
@@ -11,9 +11,9 @@ abbrev pub Words : List (List ℕ) → Result Command WordsFault
 Words (w ∷ file ∷ []) = if bytes_eq w (codes "check") then Ok (Check 1 None) else Err UnknownCommand
 Words _ = Err UnknownCommand
 
--- the place in the words of the expression file's name
-abbrev pub expression_place : Command → ℕ
-expression_place (Check file net) = file
+-- the files of the command are words
+abbrev pub HasItsWords : List (List ℕ) → Command → Type 0
+HasItsWords words (Check file net) = file < length words
 
 -- the number that stands behind the C of a printed fault
 abbrev pub words_fault_number : WordsFault → ℕ

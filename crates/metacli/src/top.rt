@@ -1,14 +1,15 @@
-ghost use Rattle.std.specs.Prelude.{◌≡◌, ◌≢◌, ◌<◌, length, slice_index_or, [], Some, None, IfOk};
+ghost use Rattle.std.specs.Prelude.{◌≡◌, ◌≢◌, ◌<◌, ◌≤◌, length, [], Some, None, IfOk};
 ghost use Rattle.metacli.specs.declared.ended.Answer.TheVariants.{WriteFault};
-ghost use Rattle.metacli.specs.Words.{expression_place};
-ghost use Rattle.metacli.specs.Outcome.{ReadsExpression, IsChecked, IsEnded, IsComplete};
+ghost use Rattle.metacli.specs.Reading.{Takes, ReadsExpression};
+ghost use Rattle.metacli.specs.Outcome.{IsChecked, IsEnded, word_at};
+ghost use Rattle.metacli.specs.Complete.{IsComplete};
 ghost use Rattle.metacli.specs.Texts.{TextOf, IsPrintable, Written};
 
 use crate::text::{put_lines, refusal_line, verdict_lines};
 use crate::{Answer, Command, Ended, read_words, verdicts};
 use alg_model::Alg;
 use meta_base::{
-    Failed, Gate, MAX_FILE_BYTES, NoMemory, Shelf, Sink, TakeError, Text, Which, take_all,
+    Failed, Gate, List, MAX_FILE_BYTES, NoMemory, Shelf, Sink, TakeError, Text, Which, take_all,
 };
 use raml_syntax::{AlgError, read_alg};
 use std::alloc::Global;
@@ -41,18 +42,19 @@ fn decide<S: Shelf>(alloc: Global, words: &[Text], shelf: &mut S) -> Ended
     ensures printable { IsPrintable result }
 {
     match read_words(words) {
-        Ok(command) => check(alloc, command, expression_name(words, command), shelf),
+        Ok(command @ Command::Check { file, .. }) => {
+            check(alloc, command, name_at(words, file), shelf)
+        }
         Err(fault) => refused(None, Answer::BadWords(fault)),
     }
 }
 
-// The name of a command's expression file.
-fn expression_name(words: &[Text], command: Command) -> &str
-    requires { expression_place command < length words.now }
-    ensures { result.now ≡ slice_index_or words.now (expression_place command) [] }
+// The word at that place.
+fn name_at(words: &[Text], place: usize) -> &str
+    requires { place < length words.now }
+    ensures { result.now ≡ word_at words.now place }
 {
-    let Command::Check { file, .. } = command;
-    words[file].as_str()
+    words[place].as_str()
 }
 
 // The end of a run that was refused before it had an algebra.
@@ -69,7 +71,7 @@ fn refused(command: Option<Command>, answer: Answer) -> Ended
 }
 
 // What `check` comes to on the expression file of that name.
-#[tactic(auto, using(crate::proofs::Checked::printable))]
+#[tactic(auto, using(crate::proofs::Printable::printable))]
 fn check<S: Shelf>(alloc: Global, command: Command, name: &str, shelf: &mut S) -> Ended
     ensures command { result.command ≡ Some command }
     ensures checked { IsChecked name.now (S.now_is shelf.old) (S.now_is shelf.new) result }
@@ -96,16 +98,28 @@ fn check<S: Shelf>(alloc: Global, command: Command, name: &str, shelf: &mut S) -
 fn read_expression<S: Shelf>(alloc: Global, shelf: &mut S, name: &str) -> Result<Alg, Answer>
     ensures { ReadsExpression name.now (S.now_is shelf.old) result (S.now_is shelf.new) }
 {
-    let bytes = match take_all(alloc, shelf, name, MAX_FILE_BYTES) {
-        Ok(bytes) => bytes,
-        Err(TakeError::Fault) => return Err(Answer::ReadFault(Which::Expr)),
-        Err(TakeError::TooLong) => return Err(Answer::TooLong(Which::Expr)),
-        Err(TakeError::NoMemory) => return Err(Answer::NoMemory),
-    };
+    let bytes = take_file(alloc, shelf, name, Which::Expr)?;
     match read_alg(alloc, bytes.as_slice()) {
         Ok(alg) => Ok(alg),
         Err(AlgError::Bad(fault)) => Err(Answer::BadExpr(fault)),
         Err(AlgError::NoMemory) => Err(Answer::NoMemory),
+    }
+}
+
+// The bytes of the file of that name, or why they were not taken.
+fn take_file<S: Shelf>(
+    alloc: Global,
+    shelf: &mut S,
+    name: &str,
+    which: Which,
+) -> Result<List<u8>, Answer>
+    ensures { Takes which name.now (S.now_is shelf.old) result (S.now_is shelf.new) }
+{
+    match take_all(alloc, shelf, name, MAX_FILE_BYTES) {
+        Ok(bytes) => Ok(bytes),
+        Err(TakeError::Fault) => Err(Answer::ReadFault(which)),
+        Err(TakeError::TooLong) => Err(Answer::TooLong(which)),
+        Err(TakeError::NoMemory) => Err(Answer::NoMemory),
     }
 }
 

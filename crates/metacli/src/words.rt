@@ -1,5 +1,5 @@
-ghost use Rattle.std.specs.Prelude.{◌≡◌, ◌<◌, ℕ, length, IfOk};
-ghost use Rattle.metacli.specs.Words.{Words, words_fault_number, expression_place};
+ghost use Rattle.std.specs.Prelude.{◌≡◌, IfOk};
+ghost use Rattle.metacli.specs.Words.{Words, words_fault_number, HasItsWords};
 
 use meta_base::Text;
 
@@ -34,7 +34,7 @@ pub enum Command {
 /// For now the one command is the word `check` and the name of an expression file.
 pub fn read_words(words: &[Text]) -> Result<Command, WordsFault>
     ensures command { result ≡ Words words.now }
-    ensures place { IfOk result (λ command. expression_place command < length words.now) }
+    ensures places { IfOk result (HasItsWords words.now) }
 {
     match words {
         [command, _file] if command.as_str() == "check" => Ok(Command::Check {

@@ -1,5 +1,6 @@
 use Rattle.metacli.specs.Words.{Words}
-use Rattle.metacli.proofs.Checked.{reanswered, complete}
+use Rattle.metacli.proofs.Answered.{reanswered}
+use Rattle.metacli.proofs.Completeness.{complete}
 use Rattle.metacli.proofs.top.run_meta.Goals as goal
 
 pub returns-clause-ended : goal.returns-clause-ended

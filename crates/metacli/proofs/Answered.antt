@@ -1,0 +1,25 @@
+-- What a run came to doesn't speak of the answer in the end.
+use Rattle.std.proofs.Common.{ℕ, List, Result, Ok, Err}
+use Rattle.meta_base.specs.Shelf.{Moment}
+use Rattle.alg_model.specs.Expressions.{Expression}
+use Rattle.metacli.specs.Outcome.{IsCheckedBy, EndedBy}
+use Rattle.metacli.specs.declared.words.Command.{Command}
+use Rattle.metacli.specs.declared.words.Command.TheVariants.{Check}
+use Rattle.metacli.specs.declared.words.WordsFault.{WordsFault}
+use Rattle.metacli.specs.declared.ended.Ended.{Ended}
+use Rattle.metacli.specs.declared.ended.Answer.{Answer}
+
+still : (e : Ended) (a : Answer) (r : Result Expression Answer) → IsCheckedBy e r → IsCheckedBy (record e { answer = a }) r
+still e a (Ok x) h = h
+still e a (Err x) h = h
+
+pub reanswered : (words : List (List ℕ)) (old new : Moment) (e : Ended) (a : Answer) (r : Result Command WordsFault)
+    → EndedBy words old new e r → EndedBy words old new (record e { answer = a }) r
+reanswered words old new e a (Ok (Check file net)) h = (h.0, record { expression = h.1.expression; reads = h.1.reads; ends = still e a h.1.expression h.1.ends })
+reanswered words old new e a (Err f) h = record {
+  unread = h.unread;
+  command = h.command;
+  algebra = h.algebra;
+  verdicts = h.verdicts;
+  decided = h.decided;
+}

@@ -1,0 +1,39 @@
+-- Nothing is given up: without a fault, words that mean a command are carried out, or refused by their
+-- files alone, unless memory is refused.
+use Rattle.std.specs.Prelude.{◌≡◌, ℕ, ◌≤◌, ◌⊎◌, List, Some, Result, Ok, Err, IsTrue, length}
+use Rattle.meta_base.specs.Count.{HasRisen}
+use Rattle.meta_base.specs.Shelf.{Moment}
+use Rattle.meta_base.specs.declared.limits.TheConstants.{MAX_FILE_BYTES}
+use Rattle.alg_model.specs.Expressions.{Expression}
+use Rattle.raml_syntax.specs.ExprText.{ExprText, IsExprFault}
+use Rattle.raml_syntax.specs.declared.expression.ExprFault.{ExprFault}
+use Rattle.metacli.specs.Words.{Words}
+use Rattle.metacli.specs.Outcome.{word_at}
+use Rattle.metacli.specs.declared.words.Command.{Command}
+use Rattle.metacli.specs.declared.words.Command.TheVariants.{Check}
+use Rattle.metacli.specs.declared.words.WordsFault.{WordsFault}
+use Rattle.metacli.specs.declared.ended.Ended.{Ended}
+use Rattle.metacli.specs.declared.ended.Answer.{Answer}
+use Rattle.metacli.specs.declared.ended.Answer.TheVariants.{Done, BadExpr, NoMemory}
+
+-- this was decided, or memory was refused
+abbrev pub IsUnlessMemory : Ended → Answer → Type 0
+IsUnlessMemory e answer = (e.decided ≡ answer) ⊎ (e.decided ≡ NoMemory)
+
+-- the shelf tells the bytes of the file of that name, and they aren't too many
+pub record IsTold (m : Moment) (name bytes : List ℕ) : Type 0 where
+  pub tells : IsTrue m.tells
+  pub file : m.file name ≡ Some bytes
+  pub short : length bytes ≤ MAX_FILE_BYTES
+
+-- an expression file that is no algebra's text is refused with its fault, and another is checked
+pub record IsCheckComplete (bytes : List ℕ) (e : Ended) : Type 0 where
+  pub good : (a : Expression) → ExprText bytes a → IsUnlessMemory e Done
+  pub bad : (f : ExprFault) → IsExprFault bytes f → IsUnlessMemory e (BadExpr f)
+
+abbrev pub CompleteBy : List (List ℕ) → Moment → Moment → Ended → Result Command WordsFault → Type 0
+CompleteBy words old new e (Ok (Check file net)) = (bytes : List ℕ) → IsTold old (word_at words file) bytes → ¬ HasRisen old.faults new.faults → IsCheckComplete bytes e
+CompleteBy words old new e (Err f) = Unit {0}
+
+abbrev pub IsComplete : List (List ℕ) → Moment → Moment → Ended → Type 0
+IsComplete words old new e = CompleteBy words old new e (Words words)
