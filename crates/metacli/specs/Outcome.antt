@@ -1,16 +1,20 @@
 -- What a run comes to, by its words.
-use Rattle.std.specs.Prelude.{◌≡◌, ℕ, ◌^◌, List, [], Option, Some, None, Result, Ok, Err, slice_index_or}
+use Rattle.std.specs.Prelude.{◌≡◌, ℕ, ◌+◌, ◌^◌, List, [], ◌∷◌, length, map, Option, Some, None, Result, Ok, Err, slice_index_or}
+use Rattle.std.specs.List.{concat}
 use Rattle.meta_base.specs.Shelf.{Moment}
 use Rattle.alg_model.specs.Expressions.{Expression}
 use Rattle.alg_model.specs.Application.{IsLabel}
 use Rattle.alg_model.specs.Verdicts.{ExactFor}
 use Rattle.alg_model.specs.Instances.{VerdictsAtMost}
+use Rattle.net_graph.specs.Nets.{PureNet}
+use Rattle.net_graph.specs.Tables.{PureRow, BestFirst, Optimal}
+use Rattle.net_graph.specs.Views.{pure_row}
 use Rattle.metacli.specs.Words.{Words}
 use Rattle.metacli.specs.Views.{pure_verdicts}
-use Rattle.metacli.specs.Reading.{ReadsExpression}
+use Rattle.metacli.specs.Reading.{ReadsExpression, ReadsNetwork}
 use Rattle.metacli.specs.declared.verdict.Verdicts.{Verdicts}
 use Rattle.metacli.specs.declared.words.Command.{Command}
-use Rattle.metacli.specs.declared.words.Command.TheVariants.{Check}
+use Rattle.metacli.specs.declared.words.Command.TheVariants.{Check, Route}
 use Rattle.metacli.specs.declared.words.WordsFault.{WordsFault}
 use Rattle.metacli.specs.declared.ended.Ended.{Ended}
 use Rattle.metacli.specs.declared.ended.Answer.{Answer}
@@ -37,13 +41,61 @@ pub record IsChecked (name : List ℕ) (old new : Moment) (e : Ended) : Type 0 w
   pub expression : Result Expression Answer
   pub reads : ReadsExpression name old expression new
   pub ends : IsCheckedBy e expression
+  pub no_net : e.net ≡ None
+  pub no_rows : e.rows ≡ []
+
+-- the tables of the destinations from that one on: each is the one that is made best first, and no
+-- walk beats it
+abbrev pub AreTablesFrom : PureNet → ℕ → List (List PureRow) → Type 0
+AreTablesFrom net dest [] = Unit {0}
+AreTablesFrom net dest (table ∷ tables) = BestFirst net dest table × Optimal net dest table × AreTablesFrom net (dest + 1) tables
+
+-- the rows are those of the tables of all destinations in order
+pub record AreRoutesOn (net : PureNet) (rows : List PureRow) : Type 0 where
+  pub tables : List (List PureRow)
+  pub are : AreTablesFrom net 0 tables
+  pub count : length tables ≡ length net.dests
+  pub joined : rows ≡ concat tables
+
+-- what was decided on a network: its routes, unless memory was refused
+abbrev pub IsRoutedAs : PureNet → Ended → Answer → Type 0
+IsRoutedAs net e Done = AreRoutesOn net (map pure_row e.rows)
+IsRoutedAs net e NoMemory = e.rows ≡ []
+IsRoutedAs net e _ = ⊥
+
+-- without a network the run ends as reading did
+abbrev pub IsRoutedBy : Ended → Result PureNet Answer → Type 0
+IsRoutedBy e (Ok net) = (e.net ≡ Some net) × IsRoutedAs net e e.decided
+IsRoutedBy e (Err answer) = (e.net ≡ None) × (e.rows ≡ []) × (e.decided ≡ answer)
+
+-- the network file is read over the algebra, and then the routes are found
+pub record IsRoutedOver (a : Expression) (name : List ℕ) (old new : Moment) (e : Ended) : Type 0 where
+  pub network : Result PureNet Answer
+  pub reads : ReadsNetwork a name old network new
+  pub ends : IsRoutedBy e network
+
+-- without an algebra the network file isn't begun
+abbrev pub IsRoutedAfter : List ℕ → Moment → Moment → Ended → Result Expression Answer → Type 0
+IsRoutedAfter name old new e (Ok a) = (e.alg ≡ Some a) × IsRoutedOver a name old new e
+IsRoutedAfter name old new e (Err answer) = (new ≡ old) × (e.alg ≡ None) × (e.net ≡ None) × (e.rows ≡ []) × (e.decided ≡ answer)
+
+-- what route comes to on the expression file and the network file of these names: the first is read,
+-- then the second, and then the routes are found
+pub record IsRouted (file net : List ℕ) (old new : Moment) (e : Ended) : Type 0 where
+  pub between : Moment
+  pub expression : Result Expression Answer
+  pub reads : ReadsExpression file old expression between
+  pub ends : IsRoutedAfter net between new e expression
+  pub no_verdicts : e.verdicts ≡ None
 
 -- what words with a fault come to: nothing is read
 pub record IsRefused (f : WordsFault) (old new : Moment) (e : Ended) : Type 0 where
   pub unread : new ≡ old
   pub command : e.command ≡ None
   pub algebra : e.alg ≡ None
+  pub net : e.net ≡ None
   pub verdicts : e.verdicts ≡ None
+  pub rows : e.rows ≡ []
   pub decided : e.decided ≡ BadWords f
 
 -- the word at a place
@@ -52,6 +104,7 @@ word_at words place = slice_index_or words place []
 
 abbrev pub EndedBy : List (List ℕ) → Moment → Moment → Ended → Result Command WordsFault → Type 0
 EndedBy words old new e (Ok (Check file net)) = (e.command ≡ Some (Check file net)) × IsChecked (word_at words file) old new e
+EndedBy words old new e (Ok (Route file net workers)) = (e.command ≡ Some (Route file net workers)) × IsRouted (word_at words file) (word_at words net) old new e
 EndedBy words old new e (Err f) = IsRefused f old new e
 
 -- what a run of these words comes to

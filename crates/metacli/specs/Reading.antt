@@ -3,12 +3,14 @@ use Rattle.std.specs.Prelude.{◌≡◌, ℕ, ◌<◌, ◌≤◌, ◌⊎◌, Lis
 use Rattle.meta_base.specs.Count.{HasRisen}
 use Rattle.meta_base.specs.Shelf.{Moment, Keeps, IsAbsent}
 use Rattle.meta_base.specs.declared.ids.Which.{Which}
-use Rattle.meta_base.specs.declared.ids.Which.TheVariants.{Expr}
+use Rattle.meta_base.specs.declared.ids.Which.TheVariants.{Expr, Network}
 use Rattle.meta_base.specs.declared.limits.TheConstants.{MAX_FILE_BYTES}
 use Rattle.alg_model.specs.Expressions.{Expression}
 use Rattle.raml_syntax.specs.ExprText.{ExprText, IsExprFault}
+use Rattle.net_graph.specs.Nets.{PureNet}
+use Rattle.topology_file.specs.NetText.{NetText, IsNetFault}
 use Rattle.metacli.specs.declared.ended.Answer.{Answer}
-use Rattle.metacli.specs.declared.ended.Answer.TheVariants.{BadExpr, ReadFault, NoMemory, TooLong}
+use Rattle.metacli.specs.declared.ended.Answer.TheVariants.{BadExpr, BadNet, ReadFault, NoMemory, TooLong}
 
 -- some bytes are such a text; where the shelf tells its files, they are those of the file of that name
 abbrev pub Holds : Moment → List ℕ → (List ℕ → Type 0) → Type 0
@@ -47,3 +49,19 @@ pub record ReadsExpression (name : List ℕ) (old : Moment) (result : Result Exp
   pub keeps : Keeps old new
   pub too_long : MAX_FILE_BYTES < new.taken → result ≡ Err (TooLong Expr)
   pub read : IsExpressionAs name old result new
+
+-- why there is no network over the algebra
+abbrev pub HasNoNetwork : Expression → List ℕ → Moment → Moment → Answer → Type 0
+HasNoNetwork a name old new (BadNet f) = (new.ended ≡ true) × Holds old name (λ bytes. IsNetFault bytes a f)
+HasNoNetwork a name old new answer = IsUntaken Network name old new answer
+
+abbrev pub IsNetworkAs : Expression → List ℕ → Moment → Result PureNet Answer → Moment → Type 0
+IsNetworkAs a name old (Ok net) new = (new.ended ≡ true) × Holds old name (λ bytes. NetText bytes a net)
+IsNetworkAs a name old (Err answer) new = HasNoNetwork a name old new answer
+
+-- what reading the network file does: the network over the algebra that all of its bytes mean, or a
+-- cause
+pub record ReadsNetwork (a : Expression) (name : List ℕ) (old : Moment) (result : Result PureNet Answer) (new : Moment) : Type 0 where
+  pub keeps : Keeps old new
+  pub too_long : MAX_FILE_BYTES < new.taken → result ≡ Err (TooLong Network)
+  pub read : IsNetworkAs a name old result new

@@ -1,5 +1,6 @@
 -- The printed text of what was decided, and what of it was written.
-use Rattle.std.specs.Prelude.{◌≡◌, ℕ, ◌^◌, List, [], ◌++◌, Option, Some, None, take, codes, decimal}
+use Rattle.std.specs.Prelude.{◌≡◌, ℕ, ◌^◌, List, [], ◌++◌, map, Option, Some, None, take, codes, decimal}
+use Rattle.std.specs.List.{concat, AllByRecursion}
 use Rattle.meta_base.specs.Sink.{Held, Appended, AppendedPart}
 use Rattle.meta_base.specs.declared.ids.Which.{Which}
 use Rattle.meta_base.specs.declared.ids.Which.TheVariants.{Expr, Network}
@@ -10,12 +11,19 @@ use Rattle.alg_model.specs.Verdicts.{PureInstance, IsInstanceOf, PureVerdict, ho
 use Rattle.alg_model.specs.Instances.{InstanceAtMost}
 use Rattle.alg_model.specs.Texts.{value_text, label_text}
 use Rattle.raml_syntax.specs.Faults.{fault_number}
+use Rattle.net_graph.specs.Nets.{PureNet}
+use Rattle.net_graph.specs.Tables.{PureRow}
+use Rattle.net_graph.specs.Views.{pure_row}
+use Rattle.net_graph.specs.RowTexts.{IsRowOf, row_text}
+use Rattle.topology_file.specs.Faults.{net_kind_number}
 use Rattle.metacli.specs.Words.{words_fault_number}
 use Rattle.metacli.specs.Views.{pure_verdicts}
 use Rattle.metacli.specs.declared.verdict.Verdicts.{Verdicts}
+use Rattle.metacli.specs.declared.words.Command.{Command}
+use Rattle.metacli.specs.declared.words.Command.TheVariants.{Check, Route}
 use Rattle.metacli.specs.declared.ended.Ended.{Ended}
 use Rattle.metacli.specs.declared.ended.Answer.{Answer}
-use Rattle.metacli.specs.declared.ended.Answer.TheVariants.{Done, BadWords, BadExpr, ReadFault, WriteFault, NoMemory, TooLong}
+use Rattle.metacli.specs.declared.ended.Answer.TheVariants.{Done, BadWords, BadExpr, BadNet, ReadFault, WriteFault, NoMemory, TooLong}
 
 -- a value, or none
 abbrev pub image_text : PureCarrier → Option PureValue → List ℕ
@@ -59,19 +67,33 @@ which_text Network = codes "network"
 abbrev pub refusal_text : Answer → List ℕ
 refusal_text (BadWords f) = codes "words refused: C" ++ decimal (words_fault_number f) ++ codes "\n"
 refusal_text (BadExpr f) = codes "expression refused: X" ++ decimal (fault_number f.kind) ++ codes " at " ++ decimal f.place.line ++ codes ":" ++ decimal f.place.column ++ codes "\n"
+refusal_text (BadNet f) = codes "network refused: N" ++ decimal (net_kind_number f.kind) ++ codes " at line " ++ decimal f.line ++ codes "\n"
 refusal_text (ReadFault w) = codes "read fault on the " ++ which_text w ++ codes "\n"
 refusal_text (TooLong w) = codes "too long: the " ++ which_text w ++ codes "\n"
 refusal_text NoMemory = codes "out of memory\n"
 refusal_text Done = []
 refusal_text WriteFault = []
 
--- what is printed where the command was carried out
-abbrev pub done_text : Option Expression → Option Verdicts → List ℕ
-done_text (Some a) (Some v) = verdicts_text a (pure_verdicts v)
-done_text _ _ = []
+-- the lines of routes
+abbrev pub rows_text : PureNet → List PureRow → List ℕ
+rows_text net rows = concat (map (row_text net) rows)
+
+-- what is printed where the command was carried out: verdicts, or routes
+abbrev pub checked_text : Option Expression → Option Verdicts → List ℕ
+checked_text (Some a) (Some v) = verdicts_text a (pure_verdicts v)
+checked_text _ _ = []
+
+abbrev pub routed_text : Option PureNet → List PureRow → List ℕ
+routed_text (Some net) rows = rows_text net rows
+routed_text None rows = []
+
+abbrev pub done_text : Ended → Option Command → List ℕ
+done_text e (Some (Check file net)) = checked_text e.alg e.verdicts
+done_text e (Some (Route file net workers)) = routed_text e.net (map pure_row e.rows)
+done_text e None = []
 
 abbrev pub text_for : Ended → Answer → List ℕ
-text_for e Done = done_text e.alg e.verdicts
+text_for e Done = done_text e e.command
 text_for e answer = refusal_text answer
 
 -- the text of what was decided
@@ -94,12 +116,21 @@ pub record CanPrintVerdicts (a : Expression) (v : PureVerdicts) : Type 0 where
   pub cancellative : CanPrintVerdict a v.cancellative
   pub total : CanPrintVerdict a v.total
 
-abbrev pub CanPrintDone : Option Expression → Option Verdicts → Type 0
-CanPrintDone (Some a) (Some v) = CanPrintVerdicts a (pure_verdicts v)
-CanPrintDone _ _ = ⊥
+abbrev pub CanPrintChecked : Option Expression → Option Verdicts → Type 0
+CanPrintChecked (Some a) (Some v) = CanPrintVerdicts a (pure_verdicts v)
+CanPrintChecked _ _ = ⊥
+
+abbrev pub CanPrintRouted : Option PureNet → List PureRow → Type 0
+CanPrintRouted (Some net) rows = AllByRecursion (IsRowOf net) rows
+CanPrintRouted None rows = ⊥
+
+abbrev pub CanPrintDone : Ended → Option Command → Type 0
+CanPrintDone e (Some (Check file net)) = CanPrintChecked e.alg e.verdicts
+CanPrintDone e (Some (Route file net workers)) = CanPrintRouted e.net (map pure_row e.rows)
+CanPrintDone e None = ⊥
 
 abbrev pub IsPrintableAs : Ended → Answer → Type 0
-IsPrintableAs e Done = CanPrintDone e.alg e.verdicts
+IsPrintableAs e Done = CanPrintDone e e.command
 IsPrintableAs e WriteFault = ⊥
 IsPrintableAs e answer = Unit {0}
 

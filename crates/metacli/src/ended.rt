@@ -3,8 +3,10 @@ ghost use Rattle.metacli.specs.Answers.{status_of};
 
 use crate::{Command, Verdicts, WordsFault};
 use alg_model::Alg;
-use meta_base::Which;
+use meta_base::{List, Which};
+use net_graph::{Net, RouteRow};
 use raml_syntax::ExprFault;
+use topology_file::NetFault;
 
 /// How a run ended.
 #[derive(Clone, Copy, Debug, PartialEq, Eq)]
@@ -15,6 +17,8 @@ pub enum Answer {
     BadWords(WordsFault),
     /// The bytes of the expression file mean no algebra.
     BadExpr(ExprFault),
+    /// The bytes of the network file mean no network over the algebra.
+    BadNet(NetFault),
     /// The file could not be begun or read to its end.
     ReadFault(Which),
     /// The text could not be written to its end.
@@ -32,15 +36,19 @@ pub struct Ended {
     pub command: Option<Command>,
     /// The algebra of the expression file, where that was read and means one.
     pub alg: Option<Alg>,
+    /// The network of the network file, where that was read and means one.
+    pub net: Option<Net>,
     /// The verdicts, where `check` was carried out.
     pub verdicts: Option<Verdicts>,
+    /// The routes, where `route` was carried out: for each destination in order, each node in order.
+    pub rows: List<RouteRow>,
     /// The answer before anything was written.
     pub decided: Answer,
     /// The answer: `decided`, or `WriteFault` or `NoMemory` where writing ended early.
     pub answer: Answer,
 }
 
-/// The status that the program ends with: 0 done, 1 bad words, 2 a bad expression, 5 a read fault, 6 a
+/// The status that the program ends with: 0 done, 1 bad words, 2 a bad expression or network, 5 a read fault, 6 a
 /// write fault, 7 out of memory, 8 a file that is too long.
 pub fn status(answer: &Answer) -> u8
     ensures { result ≡ status_of answer.now }
@@ -48,7 +56,7 @@ pub fn status(answer: &Answer) -> u8
     match answer {
         Answer::Done => 0,
         Answer::BadWords(_) => 1,
-        Answer::BadExpr(_) => 2,
+        Answer::BadExpr(_) | Answer::BadNet(_) => 2,
         Answer::ReadFault(_) => 5,
         Answer::WriteFault => 6,
         Answer::NoMemory => 7,

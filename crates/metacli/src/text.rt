@@ -1,5 +1,5 @@
 // The texts that are printed.
-ghost use Rattle.std.specs.Prelude.{◌≡◌, ◌<◌, ◌≤◌, ◌++◌, ◌^◌, length, codes, decimal, string_bytes, option_copied, OnOk, IfOk};
+ghost use Rattle.std.specs.Prelude.{◌≡◌, true, map, ◌<◌, ◌≤◌, ◌++◌, ◌^◌, length, codes, decimal, string_bytes, option_copied, OnOk, IfOk};
 ghost use Rattle.meta_base.specs.declared.limits.TheConstants.{MAX_NUMBER};
 ghost use Rattle.meta_base.specs.Sink.{Puts};
 ghost use Rattle.alg_model.specs.Views.{pure_value, pure_label};
@@ -7,14 +7,19 @@ ghost use Rattle.alg_model.specs.Bounds.{AtMost, LabelAtMost};
 ghost use Rattle.alg_model.specs.Carriers.{carrier_of, In};
 ghost use Rattle.alg_model.specs.Application.{IsLabel, App};
 ghost use Rattle.alg_model.specs.Texts.{value_text, label_text};
+ghost use Rattle.net_graph.specs.Nets.{is_name};
+ghost use Rattle.net_graph.specs.Views.{pure_row};
+ghost use Rattle.net_graph.specs.RowTexts.{AreNodesOf, IsRowOf, node_text, dest_text, path_text, row_text};
 ghost use Rattle.metacli.specs.Views.{pure_instance, pure_verdict, pure_verdicts};
 ghost use Rattle.metacli.specs.Texts.{CanPrint, CanPrintVerdict, CanPrintVerdicts, image_text, instance_text, verdict_text, verdicts_text, which_text, refusal_text};
 
 use crate::{Answer, Instance, Verdict, Verdicts};
 use alg_model::{Alg, Label, Tree, Value, apply};
 use itoa::Buffer;
-use meta_base::{Failed, NoMemory, Sink, Text, Which, put_all};
+use meta_base::{DestId, Failed, NoMemory, NodeId, Sink, Text, Which, put_all};
+use net_graph::{Net, RouteRow};
 use std::alloc::Global;
+use std::str;
 
 fn push_number(out: &mut String, n: u64) -> Result<(), NoMemory>
     ensures { OnOk result (string_bytes out.new ≡ string_bytes out.old ++ decimal n) }
@@ -123,6 +128,68 @@ pub fn verdict_lines(alloc: Global, alg: &Alg, verdicts: &Verdicts) -> Result<Te
     Ok(Text::from_string(out))
 }
 
+// Appends a name, all of whose bytes are ASCII.
+#[tactic(auto, using(crate::proofs::Names::name_is_text))]
+fn push_name(out: &mut String, name: &[u8]) -> Result<(), NoMemory>
+    requires { is_name name.now ≡ true }
+    ensures { OnOk result (string_bytes out.new ≡ string_bytes out.old ++ name.now) }
+{
+    match str::from_utf8(name) {
+        Ok(name) => Ok(out.push_str(name)?),
+        Err(_) => unreachable!(),
+    }
+}
+
+fn push_node(out: &mut String, net: &Net, node: NodeId) -> Result<(), NoMemory>
+    requires { node.0 < length net.now.nodes }
+    ensures { OnOk result (string_bytes out.new ≡ string_bytes out.old ++ node_text net.now node.0) }
+{
+    push_name(out, net.node_name(node))
+}
+
+fn push_dest(out: &mut String, net: &Net, dest: DestId) -> Result<(), NoMemory>
+    requires { dest.0 < length net.now.dests }
+    ensures { OnOk result (string_bytes out.new ≡ string_bytes out.old ++ dest_text net.now dest.0) }
+{
+    push_name(out, net.dest_name(dest))
+}
+
+// The names of the nodes of a path, each behind a space.
+fn push_path(out: &mut String, net: &Net, path: &[NodeId]) -> Result<(), NoMemory>
+    requires { AreNodesOf net.now (map (λ node. node.0) path.now) }
+    ensures { OnOk result (string_bytes out.new ≡ string_bytes out.old ++ path_text net.now (map (λ node. node.0) path.now)) }
+{
+    match path {
+        [] => Ok(()),
+        [node, rest @ ..] => {
+            out.push_str(" ")?;
+            push_node(out, net, *node)?;
+            push_path(out, net, rest)
+        }
+    }
+}
+
+// The line of a row.
+pub fn row_line(alloc: Global, net: &Net, row: &RouteRow) -> Result<Text, NoMemory>
+    requires { IsRowOf net.now (pure_row row.now) }
+    ensures { IfOk result (λ text. text ≡ row_text net.now (pure_row row.now)) }
+{
+    let mut out = String::new(alloc);
+    push_node(&mut out, net, row.node)?;
+    out.push_str(" ")?;
+    push_dest(&mut out, net, row.dest)?;
+    out.push_str(" ")?;
+    match &row.route {
+        None => out.push_str("none")?,
+        Some(route) => {
+            push_value(&mut out, net.alg(), &route.value)?;
+            push_path(&mut out, net, route.path.as_slice())?;
+        }
+    }
+    out.push_str("\n")?;
+    Ok(Text::from_string(out))
+}
+
 fn which_word(which: Which) -> &'static str
     ensures { result.now ≡ which_text which }
 {
@@ -151,6 +218,13 @@ pub fn refusal_line(alloc: Global, answer: Answer) -> Result<Text, NoMemory>
             push_number(&mut out, u64::from(fault.place.line))?;
             out.push_str(":")?;
             push_number(&mut out, u64::from(fault.place.column))?;
+            out.push_str("\n")?;
+        }
+        Answer::BadNet(fault) => {
+            out.push_str("network refused: N")?;
+            push_number(&mut out, u64::from(fault.kind.number()))?;
+            out.push_str(" at line ")?;
+            push_number(&mut out, u64::from(fault.line))?;
             out.push_str("\n")?;
         }
         Answer::ReadFault(which) => {

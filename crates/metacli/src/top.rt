@@ -45,7 +45,10 @@ fn decide<S: Shelf>(alloc: Global, words: &[Text], shelf: &mut S) -> Ended
         Ok(command @ Command::Check { file, .. }) => {
             check(alloc, command, name_at(words, file), shelf)
         }
-        Err(fault) => refused(None, Answer::BadWords(fault)),
+        Ok(command @ Command::Route { file, net, .. }) => {
+            route(alloc, command, name_at(words, file), name_at(words, net), shelf)
+        }
+        Err(fault) => refused(alloc, None, Answer::BadWords(fault)),
     }
 }
 
@@ -58,13 +61,15 @@ fn name_at(words: &[Text], place: usize) -> &str
 }
 
 // The end of a run that was refused before it had an algebra.
-fn refused(command: Option<Command>, answer: Answer) -> Ended
-    ensures { result ≡ record { command = command; alg = None; verdicts = None; decided = answer; answer = answer } }
+fn refused(alloc: Global, command: Option<Command>, answer: Answer) -> Ended
+    ensures { result ≡ record { command = command; alg = None; net = None; verdicts = None; rows = []; decided = answer; answer = answer } }
 {
     Ended {
         command,
         alg: None,
+        net: None,
         verdicts: None,
+        rows: List::new(alloc),
         decided: answer,
         answer,
     }
@@ -73,13 +78,14 @@ fn refused(command: Option<Command>, answer: Answer) -> Ended
 // What `check` comes to on the expression file of that name.
 #[tactic(auto, using(crate::proofs::Printable::printable))]
 fn check<S: Shelf>(alloc: Global, command: Command, name: &str, shelf: &mut S) -> Ended
+    requires { IsCheck command }
     ensures command { result.command ≡ Some command }
     ensures checked { IsChecked name.now (S.now_is shelf.old) (S.now_is shelf.new) result }
     ensures printable { IsPrintable result }
 {
     let alg = match read_expression(alloc, shelf, name) {
         Ok(alg) => alg,
-        Err(answer) => return refused(Some(command), answer),
+        Err(answer) => return refused(alloc, Some(command), answer),
     };
     let (verdicts, decided) = match verdicts(alloc, &alg) {
         Ok(verdicts) => (Some(verdicts), Answer::Done),
@@ -88,7 +94,61 @@ fn check<S: Shelf>(alloc: Global, command: Command, name: &str, shelf: &mut S) -
     Ended {
         command: Some(command),
         alg: Some(alg),
+        net: None,
         verdicts,
+        rows: List::new(alloc),
+        decided,
+        answer: decided,
+    }
+}
+
+// What `route` comes to on the files of these names.
+fn route<S: Shelf>(
+    alloc: Global,
+    command: Command,
+    file: &str,
+    net: &str,
+    shelf: &mut S,
+) -> Ended
+    requires { IsRoute command }
+    ensures command { result.command ≡ Some command }
+    ensures routed { IsRouted file.now net.now (S.now_is shelf.old) (S.now_is shelf.new) result }
+    ensures printable { IsPrintable result }
+{
+    match read_expression(alloc, shelf, file) {
+        Ok(alg) => route_over(alloc, command, alg, net, shelf),
+        Err(answer) => refused(alloc, Some(command), answer),
+    }
+}
+
+// What `route` comes to on the network file of that name, over the algebra.
+fn route_over<S: Shelf>(
+    alloc: Global,
+    command: Command,
+    alg: Alg,
+    name: &str,
+    shelf: &mut S,
+) -> Ended
+    requires { IsRoute command }
+    ensures command { result.command ≡ Some command }
+    ensures algebra { result.alg ≡ Some alg }
+    ensures routed { IsRoutedOver alg name.now (S.now_is shelf.old) (S.now_is shelf.new) result }
+    ensures verdicts { result.verdicts ≡ None }
+    ensures printable { IsPrintable result }
+{
+    let (net, rows, decided) = match read_network(alloc, shelf, &alg, name) {
+        Ok(net) => match all_routes(alloc, &net) {
+            Ok(rows) => (Some(net), rows, Answer::Done),
+            Err(NoMemory) => (Some(net), List::new(alloc), Answer::NoMemory),
+        },
+        Err(answer) => (None, List::new(alloc), answer),
+    };
+    Ended {
+        command: Some(command),
+        alg: Some(alg),
+        net,
+        verdicts: None,
+        rows,
         decided,
         answer: decided,
     }
@@ -103,6 +163,26 @@ fn read_expression<S: Shelf>(alloc: Global, shelf: &mut S, name: &str) -> Result
         Ok(alg) => Ok(alg),
         Err(AlgError::Bad(fault)) => Err(Answer::BadExpr(fault)),
         Err(AlgError::NoMemory) => Err(Answer::NoMemory),
+    }
+}
+
+// The network of the network file of that name over the algebra, or why there is none.
+fn read_network<S: Shelf>(
+    alloc: Global,
+    shelf: &mut S,
+    alg: &Alg,
+    name: &str,
+) -> Result<Net, Answer>
+    ensures { ReadsNetwork alg.now name.now (S.now_is shelf.old) result (S.now_is shelf.new) }
+{
+    let bytes = take_file(alloc, shelf, name, Which::Network)?;
+    let Ok(alg) = alg.copy_part(alloc, alg.tree()) else {
+        return Err(Answer::NoMemory);
+    };
+    match read_net(alloc, alg, bytes.as_slice()) {
+        Ok(net) => Ok(net),
+        Err(NetError::Bad(fault)) => Err(Answer::BadNet(fault)),
+        Err(NetError::NoMemory) => Err(Answer::NoMemory),
     }
 }
 
@@ -129,13 +209,33 @@ fn print<K: Sink>(alloc: Global, out: &mut K, ended: &Ended) -> Answer
     requires { IsPrintable ended.now }
     ensures { Written (K.holds out.old) (TextOf ended.now) (K.holds out.new) ended.now.decided result }
 {
-    match ended.decided {
-        Answer::NoMemory => write(out, b"out of memory\n", Answer::NoMemory),
-        decided => match text(alloc, ended) {
+    match (ended.decided, ended.command, &ended.net) {
+        (Answer::NoMemory, _, _) => write(out, b"out of memory\n", Answer::NoMemory),
+        (Answer::Done, Some(Command::Route { .. }), Some(net)) => {
+            write_rows(alloc, out, net, ended.rows.as_slice())
+        }
+        (decided, _, _) => match text(alloc, ended) {
             Ok(text) => write(out, text.as_str().as_bytes(), decided),
             Err(NoMemory) => Answer::NoMemory,
         },
     }
+}
+
+// Writes the lines of the rows, one after another, and answers how that went.
+fn write_rows<K: Sink>(alloc: Global, out: &mut K, net: &Net, rows: &[RouteRow]) -> Answer
+    requires { AllByRecursion (IsRowOf net.now) (map pure_row rows.now) }
+    ensures { Written (K.holds out.old) (rows_text net.now (map pure_row rows.now)) (K.holds out.new) Done result }
+{
+    for row in rows {
+        match row_line(alloc, net, row) {
+            Ok(line) => match put_lines(out, line.as_str().as_bytes()) {
+                Ok(()) => {}
+                Err(Failed) => return Answer::WriteFault,
+            },
+            Err(NoMemory) => return Answer::NoMemory,
+        }
+    }
+    Answer::Done
 }
 
 // Writes a text, and answers what was decided, or that the sink failed.

@@ -3,6 +3,9 @@ ghost use Rattle.metacli.specs.Words.{Words, words_fault_number, HasItsWords};
 
 use meta_base::Text;
 
+// How many workers there are where the words don't say.
+const DEFAULT_WORKERS: u32 = 4;
+
 /// What is wrong with the words of a command line.
 #[derive(Clone, Copy, Debug, PartialEq, Eq)]
 pub enum WordsFault {
@@ -26,12 +29,15 @@ impl WordsFault {
 pub enum Command {
     /// Decides the five properties of the algebra of an expression file; `net` isn't there yet.
     Check { file: usize, net: Option<usize> },
+    /// Finds link-state routes for every destination of a network file, with so many workers.
+    Route { file: usize, net: usize, workers: u32 },
 }
 
 /// The command that the words after the program's name mean, or the first fault in them. It takes no
 /// memory.
 ///
-/// For now the one command is the word `check` and the name of an expression file.
+/// For now a command is the word `check` and the name of an expression file, or the word `route` and
+/// the names of an expression file and a network file; routes are found by one worker alone.
 pub fn read_words(words: &[Text]) -> Result<Command, WordsFault>
     ensures command { result ≡ Words words.now }
     ensures places { IfOk result (HasItsWords words.now) }
@@ -40,6 +46,11 @@ pub fn read_words(words: &[Text]) -> Result<Command, WordsFault>
         [command, _file] if command.as_str() == "check" => Ok(Command::Check {
             file: 1,
             net: None,
+        }),
+        [command, _file, _net] if command.as_str() == "route" => Ok(Command::Route {
+            file: 1,
+            net: 2,
+            workers: DEFAULT_WORKERS,
         }),
         _ => Err(WordsFault::UnknownCommand),
     }

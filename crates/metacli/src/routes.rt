@@ -1,0 +1,28 @@
+ghost use Rattle.std.specs.Prelude.{IfOk, map};
+ghost use Rattle.std.specs.List.{AllByRecursion};
+ghost use Rattle.net_graph.specs.Views.{pure_row};
+ghost use Rattle.net_graph.specs.RowTexts.{IsRowOf};
+ghost use Rattle.metacli.specs.Outcome.{AreRoutesOn};
+
+use alg_model::TreeAlgebra;
+use best_first::solve;
+use meta_base::{DestId, List, NoMemory};
+use net_graph::{Net, RouteRow};
+use std::alloc::Global;
+
+// The routes of all nodes for all destinations: for each destination in order, the rows of the table
+// that is made best first, which no walk beats, since labels of an additive algebra are monotone and
+// isotone.
+pub fn all_routes(alloc: Global, net: &Net) -> Result<List<RouteRow>, NoMemory>
+    ensures routes { IfOk result (λ rows. AreRoutesOn net.now (map pure_row rows)) }
+    ensures rows { IfOk result (λ rows. AllByRecursion (IsRowOf net.now) (map pure_row rows)) }
+{
+    let algebra = TreeAlgebra::new(net.alg());
+    let mut rows = Vec::new(alloc);
+    for dest in 0..net.dest_count() {
+        let table = solve(alloc, &algebra, net, DestId(dest as u32))?;
+        let mut found = table.rows.into_vec();
+        rows.append(&mut found)?;
+    }
+    Ok(List::from_vec(rows))
+}
