@@ -2,10 +2,16 @@
 //! optimal, relaxed, stable or best first. It stands on `alg_model` and knows no file format.
 #![tactic(auto)]
 
-ghost use Rattle.std.specs.Prelude.{ℕ, List};
-ghost use Rattle.net_graph.specs.Nets.{PureNet, IsNet};
-ghost use Rattle.net_graph.specs.Tables.{PureRow, BestFirst};
+mod draft;
+mod filed;
+mod groups;
+mod names;
+mod net;
+mod pairs;
+mod parts;
+mod route;
 
-pub fn placeholder()
-    ensures { (net : PureNet) (d : ℕ) (t : List PureRow) → BestFirst net d t → IsNet net → BestFirst net d t }
-{}
+pub use draft::NetDraft;
+pub use net::Net;
+pub use parts::{Arc, Origin};
+pub use route::{DestTable, Route, RouteRow};

@@ -1,0 +1,3 @@
+pub mod Keys
+pub mod GroupLemmas
+pub mod CutLemmas
