@@ -7,6 +7,7 @@ pub mod Views
 pub mod Codes
 pub mod Groups
 pub mod Cuts
+pub mod Dests
 pub mod Parts
 pub mod NetParts
 pub mod RowTexts
