@@ -232,3 +232,19 @@ known_origin net by_arc by_origin name node v k named i absent member bound room
         let more = length_push net.dests name in
         origin_of_known new by_arc by_origin (length net.dests) node v (known_dest net by_arc by_origin name k named e (room e)) (omega arith) i
         (none_past net.alg (length net.nodes) (length net.dests) node net.origins k.is_net.origins_in) member bound
+
+-- a pair is noted exactly where there is such an arc or origin
+pub pair_of_arc : (net : PureNet) (by_arc by_origin : List (ℕ × ℕ)) (tail head : ℕ) → IsKnown net by_arc by_origin → list_any (λ p. eqb p.0 tail && eqb p.1 head) by_arc ≡ has_arc net tail head
+pair_of_arc net by_arc by_origin tail head k = ap (list_any (λ (p : ℕ × ℕ). eqb p.0 tail && eqb p.1 head)) k.arc_pairs ∙ any_mapped arc_pair (λ (p : ℕ × ℕ). eqb p.0 tail && eqb p.1 head) net.arcs
+
+pub pair_of_origin : (net : PureNet) (by_arc by_origin : List (ℕ × ℕ)) (dest node : ℕ) → IsKnown net by_arc by_origin → list_any (λ p. eqb p.0 dest && eqb p.1 node) by_origin ≡ has_origin net dest node
+pair_of_origin net by_arc by_origin dest node k = ap (list_any (λ (p : ℕ × ℕ). eqb p.0 dest && eqb p.1 node)) k.origin_pairs ∙ any_mapped origin_pair (λ (p : ℕ × ℕ). eqb p.0 dest && eqb p.1 node) net.origins
+
+-- the pair of an origin that may be added is not noted
+pub no_origin_pair : (net : PureNet) (by_arc by_origin : List (ℕ × ℕ)) (name : List ℕ) (node : ℕ) → IsKnown net by_arc by_origin → IfSome (number_of net.dests name) (λ d. has_origin net d node ≡ false)
+    → list_any (λ p. eqb p.0 (dest_number net.dests name) && eqb p.1 node) by_origin ≡ false
+no_origin_pair net by_arc by_origin name node k absent = by (number_of net.dests name) absent
+  where
+    by : (o : Option ℕ) → IfSome o (λ d. has_origin net d node ≡ false) → list_any (λ p. eqb p.0 (unwrap_or o (length net.dests)) && eqb p.1 node) by_origin ≡ false
+    by (Some d) a = pair_of_origin net by_arc by_origin d node k ∙ a
+    by None a = pair_of_origin net by_arc by_origin (length net.dests) node k ∙ none_past net.alg (length net.nodes) (length net.dests) node net.origins k.is_net.origins_in

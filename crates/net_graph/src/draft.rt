@@ -74,7 +74,8 @@ impl NetDraft {
         ensures ok { OnOk result (self.new ≡ with_node self.old name.now) }
         ensures err { OnErr result (self.new ≡ self.old) }
     {
-        self.known.nodes.add(self.alloc, name)
+        self.known.nodes.add(self.alloc, name)?;
+        Ok(())
     }
 
     /// Adds an arc, with the next number. Both are nodes and differ, no arc joins them in this
