@@ -1,4 +1,8 @@
-ghost use Rattle.alg_model.specs.Expressions.{Expression, PureCarrier};
+ghost use Rattle.std.specs.Prelude.{◌≡◌, Some};
+ghost use Rattle.alg_model.specs.Application.{IsLabel, App};
+ghost use Rattle.alg_model.specs.Carriers.{carrier_of, In};
+ghost use Rattle.alg_model.specs.Expressions.{Expression, PureCarrier, PureLabel, PureValue};
+ghost use Rattle.alg_model.specs.Formation.{IsFormed};
 ghost use Rattle.alg_model.specs.Preorder.{IsTotalPreorder};
 ghost use Rattle.alg_model.specs.Properties.{Has};
 ghost use Rattle.alg_model.specs.Verdicts.{PureInstance, Violates};
@@ -14,4 +18,11 @@ pub fn violations_refute()
 #[tactic(auto, using(crate::proofs::Preorder::total_preorder))]
 pub fn preference_is_total_preorder()
     ensures { (c : PureCarrier) → IsTotalPreorder c }
+{}
+
+/// What a label of an algebra makes of a value of its carrier is in the carrier too.
+#[tactic(auto, using(crate::proofs::Images::images_in))]
+pub fn images_are_values()
+    ensures { (a : Expression) (l : PureLabel) (v w : PureValue) → IsFormed a → IsLabel a l →
+        In (carrier_of a) v → App a l v ≡ Some w → In (carrier_of a) w }
 {}

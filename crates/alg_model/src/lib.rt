@@ -22,7 +22,7 @@ mod tree;
 pub use alg::{Alg, Shape};
 pub use algebra::{Algebra, TreeAlgebra};
 pub use application::apply;
-pub use laws::{preference_is_total_preorder, violations_refute};
+pub use laws::{images_are_values, preference_is_total_preorder, violations_refute};
 pub use preference::order;
 pub use tree::{Amount, Label, Tree, Value};
 

@@ -1,0 +1,1 @@
+-- No definitions of its own: what makes a table best first is said where networks are.

@@ -1,0 +1,6 @@
+//! Tables of routes that are made best first: what makes them unique, and unbeaten by any walk.
+#![tactic(auto)]
+
+mod laws;
+
+pub use laws::{best_first_is_optimal, best_first_is_unique};
