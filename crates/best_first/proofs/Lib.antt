@@ -4,3 +4,4 @@ pub mod Routes
 pub mod Offers
 pub mod Unique
 pub mod Unbeaten
+pub mod Rows

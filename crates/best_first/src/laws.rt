@@ -1,7 +1,9 @@
 ghost use Rattle.std.specs.Prelude.{◌≡◌, ◌<◌, ℕ, List, length};
+ghost use Rattle.std.specs.List.{AllByRecursion};
 ghost use Rattle.alg_model.specs.Properties.{monotone, isotone};
 ghost use Rattle.net_graph.specs.Nets.{PureNet, IsNet};
 ghost use Rattle.net_graph.specs.Tables.{PureRow, NetHas, BestFirst, Optimal};
+ghost use Rattle.net_graph.specs.RowTexts.{IsRowOf};
 
 use alg_model::{images_are_values, preference_is_total_preorder};
 
@@ -22,3 +24,11 @@ pub fn best_first_is_optimal()
     images_are_values();
     preference_is_total_preorder();
 }
+
+/// The rows of an optimal table are the network's: their nodes, their destinations, the nodes of their
+/// paths and their values.
+#[tactic(auto, using(crate::proofs::Rows::optimal_rows))]
+pub fn optimal_rows_are_the_networks()
+    ensures { (net : PureNet) (dest : ℕ) (t : List PureRow) → IsNet net → dest < length net.dests →
+        Optimal net dest t → AllByRecursion (IsRowOf net) t }
+{}

@@ -3,4 +3,4 @@
 
 mod laws;
 
-pub use laws::{best_first_is_optimal, best_first_is_unique};
+pub use laws::{best_first_is_optimal, best_first_is_unique, optimal_rows_are_the_networks};

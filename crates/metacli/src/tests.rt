@@ -11,11 +11,12 @@ struct Outcome {
     taken: Vec<u8>,
 }
 
-// What stands around a run: the bytes of the file `f`, the calls of the shelf and of the sink that
-// fail, and how much the sink takes at a time.
+// What stands around a run: the bytes of the expression file `f` and of the network file `n`, the
+// calls of the shelf and of the sink that fail, and how much the sink takes at a time.
 #[derive(Clone, Copy)]
 struct Around<'a> {
     file: &'a [u8],
+    net: &'a [u8],
     failing_calls: &'a [u64],
     failing_writes: &'a [u64],
     bite: usize,
@@ -33,6 +34,10 @@ fn run_around(rt: &impl AllocGlobal, words: &[&str], around: Around) -> Result<O
         name: Text::copy(alloc, "f")?,
         bytes: list_of(alloc, around.file)?,
     })?;
+    files.push(MemFile {
+        name: Text::copy(alloc, "n")?,
+        bytes: list_of(alloc, around.net)?,
+    })?;
     let mut shelf = MemShelf::new(files, list_of(alloc, around.failing_calls)?);
     let failing = list_of(alloc, around.failing_writes)?;
     let mut out = MemSink::new(alloc, 1000, around.bite.max(1), failing)?;
@@ -49,11 +54,17 @@ fn run_around(rt: &impl AllocGlobal, words: &[&str], around: Around) -> Result<O
 
 // A run of these words without a fault.
 fn run(rt: &impl AllocGlobal, words: &[&str], file: &[u8]) -> Result<Outcome, Fail> {
+    run_on(rt, words, file, b"")
+}
+
+// The same with a network.
+fn run_on(rt: &impl AllocGlobal, words: &[&str], file: &[u8], net: &[u8]) -> Result<Outcome, Fail> {
     run_around(
         rt,
         words,
         Around {
             file,
+            net,
             failing_calls: &[],
             failing_writes: &[],
             bite: 100,
@@ -96,7 +107,14 @@ fn strict_fails_on_zero(rt: HostRuntime) -> Result<(), Fail> {
 #[test]
 fn words_are_refused(rt: HostRuntime) -> Result<(), Fail> {
     let none: &[&str] = &[];
-    for words in [none, &["walk", "f"], &["check"], &["check", "f", "f"]] {
+    for words in [
+        none,
+        &["walk", "f"],
+        &["check"],
+        &["check", "f", "n"],
+        &["route", "f"],
+        &["route", "f", "n", "n"],
+    ] {
         let outcome = run(&rt, words, b"main add(1..10);")?;
         assert_eq!(rt; outcome.taken.as_slice(), b"words refused: C2\n".as_slice());
         assert_eq!(rt; outcome.status, 1);
@@ -152,6 +170,7 @@ fn reading_fails(rt: HostRuntime) -> Result<(), Fail> {
     for call in 0..3 {
         let around = Around {
             file: b"main add(1..10);",
+            net: b"",
             failing_calls: &[call],
             failing_writes: &[],
             bite: 100,
@@ -175,6 +194,7 @@ fn writing_fails(rt: HostRuntime) -> Result<(), Fail> {
     for (write, length) in lengths.iter().enumerate() {
         let around = Around {
             file: b"main add(1..10);",
+            net: b"",
             failing_calls: &[],
             failing_writes: &[write as u64],
             bite: 5,
@@ -182,6 +202,84 @@ fn writing_fails(rt: HostRuntime) -> Result<(), Fail> {
         let outcome = run_around(&rt, &["check", "f"], around)?;
         assert_eq!(rt; Some(outcome.taken.as_slice()), ALL_HOLD.get(..*length));
         assert_eq!(rt; outcome.status, 6);
+    }
+    Ok(())
+}
+
+const DIAMOND: &[u8] =
+    b"node a b c d\nlink a b : 1\nlink a c : 1\nlink b d : 1\nlink c d : 1\norigin x at d : 0\n";
+
+#[test]
+fn routes_are_found(rt: HostRuntime) -> Result<(), Fail> {
+    let shortest: &[u8] = b"main add(1..10);";
+    let one: &[u8] = b"main add(1..1);";
+    for (file, net, expected) in [
+        // Equal values go to the shorter path, and then to the smaller node numbers.
+        (one, DIAMOND, "a x 2 a b d\nb x 1 b d\nc x 1 c d\nd x 0 d\n"),
+        (
+            shortest,
+            b"node a b c\nlink a c : 2\nlink a b : 1\nlink b c : 1\norigin x at c : 0\n",
+            "a x 2 a c\nb x 1 b c\nc x 0 c\n",
+        ),
+        (one, b"", ""),
+        (one, b"node a\norigin x at a : 0", "a x 0 a\n"),
+        (
+            shortest,
+            b"node a b c\nlink a b : 3\nlink b a : 3\norigin x at b : 0\n",
+            "a x 3 a b\nb x 0 b\nc x none\n",
+        ),
+        // Two destinations, one of them at two nodes.
+        (
+            shortest,
+            b"node a b\nlink a b : 4\norigin x at b : 7\norigin y at b : 0\norigin x at a : 12\n",
+            "a x 11 a b\nb x 7 b\na y 4 a b\nb y 0 b\n",
+        ),
+    ] {
+        let outcome = run_on(&rt, &["route", "f", "n"], file, net)?;
+        assert_eq!(rt; str::from_utf8(&outcome.taken)?, expected);
+        assert_eq!(rt; outcome.status, 0);
+    }
+    Ok(())
+}
+
+#[test]
+fn networks_are_refused(rt: HostRuntime) -> Result<(), Fail> {
+    let words = ["route", "f", "n"];
+    let outcome = run_on(&rt, &words, b"main add(1..10);", b"edge a b\n")?;
+    assert_eq!(rt; outcome.taken.as_slice(), b"network refused: N1 at line 1\n".as_slice());
+    assert_eq!(rt; outcome.status, 2);
+    let outcome = run_on(&rt, &words, b"main add(1..10);", b"node a b\nlink a b : 11\n")?;
+    assert_eq!(rt; outcome.taken.as_slice(), b"network refused: N1 at line 2\n".as_slice());
+    let outcome = run_on(&rt, &words, b"main", b"edge a b\n")?;
+    assert_eq!(rt; outcome.taken.as_slice(), b"expression refused: X2 at 1:1\n".as_slice());
+    let outcome = run_on(&rt, &["route", "f", "m"], b"main add(1..10);", b"")?;
+    assert_eq!(rt; outcome.taken.as_slice(), b"read fault on the network\n".as_slice());
+    assert_eq!(rt; outcome.status, 5);
+    let long = vec![in rt.alloc(); b'#'; MAX_FILE_BYTES + 1]?;
+    let outcome = run_on(&rt, &words, b"main add(1..10);", &long)?;
+    assert_eq!(rt; outcome.taken.as_slice(), b"too long: the network\n".as_slice());
+    assert_eq!(rt; outcome.status, 8);
+    Ok(())
+}
+
+// Calls 0 to 2 are of the expression, and 3 to 5 of the network.
+#[test]
+fn each_call_may_fail(rt: HostRuntime) -> Result<(), Fail> {
+    for call in 0..7 {
+        let around = Around {
+            file: b"main add(1..1);",
+            net: DIAMOND,
+            failing_calls: &[call],
+            failing_writes: &[],
+            bite: 100,
+        };
+        let outcome = run_around(&rt, &["route", "f", "n"], around)?;
+        let expected = match call {
+            0..=2 => "read fault on the expression\n",
+            3..=5 => "read fault on the network\n",
+            _ => "a x 2 a b d\nb x 1 b d\nc x 1 c d\nd x 0 d\n",
+        };
+        assert_eq!(rt; str::from_utf8(&outcome.taken)?, expected);
     }
     Ok(())
 }
