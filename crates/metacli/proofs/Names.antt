@@ -1,5 +1,5 @@
 -- Names are text, and so are the names of a network.
-use Rattle.std.proofs.Common.{◌≡◌, ℕ, ◌<◌, List, [], ◌∷◌, Bool, true, length, get_or, Some, ◌&&◌, arith, zero, suc}
+use Rattle.std.proofs.Common.{◌≡◌, ℕ, ◌<◌, List, [], ◌∷◌, Bool, true, length, get_or, Some, ◌&&◌, arith, zero, suc, subst}
 use Rattle.std.specs.List.{AllByRecursion, list_all, slice_get}
 use Rattle.std.specs.Str.{IsUtf8, IsAscii}
 use Rattle.std.proofs.lemmas.Str.{IsUtf8-from_ascii}
@@ -16,8 +16,9 @@ name_byte : (c : ℕ) → is_name_byte c ≡ true → c < 128
 name_byte c h = grind (arith, nat_tests)
 
 name_bytes : (cs : List ℕ) → list_all is_name_byte cs ≡ true → IsAscii cs
-name_bytes [] h = λ i. omega arith
-name_bytes (c ∷ cs) h = λ i. elim i [ zero ↦ name_byte c (and_left (is_name_byte c) (list_all is_name_byte cs) h) | suc k ↦ name_bytes cs (and_right (is_name_byte c) (list_all is_name_byte cs) h) k ]
+name_bytes [] h i = omega arith
+name_bytes (c ∷ cs) h zero = name_byte c (and_left (is_name_byte c) (list_all is_name_byte cs) h)
+name_bytes (c ∷ cs) h (suc i) = name_bytes cs (and_right (is_name_byte c) (list_all is_name_byte cs) h) i
 
 pub name_is_text : (name : List ℕ) → is_name name ≡ true → IsUtf8 name
 name_is_text name h = IsUtf8-from_ascii name (name_bytes name (and_right _ (list_all is_name_byte name) h))

@@ -7,14 +7,17 @@ use Rattle.meta_base.specs.declared.limits.TheConstants.{MAX_FILE_BYTES}
 use Rattle.alg_model.specs.Expressions.{Expression}
 use Rattle.raml_syntax.specs.ExprText.{ExprText, IsExprFault}
 use Rattle.raml_syntax.specs.declared.expression.ExprFault.{ExprFault}
+use Rattle.net_graph.specs.Nets.{PureNet}
+use Rattle.topology_file.specs.NetText.{NetText, IsNetFault}
+use Rattle.topology_file.specs.declared.faults.NetFault.{NetFault}
 use Rattle.metacli.specs.Words.{Words}
 use Rattle.metacli.specs.Outcome.{word_at}
 use Rattle.metacli.specs.declared.words.Command.{Command}
-use Rattle.metacli.specs.declared.words.Command.TheVariants.{Check}
+use Rattle.metacli.specs.declared.words.Command.TheVariants.{Check, Route}
 use Rattle.metacli.specs.declared.words.WordsFault.{WordsFault}
 use Rattle.metacli.specs.declared.ended.Ended.{Ended}
 use Rattle.metacli.specs.declared.ended.Answer.{Answer}
-use Rattle.metacli.specs.declared.ended.Answer.TheVariants.{Done, BadExpr, NoMemory}
+use Rattle.metacli.specs.declared.ended.Answer.TheVariants.{Done, BadExpr, BadNet, NoMemory}
 
 -- this was decided, or memory was refused
 abbrev pub IsUnlessMemory : Ended → Answer → Type 0
@@ -31,8 +34,16 @@ pub record IsCheckComplete (bytes : List ℕ) (e : Ended) : Type 0 where
   pub good : (a : Expression) → ExprText bytes a → IsUnlessMemory e Done
   pub bad : (f : ExprFault) → IsExprFault bytes f → IsUnlessMemory e (BadExpr f)
 
+-- the same of two files, of which the expression file is judged first
+pub record IsRouteComplete (bytes net_bytes : List ℕ) (e : Ended) : Type 0 where
+  pub good : (a : Expression) (net : PureNet) → ExprText bytes a → NetText net_bytes a net → IsUnlessMemory e Done
+  pub bad_net : (a : Expression) (f : NetFault) → ExprText bytes a → IsNetFault net_bytes a f → IsUnlessMemory e (BadNet f)
+  pub bad : (f : ExprFault) → IsExprFault bytes f → IsUnlessMemory e (BadExpr f)
+
 abbrev pub CompleteBy : List (List ℕ) → Moment → Moment → Ended → Result Command WordsFault → Type 0
 CompleteBy words old new e (Ok (Check file net)) = (bytes : List ℕ) → IsTold old (word_at words file) bytes → ¬ HasRisen old.faults new.faults → IsCheckComplete bytes e
+CompleteBy words old new e (Ok (Route file net workers)) = (bytes net_bytes : List ℕ) → IsTold old (word_at words file) bytes → IsTold old (word_at words net) net_bytes
+    → ¬ HasRisen old.faults new.faults → IsRouteComplete bytes net_bytes e
 CompleteBy words old new e (Err f) = Unit {0}
 
 abbrev pub IsComplete : List (List ℕ) → Moment → Moment → Ended → Type 0

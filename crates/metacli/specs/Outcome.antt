@@ -1,6 +1,5 @@
 -- What a run comes to, by its words.
-use Rattle.std.specs.Prelude.{◌≡◌, ℕ, ◌+◌, ◌^◌, List, [], ◌∷◌, length, map, Option, Some, None, Result, Ok, Err, slice_index_or}
-use Rattle.std.specs.List.{concat}
+use Rattle.std.specs.Prelude.{◌≡◌, ℕ, ◌+◌, ◌^◌, List, [], ◌∷◌, ◌++◌, length, map, Option, Some, None, Result, Ok, Err, slice_index_or}
 use Rattle.meta_base.specs.Shelf.{Moment}
 use Rattle.alg_model.specs.Expressions.{Expression}
 use Rattle.alg_model.specs.Application.{IsLabel}
@@ -42,7 +41,7 @@ pub record IsChecked (name : List ℕ) (old new : Moment) (e : Ended) : Type 0 w
   pub reads : ReadsExpression name old expression new
   pub ends : IsCheckedBy e expression
   pub no_net : e.net ≡ None
-  pub no_rows : e.rows ≡ []
+  pub no_rows : map pure_row e.rows ≡ []
 
 -- the tables of the destinations from that one on: each is the one that is made best first, and no
 -- walk beats it
@@ -50,34 +49,39 @@ abbrev pub AreTablesFrom : PureNet → ℕ → List (List PureRow) → Type 0
 AreTablesFrom net dest [] = Unit {0}
 AreTablesFrom net dest (table ∷ tables) = BestFirst net dest table × Optimal net dest table × AreTablesFrom net (dest + 1) tables
 
+-- the rows of tables, one table after another
+abbrev pub joined_rows : List (List PureRow) → List PureRow
+joined_rows [] = []
+joined_rows (table ∷ tables) = table ++ joined_rows tables
+
 -- the rows are those of the tables of all destinations in order
 pub record AreRoutesOn (net : PureNet) (rows : List PureRow) : Type 0 where
   pub tables : List (List PureRow)
   pub are : AreTablesFrom net 0 tables
   pub count : length tables ≡ length net.dests
-  pub joined : rows ≡ concat tables
+  pub joined : rows ≡ joined_rows tables
 
 -- what was decided on a network: its routes, unless memory was refused
-abbrev pub IsRoutedAs : PureNet → Ended → Answer → Type 0
-IsRoutedAs net e Done = AreRoutesOn net (map pure_row e.rows)
-IsRoutedAs net e NoMemory = e.rows ≡ []
-IsRoutedAs net e _ = ⊥
+abbrev pub IsRoutedAs : PureNet → List PureRow → Answer → Type 0
+IsRoutedAs net rows Done = AreRoutesOn net rows
+IsRoutedAs net rows NoMemory = rows ≡ []
+IsRoutedAs net rows _ = ⊥
 
 -- without a network the run ends as reading did
-abbrev pub IsRoutedBy : Ended → Result PureNet Answer → Type 0
-IsRoutedBy e (Ok net) = (e.net ≡ Some net) × IsRoutedAs net e e.decided
-IsRoutedBy e (Err answer) = (e.net ≡ None) × (e.rows ≡ []) × (e.decided ≡ answer)
+abbrev pub IsRoutedTo : Result PureNet Answer → Option PureNet → List PureRow → Answer → Type 0
+IsRoutedTo (Ok net) there rows decided = (there ≡ Some net) × IsRoutedAs net rows decided
+IsRoutedTo (Err answer) there rows decided = (there ≡ None) × (rows ≡ []) × (decided ≡ answer)
 
 -- the network file is read over the algebra, and then the routes are found
 pub record IsRoutedOver (a : Expression) (name : List ℕ) (old new : Moment) (e : Ended) : Type 0 where
   pub network : Result PureNet Answer
   pub reads : ReadsNetwork a name old network new
-  pub ends : IsRoutedBy e network
+  pub ends : IsRoutedTo network e.net (map pure_row e.rows) e.decided
 
 -- without an algebra the network file isn't begun
 abbrev pub IsRoutedAfter : List ℕ → Moment → Moment → Ended → Result Expression Answer → Type 0
 IsRoutedAfter name old new e (Ok a) = (e.alg ≡ Some a) × IsRoutedOver a name old new e
-IsRoutedAfter name old new e (Err answer) = (new ≡ old) × (e.alg ≡ None) × (e.net ≡ None) × (e.rows ≡ []) × (e.decided ≡ answer)
+IsRoutedAfter name old new e (Err answer) = (new ≡ old) × (e.alg ≡ None) × (e.net ≡ None) × (map pure_row e.rows ≡ []) × (e.decided ≡ answer)
 
 -- what route comes to on the expression file and the network file of these names: the first is read,
 -- then the second, and then the routes are found
@@ -95,7 +99,7 @@ pub record IsRefused (f : WordsFault) (old new : Moment) (e : Ended) : Type 0 wh
   pub algebra : e.alg ≡ None
   pub net : e.net ≡ None
   pub verdicts : e.verdicts ≡ None
-  pub rows : e.rows ≡ []
+  pub rows : map pure_row e.rows ≡ []
   pub decided : e.decided ≡ BadWords f
 
 -- the word at a place

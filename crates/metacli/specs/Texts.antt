@@ -1,5 +1,5 @@
 -- The printed text of what was decided, and what of it was written.
-use Rattle.std.specs.Prelude.{◌≡◌, ℕ, ◌^◌, List, [], ◌++◌, map, Option, Some, None, take, codes, decimal}
+use Rattle.std.specs.Prelude.{◌≡◌, ℕ, ◌^◌, List, [], ◌++◌, map, Option, Some, None, Result, Ok, Err, take, codes, decimal}
 use Rattle.std.specs.List.{concat, AllByRecursion}
 use Rattle.meta_base.specs.Sink.{Held, Appended, AppendedPart}
 use Rattle.meta_base.specs.declared.ids.Which.{Which}
@@ -128,6 +128,16 @@ abbrev pub CanPrintDone : Ended → Option Command → Type 0
 CanPrintDone e (Some (Check file net)) = CanPrintChecked e.alg e.verdicts
 CanPrintDone e (Some (Route file net workers)) = CanPrintRouted e.net (map pure_row e.rows)
 CanPrintDone e None = ⊥
+
+-- the rows that were found are the network's
+abbrev pub CanPrintFound : PureNet → List PureRow → Answer → Type 0
+CanPrintFound net rows Done = AllByRecursion (IsRowOf net) rows
+CanPrintFound net rows WriteFault = ⊥
+CanPrintFound net rows answer = Unit {0}
+
+abbrev pub CanPrintTo : Result PureNet Answer → Option PureNet → List PureRow → Answer → Type 0
+CanPrintTo (Ok net) there rows decided = CanPrintFound net rows decided
+CanPrintTo (Err answer) there rows decided = Unit {0}
 
 abbrev pub IsPrintableAs : Ended → Answer → Type 0
 IsPrintableAs e Done = CanPrintDone e e.command

@@ -4,6 +4,7 @@
 
 mod ended;
 mod inference;
+mod routes;
 mod text;
 mod top;
 mod verdict;

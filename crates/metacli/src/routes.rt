@@ -5,7 +5,7 @@ ghost use Rattle.net_graph.specs.RowTexts.{IsRowOf};
 ghost use Rattle.metacli.specs.Outcome.{AreRoutesOn};
 
 use alg_model::TreeAlgebra;
-use best_first::solve;
+use best_first::{best_first_is_optimal, optimal_rows_are_the_networks, solve};
 use meta_base::{DestId, List, NoMemory};
 use net_graph::{Net, RouteRow};
 use std::alloc::Global;
@@ -17,6 +17,8 @@ pub fn all_routes(alloc: Global, net: &Net) -> Result<List<RouteRow>, NoMemory>
     ensures routes { IfOk result (λ rows. AreRoutesOn net.now (map pure_row rows)) }
     ensures rows { IfOk result (λ rows. AllByRecursion (IsRowOf net.now) (map pure_row rows)) }
 {
+    best_first_is_optimal();
+    optimal_rows_are_the_networks();
     let algebra = TreeAlgebra::new(net.alg());
     let mut rows = Vec::new(alloc);
     for dest in 0..net.dest_count() {

@@ -246,18 +246,38 @@ fn routes_are_found(rt: HostRuntime) -> Result<(), Fail> {
 fn networks_are_refused(rt: HostRuntime) -> Result<(), Fail> {
     let words = ["route", "f", "n"];
     let outcome = run_on(&rt, &words, b"main add(1..10);", b"edge a b\n")?;
-    assert_eq!(rt; outcome.taken.as_slice(), b"network refused: N1 at line 1\n".as_slice());
+    assert_eq!(rt;
+        outcome.taken.as_slice(),
+        b"network refused: N1 at line 1\n".as_slice()
+    );
     assert_eq!(rt; outcome.status, 2);
-    let outcome = run_on(&rt, &words, b"main add(1..10);", b"node a b\nlink a b : 11\n")?;
-    assert_eq!(rt; outcome.taken.as_slice(), b"network refused: N1 at line 2\n".as_slice());
+    let outcome = run_on(
+        &rt,
+        &words,
+        b"main add(1..10);",
+        b"node a b\nlink a b : 11\n",
+    )?;
+    assert_eq!(rt;
+        outcome.taken.as_slice(),
+        b"network refused: N1 at line 2\n".as_slice()
+    );
     let outcome = run_on(&rt, &words, b"main", b"edge a b\n")?;
-    assert_eq!(rt; outcome.taken.as_slice(), b"expression refused: X2 at 1:1\n".as_slice());
+    assert_eq!(rt;
+        outcome.taken.as_slice(),
+        b"expression refused: X2 at 1:1\n".as_slice()
+    );
     let outcome = run_on(&rt, &["route", "f", "m"], b"main add(1..10);", b"")?;
-    assert_eq!(rt; outcome.taken.as_slice(), b"read fault on the network\n".as_slice());
+    assert_eq!(rt;
+        outcome.taken.as_slice(),
+        b"read fault on the network\n".as_slice()
+    );
     assert_eq!(rt; outcome.status, 5);
     let long = vec![in rt.alloc(); b'#'; MAX_FILE_BYTES + 1]?;
     let outcome = run_on(&rt, &words, b"main add(1..10);", &long)?;
-    assert_eq!(rt; outcome.taken.as_slice(), b"too long: the network\n".as_slice());
+    assert_eq!(rt;
+        outcome.taken.as_slice(),
+        b"too long: the network\n".as_slice()
+    );
     assert_eq!(rt; outcome.status, 8);
     Ok(())
 }

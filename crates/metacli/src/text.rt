@@ -9,7 +9,7 @@ ghost use Rattle.alg_model.specs.Application.{IsLabel, App};
 ghost use Rattle.alg_model.specs.Texts.{value_text, label_text};
 ghost use Rattle.net_graph.specs.Nets.{is_name};
 ghost use Rattle.net_graph.specs.Views.{pure_row};
-ghost use Rattle.net_graph.specs.RowTexts.{AreNodesOf, IsRowOf, node_text, dest_text, path_text, row_text};
+ghost use Rattle.net_graph.specs.RowTexts.{AreNodesOf, IsRowOf, node_text, dest_text, path_text, route_text, row_text};
 ghost use Rattle.metacli.specs.Views.{pure_instance, pure_verdict, pure_verdicts};
 ghost use Rattle.metacli.specs.Texts.{CanPrint, CanPrintVerdict, CanPrintVerdicts, image_text, instance_text, verdict_text, verdicts_text, which_text, refusal_text};
 
@@ -129,7 +129,6 @@ pub fn verdict_lines(alloc: Global, alg: &Alg, verdicts: &Verdicts) -> Result<Te
 }
 
 // Appends a name, all of whose bytes are ASCII.
-#[tactic(auto, using(crate::proofs::Names::name_is_text))]
 fn push_name(out: &mut String, name: &[u8]) -> Result<(), NoMemory>
     requires { is_name name.now ≡ true }
     ensures { OnOk result (string_bytes out.new ≡ string_bytes out.old ++ name.now) }
@@ -144,6 +143,7 @@ fn push_node(out: &mut String, net: &Net, node: NodeId) -> Result<(), NoMemory>
     requires { node.0 < length net.now.nodes }
     ensures { OnOk result (string_bytes out.new ≡ string_bytes out.old ++ node_text net.now node.0) }
 {
+    let _count = net.node_count();
     push_name(out, net.node_name(node))
 }
 
@@ -151,6 +151,7 @@ fn push_dest(out: &mut String, net: &Net, dest: DestId) -> Result<(), NoMemory>
     requires { dest.0 < length net.now.dests }
     ensures { OnOk result (string_bytes out.new ≡ string_bytes out.old ++ dest_text net.now dest.0) }
 {
+    let _count = net.node_count();
     push_name(out, net.dest_name(dest))
 }
 
@@ -169,6 +170,20 @@ fn push_path(out: &mut String, net: &Net, path: &[NodeId]) -> Result<(), NoMemor
     }
 }
 
+// The value and the path of a row, or the word none.
+fn push_route(out: &mut String, net: &Net, row: &RouteRow) -> Result<(), NoMemory>
+    requires { IsRowOf net.now (pure_row row.now) }
+    ensures { OnOk result (string_bytes out.new ≡ string_bytes out.old ++ route_text net.now (pure_row row.now).route) }
+{
+    match &row.route {
+        None => Ok(out.push_str("none")?),
+        Some(route) => {
+            push_value(out, net.alg(), &route.value)?;
+            push_path(out, net, route.path.as_slice())
+        }
+    }
+}
+
 // The line of a row.
 pub fn row_line(alloc: Global, net: &Net, row: &RouteRow) -> Result<Text, NoMemory>
     requires { IsRowOf net.now (pure_row row.now) }
@@ -179,13 +194,7 @@ pub fn row_line(alloc: Global, net: &Net, row: &RouteRow) -> Result<Text, NoMemo
     out.push_str(" ")?;
     push_dest(&mut out, net, row.dest)?;
     out.push_str(" ")?;
-    match &row.route {
-        None => out.push_str("none")?,
-        Some(route) => {
-            push_value(&mut out, net.alg(), &route.value)?;
-            push_path(&mut out, net, route.path.as_slice())?;
-        }
-    }
+    push_route(&mut out, net, row)?;
     out.push_str("\n")?;
     Ok(Text::from_string(out))
 }

@@ -1,18 +1,24 @@
-ghost use Rattle.std.specs.Prelude.{◌≡◌, ◌≢◌, ◌<◌, ◌≤◌, length, [], Some, None, IfOk};
-ghost use Rattle.metacli.specs.declared.ended.Answer.TheVariants.{WriteFault};
-ghost use Rattle.metacli.specs.Reading.{Takes, ReadsExpression};
-ghost use Rattle.metacli.specs.Outcome.{IsChecked, IsEnded, word_at};
+ghost use Rattle.std.specs.Prelude.{◌≡◌, ◌≢◌, ◌<◌, ◌≤◌, length, map, [], Some, None, IfOk};
+ghost use Rattle.std.specs.List.{AllByRecursion};
+ghost use Rattle.net_graph.specs.Views.{pure_row};
+ghost use Rattle.net_graph.specs.RowTexts.{IsRowOf};
+ghost use Rattle.metacli.specs.declared.ended.Answer.TheVariants.{Done, WriteFault};
+ghost use Rattle.metacli.specs.Reading.{Takes, ReadsExpression, ReadsNetwork};
+ghost use Rattle.metacli.specs.Outcome.{IsChecked, IsRouted, IsRoutedTo, IsEnded, word_at};
 ghost use Rattle.metacli.specs.Complete.{IsComplete};
-ghost use Rattle.metacli.specs.Texts.{TextOf, IsPrintable, Written};
+ghost use Rattle.metacli.specs.Texts.{TextOf, IsPrintable, CanPrintDone, CanPrintTo, Written, done_text, rows_text};
 
-use crate::text::{put_lines, refusal_line, verdict_lines};
+use crate::routes::all_routes;
+use crate::text::{put_lines, refusal_line, row_line, verdict_lines};
 use crate::{Answer, Command, Ended, read_words, verdicts};
 use alg_model::Alg;
 use meta_base::{
     Failed, Gate, List, MAX_FILE_BYTES, NoMemory, Shelf, Sink, TakeError, Text, Which, take_all,
 };
-use raml_syntax::{AlgError, read_alg};
+use net_graph::{Net, RouteRow};
+use raml_syntax::{AlgError, one_text_one_algebra, read_alg};
 use std::alloc::Global;
+use topology_file::{NetError, one_text_one_network, read_net};
 
 /// All that the program does: it reads what the words mean, reads the files that they name, decides,
 /// and writes what was decided.
@@ -31,6 +37,8 @@ pub fn run_meta<R: AllocGlobal, S: Shelf, K: Sink, G: Gate>(
     ensures complete { IsComplete words.now (S.now_is shelf.old) (S.now_is shelf.new) result }
     ensures written { Written (K.holds out.old) (TextOf result) (K.holds out.new) result.decided result.answer }
 {
+    one_text_one_algebra();
+    one_text_one_network();
     let mut ended = decide(rt.alloc(), words, shelf);
     ended.answer = print(rt.alloc(), out, &ended);
     ended
@@ -42,11 +50,9 @@ fn decide<S: Shelf>(alloc: Global, words: &[Text], shelf: &mut S) -> Ended
     ensures printable { IsPrintable result }
 {
     match read_words(words) {
-        Ok(command @ Command::Check { file, .. }) => {
-            check(alloc, command, name_at(words, file), shelf)
-        }
-        Ok(command @ Command::Route { file, net, .. }) => {
-            route(alloc, command, name_at(words, file), name_at(words, net), shelf)
+        Ok(Command::Check { file, net }) => check(alloc, words, file, net, shelf),
+        Ok(Command::Route { file, net, workers }) => {
+            route(alloc, words, file, net, workers, shelf)
         }
         Err(fault) => refused(alloc, None, Answer::BadWords(fault)),
     }
@@ -75,24 +81,31 @@ fn refused(alloc: Global, command: Option<Command>, answer: Answer) -> Ended
     }
 }
 
-// What `check` comes to on the expression file of that name.
+// What `check` comes to on the expression file of the name at `file`.
 #[tactic(auto, using(crate::proofs::Printable::printable))]
-fn check<S: Shelf>(alloc: Global, command: Command, name: &str, shelf: &mut S) -> Ended
-    requires { IsCheck command }
-    ensures command { result.command ≡ Some command }
-    ensures checked { IsChecked name.now (S.now_is shelf.old) (S.now_is shelf.new) result }
+fn check<S: Shelf>(
+    alloc: Global,
+    words: &[Text],
+    file: usize,
+    net: Option<usize>,
+    shelf: &mut S,
+) -> Ended
+    requires { file < length words.now }
+    ensures command { result.command ≡ Some (Command.Check file net) }
+    ensures checked { IsChecked (word_at words.now file) (S.now_is shelf.old) (S.now_is shelf.new) result }
     ensures printable { IsPrintable result }
 {
-    let alg = match read_expression(alloc, shelf, name) {
+    let command = Some(Command::Check { file, net });
+    let alg = match read_expression(alloc, shelf, name_at(words, file)) {
         Ok(alg) => alg,
-        Err(answer) => return refused(alloc, Some(command), answer),
+        Err(answer) => return refused(alloc, command, answer),
     };
     let (verdicts, decided) = match verdicts(alloc, &alg) {
         Ok(verdicts) => (Some(verdicts), Answer::Done),
         Err(NoMemory) => (None, Answer::NoMemory),
     };
     Ended {
-        command: Some(command),
+        command,
         alg: Some(alg),
         net: None,
         verdicts,
@@ -102,55 +115,50 @@ fn check<S: Shelf>(alloc: Global, command: Command, name: &str, shelf: &mut S) -
     }
 }
 
-// What `route` comes to on the files of these names.
+// What `route` comes to on the files of the names at `file` and `net`.
 fn route<S: Shelf>(
     alloc: Global,
-    command: Command,
-    file: &str,
-    net: &str,
+    words: &[Text],
+    file: usize,
+    net: usize,
+    workers: u32,
     shelf: &mut S,
 ) -> Ended
-    requires { IsRoute command }
-    ensures command { result.command ≡ Some command }
-    ensures routed { IsRouted file.now net.now (S.now_is shelf.old) (S.now_is shelf.new) result }
+    requires file { file < length words.now }
+    requires net { net < length words.now }
+    ensures command { result.command ≡ Some (Command.Route file net workers) }
+    ensures routed { IsRouted (word_at words.now file) (word_at words.now net) (S.now_is shelf.old) (S.now_is shelf.new) result }
     ensures printable { IsPrintable result }
 {
-    match read_expression(alloc, shelf, file) {
-        Ok(alg) => route_over(alloc, command, alg, net, shelf),
-        Err(answer) => refused(alloc, Some(command), answer),
-    }
-}
-
-// What `route` comes to on the network file of that name, over the algebra.
-fn route_over<S: Shelf>(
-    alloc: Global,
-    command: Command,
-    alg: Alg,
-    name: &str,
-    shelf: &mut S,
-) -> Ended
-    requires { IsRoute command }
-    ensures command { result.command ≡ Some command }
-    ensures algebra { result.alg ≡ Some alg }
-    ensures routed { IsRoutedOver alg name.now (S.now_is shelf.old) (S.now_is shelf.new) result }
-    ensures verdicts { result.verdicts ≡ None }
-    ensures printable { IsPrintable result }
-{
-    let (net, rows, decided) = match read_network(alloc, shelf, &alg, name) {
-        Ok(net) => match all_routes(alloc, &net) {
-            Ok(rows) => (Some(net), rows, Answer::Done),
-            Err(NoMemory) => (Some(net), List::new(alloc), Answer::NoMemory),
-        },
-        Err(answer) => (None, List::new(alloc), answer),
+    let command = Some(Command::Route { file, net, workers });
+    let alg = match read_expression(alloc, shelf, name_at(words, file)) {
+        Ok(alg) => alg,
+        Err(answer) => return refused(alloc, command, answer),
     };
+    let network = read_network(alloc, shelf, &alg, name_at(words, net));
+    let (net, rows, decided) = routed(alloc, network);
     Ended {
-        command: Some(command),
+        command,
         alg: Some(alg),
         net,
         verdicts: None,
         rows,
         decided,
         answer: decided,
+    }
+}
+
+// The network with its routes, and what was decided.
+fn routed(alloc: Global, network: Result<Net, Answer>) -> (Option<Net>, List<RouteRow>, Answer)
+    ensures routed { IsRoutedTo network result.0 (map pure_row result.1) result.2 }
+    ensures printable { CanPrintTo network result.0 (map pure_row result.1) result.2 }
+{
+    match network {
+        Ok(net) => match all_routes(alloc, &net) {
+            Ok(rows) => (Some(net), rows, Answer::Done),
+            Err(NoMemory) => (Some(net), List::new(alloc), Answer::NoMemory),
+        },
+        Err(answer) => (None, List::new(alloc), answer),
     }
 }
 
@@ -209,15 +217,32 @@ fn print<K: Sink>(alloc: Global, out: &mut K, ended: &Ended) -> Answer
     requires { IsPrintable ended.now }
     ensures { Written (K.holds out.old) (TextOf ended.now) (K.holds out.new) ended.now.decided result }
 {
-    match (ended.decided, ended.command, &ended.net) {
-        (Answer::NoMemory, _, _) => write(out, b"out of memory\n", Answer::NoMemory),
-        (Answer::Done, Some(Command::Route { .. }), Some(net)) => {
-            write_rows(alloc, out, net, ended.rows.as_slice())
-        }
-        (decided, _, _) => match text(alloc, ended) {
-            Ok(text) => write(out, text.as_str().as_bytes(), decided),
+    match ended.decided {
+        Answer::NoMemory => write(out, b"out of memory\n", Answer::NoMemory),
+        Answer::Done => print_done(alloc, out, ended),
+        decided => match refusal_line(alloc, decided) {
+            Ok(line) => write(out, line.as_str().as_bytes(), decided),
             Err(NoMemory) => Answer::NoMemory,
         },
+    }
+}
+
+// Writes the text of a command that was carried out, and answers how that went.
+fn print_done<K: Sink>(alloc: Global, out: &mut K, ended: &Ended) -> Answer
+    requires { CanPrintDone ended.now ended.now.command }
+    ensures { Written (K.holds out.old) (done_text ended.now ended.now.command) (K.holds out.new) Done result }
+{
+    match (ended.command, &ended.alg, &ended.verdicts, &ended.net) {
+        (Some(Command::Check { .. }), Some(alg), Some(verdicts), _) => {
+            match verdict_lines(alloc, alg, verdicts) {
+                Ok(text) => write(out, text.as_str().as_bytes(), Answer::Done),
+                Err(NoMemory) => Answer::NoMemory,
+            }
+        }
+        (Some(Command::Route { .. }), _, _, Some(net)) => {
+            write_rows(alloc, out, net, ended.rows.as_slice())
+        }
+        _ => unreachable!(),
     }
 }
 
@@ -247,16 +272,5 @@ fn write<K: Sink>(out: &mut K, text: &[u8], decided: Answer) -> Answer
     match put_lines(out, text) {
         Ok(()) => decided,
         Err(Failed) => Answer::WriteFault,
-    }
-}
-
-// The text of what was decided.
-fn text(alloc: Global, ended: &Ended) -> Result<Text, NoMemory>
-    requires { IsPrintable ended.now }
-    ensures { IfOk result (λ text. text ≡ TextOf ended.now) }
-{
-    match (ended.decided, &ended.alg, &ended.verdicts) {
-        (Answer::Done, Some(alg), Some(verdicts)) => verdict_lines(alloc, alg, verdicts),
-        (answer, _, _) => refusal_line(alloc, answer),
     }
 }

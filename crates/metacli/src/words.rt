@@ -28,9 +28,16 @@ impl WordsFault {
 #[derive(Clone, Copy, Debug, PartialEq, Eq)]
 pub enum Command {
     /// Decides the five properties of the algebra of an expression file; `net` isn't there yet.
-    Check { file: usize, net: Option<usize> },
+    Check {
+        file: usize,
+        net: Option<usize>,
+    },
     /// Finds link-state routes for every destination of a network file, with so many workers.
-    Route { file: usize, net: usize, workers: u32 },
+    Route {
+        file: usize,
+        net: usize,
+        workers: u32,
+    },
 }
 
 /// The command that the words after the program's name mean, or the first fault in them. It takes no

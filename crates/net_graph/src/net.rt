@@ -90,7 +90,8 @@ impl Net {
 
     /// How many destinations there are, at most 64.
     pub fn dest_count(&self) -> usize
-        ensures { result ≡ length self.now.dests }
+        ensures count { result ≡ length self.now.dests }
+        ensures net { IsNet self.now }
     {
         self.known.dests.count()
     }

@@ -4,6 +4,8 @@
 
 mod bytes;
 mod expression;
+mod laws;
 mod tokens;
 
 pub use expression::{AlgError, ExprFault, ExprKind, read_alg};
+pub use laws::one_text_one_algebra;

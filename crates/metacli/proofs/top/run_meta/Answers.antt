@@ -7,4 +7,6 @@ pub returns-clause-ended : goal.returns-clause-ended
 returns-clause-ended g c = reanswered c.args.words.now _ _ c.decide-ended.result c.print-ended.result (Words c.args.words.now) c.decide-ended.ensures.ended
 
 pub returns-clause-complete : goal.returns-clause-complete
-returns-clause-complete g c = complete c.args.words.now _ _ _ (Words c.args.words.now) (returns-clause-ended g c)
+returns-clause-complete g c =
+    complete (record { algebra = c.one_text_one_algebra.ensures; network = c.one_text_one_network.ensures })
+    c.args.words.now _ _ _ (Words c.args.words.now) (returns-clause-ended g c)
