@@ -130,7 +130,7 @@ mod tests {
     fn the_longest_source(rt: HostRuntime) -> Result<(), Fail> {
         let source = vec![in rt.alloc(); b'('; MAX_FILE_BYTES]?;
         let mut tokens = Tokens::new(&source);
-        let mut seen = 0u64;
+        let mut seen = 0usize;
         for _ in 0..MAX_FILE_BYTES {
             if let Some(Ok(_)) = tokens.next() {
                 seen = seen.saturating_add(1);
