@@ -1,0 +1,5 @@
+pub mod Bytes
+pub mod Texts
+pub mod Forms
+pub mod Literals
+pub mod Faults

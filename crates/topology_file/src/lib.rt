@@ -1,0 +1,8 @@
+//! Reads network files: the nodes, arcs and origins that a text gives to an algebra, or the first line
+//! that breaks a rule. It stands on `net_graph`, `sig_text`, `alg_model` and `meta_base`.
+#![tactic(auto)]
+
+mod bytes;
+mod faults;
+
+pub use faults::{NetError, NetFault, NetKind, What};
