@@ -4,5 +4,6 @@
 
 mod bytes;
 mod faults;
+mod texts;
 
 pub use faults::{NetError, NetFault, NetKind, What};

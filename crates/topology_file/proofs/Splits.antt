@@ -1,0 +1,96 @@
+-- How lines and words are taken off the front of a text.
+use Rattle.std.proofs.Common.{◌≡◌, ℕ, ◌<◌, ◌≤◌, suc, Bool, true, false, cond, eqb, not, List, [], ◌∷◌, length, drop, refl, ap, sym, ◌∙◌, subst, arith}
+use Rattle.std.specs.List.{onto_first}
+use Rattle.std.proofs.lemmas.Bool.Decides.{nat_tests}
+use Rattle.topology_file.specs.Bytes.{is_blank, is_word_byte, is_not, front, behind}
+use Rattle.topology_file.specs.Texts.{lines_from, lines_of, ends_word, words_from, words_of}
+
+-- a text that isn't empty is its first line and the lines behind the line feed
+pub lines_split : (c : ℕ) (cs : List ℕ) → lines_of (c ∷ cs) ≡ front (is_not 10) (c ∷ cs) ∷ lines_of (drop 1 (behind (is_not 10) (c ∷ cs)))
+lines_split c [] = by (eqb c 10) refl
+  where
+    by : (b : Bool) → eqb c 10 ≡ b → lines_of (c ∷ []) ≡ front (is_not 10) (c ∷ []) ∷ lines_of (drop 1 (behind (is_not 10) (c ∷ [])))
+    by true e = rw e refl
+    by false e = rw e refl
+lines_split c (d ∷ ds) = by (eqb c 10) refl (lines_split d ds)
+  where
+    by : (b : Bool) → eqb c 10 ≡ b → lines_of (d ∷ ds) ≡ front (is_not 10) (d ∷ ds) ∷ lines_of (drop 1 (behind (is_not 10) (d ∷ ds)))
+        → lines_of (c ∷ d ∷ ds) ≡ front (is_not 10) (c ∷ d ∷ ds) ∷ lines_of (drop 1 (behind (is_not 10) (c ∷ d ∷ ds)))
+    by true e rest = rw e refl
+    by false e rest = rw (e, rest) refl
+
+-- blanks at the front add no word
+pub words_skip : (cs : List ℕ) → words_of cs ≡ words_of (behind is_blank cs)
+words_skip [] = refl
+words_skip (c ∷ cs) = by (is_blank c) refl (words_skip cs)
+  where
+    by : (b : Bool) → is_blank c ≡ b → words_of cs ≡ words_of (behind is_blank cs) → words_of (c ∷ cs) ≡ words_of (behind is_blank (c ∷ cs))
+    by true e rest = rw e rest
+    by false e rest = let same : behind is_blank (c ∷ cs) ≡ c ∷ cs = rw e refl in ap words_of (sym same)
+
+-- a word at the front is all up to the first blank
+pub words_word : (c : ℕ) (cs : List ℕ) → is_blank c ≡ false → words_of (c ∷ cs) ≡ front is_word_byte (c ∷ cs) ∷ words_of (behind is_word_byte (c ∷ cs))
+words_word c [] e = rw e refl
+words_word c (d ∷ ds) e = by (is_blank d) refl (words_word d ds)
+  where
+    by : (b : Bool) → is_blank d ≡ b → (is_blank d ≡ false → words_of (d ∷ ds) ≡ front is_word_byte (d ∷ ds) ∷ words_of (behind is_word_byte (d ∷ ds)))
+        → words_of (c ∷ d ∷ ds) ≡ front is_word_byte (c ∷ d ∷ ds) ∷ words_of (behind is_word_byte (c ∷ d ∷ ds))
+    by true f rest =
+        let first : words_of (c ∷ d ∷ ds) ≡ (c ∷ []) ∷ words_of (d ∷ ds) = rw (e, f) refl in
+        let word : front is_word_byte (c ∷ d ∷ ds) ≡ c ∷ [] = rw (e, f) refl in
+        let after : behind is_word_byte (c ∷ d ∷ ds) ≡ d ∷ ds = rw (e, f) refl in
+        cc
+    by false f rest =
+        let first : words_of (c ∷ d ∷ ds) ≡ onto_first c (words_of (d ∷ ds)) = rw (e, f) refl in
+        let others : onto_first c (words_of (d ∷ ds)) ≡ (c ∷ front is_word_byte (d ∷ ds)) ∷ words_of (behind is_word_byte (d ∷ ds)) = ap (onto_first c) (rest f) in
+        let word : front is_word_byte (c ∷ d ∷ ds) ≡ c ∷ front is_word_byte (d ∷ ds) = rw e refl in
+        let after : behind is_word_byte (c ∷ d ∷ ds) ≡ behind is_word_byte (d ∷ ds) = rw e refl in
+        cc
+
+-- what comes after blanks begins with none
+pub behind_stops : (cs : List ℕ) (c : ℕ) (rest : List ℕ) → behind is_blank cs ≡ c ∷ rest → is_blank c ≡ false
+behind_stops [] c rest e = absurd (cc)
+behind_stops (d ∷ ds) c rest e = by (is_blank d) refl e (behind_stops ds c rest)
+  where
+    by : (b : Bool) → is_blank d ≡ b → cond b (behind is_blank ds) (d ∷ ds) ≡ c ∷ rest → (behind is_blank ds ≡ c ∷ rest → is_blank c ≡ false) → is_blank c ≡ false
+    by true f g stops = stops g
+    by false f g stops = let h : d ≡ c = cc in rw (← h) f
+
+pub length-behind : (p : ℕ → Bool) (cs : List ℕ) → length (behind p cs) ≤ length cs
+length-behind p [] = omega arith
+length-behind p (c ∷ cs) = by (p c) (length-behind p cs)
+  where
+    by : (b : Bool) → length (behind p cs) ≤ length cs → length (cond b (behind p cs) (c ∷ cs)) ≤ length (c ∷ cs)
+    by true h = omega arith
+    by false h = omega arith
+
+-- the word at the front of what isn't blank, and the words behind it
+pub words_first : (text rest : List ℕ) → rest ≡ behind is_blank text → eqb (length rest) 0 ≡ false → words_of text ≡ front is_word_byte rest ∷ words_of (behind is_word_byte rest)
+words_first text [] e h = absurd (cc)
+words_first text (c ∷ cs) e h = words_skip text ∙ ap words_of (sym e) ∙ words_word c cs (behind_stops text c cs (sym e))
+
+pub words_none : (text rest : List ℕ) → rest ≡ behind is_blank text → eqb (length rest) 0 ≡ true → words_of text ≡ []
+words_none text [] e h = words_skip text ∙ ap words_of (sym e)
+words_none text (c ∷ cs) e h = absurd (grind (arith, nat_tests))
+
+-- behind a word stands less than the text
+pub word_shorter : (text rest : List ℕ) → rest ≡ behind is_blank text → eqb (length rest) 0 ≡ false → length (behind is_word_byte rest) < length text
+word_shorter text [] e h = absurd (cc)
+word_shorter text (c ∷ cs) e h =
+    let stops = behind_stops text c cs (sym e) in
+    let shorter = length-behind is_word_byte cs in
+    let whole : length (c ∷ cs) ≤ length text = subst (λ (x : List ℕ). length x ≤ length text) (sym e) (length-behind is_blank text) in
+    rw stops (omega arith)
+
+-- the first line of a text, and the lines behind its line feed, if it has one
+pub lines_first : (text line rest : List ℕ) → eqb (length text) 0 ≡ false → line ≡ front (is_not 10) text → rest ≡ behind (is_not 10) text → lines_of text ≡ line ∷ lines_of (drop 1 rest)
+lines_first [] line rest h f b = absurd (cc)
+lines_first (c ∷ cs) line rest h f b = lines_split c cs ∙ rw (← f, ← b) refl
+
+-- behind a line stands less than the text
+pub line_shorter : (text rest : List ℕ) → eqb (length text) 0 ≡ false → rest ≡ behind (is_not 10) text → length (drop 1 rest) < length text
+line_shorter [] rest h b = absurd (cc)
+line_shorter (c ∷ cs) [] h b = omega arith
+line_shorter (c ∷ cs) (d ∷ ds) h b =
+    let whole : length (d ∷ ds) ≤ length (c ∷ cs) = subst (λ (x : List ℕ). length x ≤ length (c ∷ cs)) (sym b) (length-behind (is_not 10) (c ∷ cs)) in
+    omega arith
