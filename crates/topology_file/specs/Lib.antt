@@ -3,3 +3,5 @@ pub mod Texts
 pub mod Forms
 pub mod Literals
 pub mod Faults
+pub mod Views
+pub mod NetText

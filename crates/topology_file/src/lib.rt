@@ -4,6 +4,10 @@
 
 mod bytes;
 mod faults;
+mod forms;
+mod laws;
+mod literals;
 mod texts;
 
 pub use faults::{NetError, NetFault, NetKind, What};
+pub use laws::one_text_one_network;
