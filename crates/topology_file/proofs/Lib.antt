@@ -1,3 +1,5 @@
 pub mod Splits
 pub mod Numbers
 pub mod Runs
+pub mod Networks
+pub mod Outcomes

@@ -5,3 +5,4 @@ pub mod Literals
 pub mod Faults
 pub mod Views
 pub mod NetText
+pub mod LineErrors

@@ -1,5 +1,5 @@
 -- Which network a text means over an algebra, and which fault refuses it.
-use Rattle.std.specs.Prelude.{◌≡◌, ℕ, ◌+◌, List, [], ◌∷◌, ◌++◌, Bool, true, false, ◌==◌, ◌||◌, nat_lt, nat_le, if◌then◌else◌, is_some, Option, Some, None, Result, Ok, Err, length}
+use Rattle.std.specs.Prelude.{◌≡◌, ℕ, ◌+◌, List, [], ◌∷◌, ◌++◌, Bool, true, false, ◌==◌, ◌||◌, nat_lt, nat_le, if◌then◌else◌, ◌⊎◌, is_some, Option, Some, None, Result, Ok, Err, length}
 use Rattle.alg_model.specs.Expressions.{Expression, PureLabel, PureValue}
 use Rattle.net_graph.specs.Nets.{PureNet, number_of, has_arc, has_origin, max_nodes, max_arcs, max_dests}
 use Rattle.net_graph.specs.Lines.{empty_net, with_node, with_arc, with_origin}
@@ -106,9 +106,9 @@ abbrev pub IsRefusedBy : List ℕ → Expression → NetError → Type 0
 IsRefusedBy text alg (Bad f) = IsNetFault text alg f
 IsRefusedBy text alg NoMemory = Unit {0}
 
--- a text means at most one network over an algebra, and none where it has a fault, which is one only
-abbrev pub OneTextOneNetwork : Type 0
-OneTextOneNetwork = (text : List ℕ) (alg : Expression)
-    → ((m n : PureNet) → NetText text alg m → NetText text alg n → m ≡ n)
-    × ((n : PureNet) (f : NetFault) → NetText text alg n → IsNetFault text alg f → ⊥)
-    × ((f g : NetFault) → IsNetFault text alg f → IsNetFault text alg g → f ≡ g)
+-- a text means one network over an algebra or has a fault there, not both, and only one of its kind
+pub record HasOneOutcome (text : List ℕ) (alg : Expression) : Type 0 where
+  pub outcome : ((net : PureNet) × NetText text alg net) ⊎ ((f : NetFault) × IsNetFault text alg f)
+  pub one_network : (m n : PureNet) → NetText text alg m → NetText text alg n → m ≡ n
+  pub one_fault : (f g : NetFault) → IsNetFault text alg f → IsNetFault text alg g → f ≡ g
+  pub not_both : (net : PureNet) (f : NetFault) → NetText text alg net → IsNetFault text alg f → ⊥

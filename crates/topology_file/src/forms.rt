@@ -4,7 +4,7 @@ ghost use Rattle.std.specs.Str.{bytes_eq};
 ghost use Rattle.net_graph.specs.Nets.{is_name_byte, is_name as is_name_of};
 ghost use Rattle.topology_file.specs.Texts.{words_of};
 ghost use Rattle.topology_file.specs.Forms.{line_of, are_names as are_names_of, plain_line as plain_line_of, colon_line as colon_line_of};
-ghost use Rattle.topology_file.specs.Views.{pure_line};
+ghost use Rattle.topology_file.specs.Views.{pure_line, IsNamed};
 
 use crate::bytes::split_at_byte;
 use crate::texts::split_word;
@@ -34,7 +34,8 @@ pub enum Line<'a> {
 
 // What a line asks for that says this. The colon is the first one.
 pub fn line_form(said: &[u8]) -> Line<'_>
-    ensures { pure_line result ≡ line_of said.now }
+    ensures form { pure_line result ≡ line_of said.now }
+    ensures names { IsNamed result }
 {
     match split_at_byte(said, b':') {
         (words, []) => plain_line(words),
@@ -44,7 +45,8 @@ pub fn line_form(said: &[u8]) -> Line<'_>
 
 // A line without a colon.
 fn plain_line(text: &[u8]) -> Line<'_>
-    ensures { pure_line result ≡ plain_line_of (words_of text.now) }
+    ensures form { pure_line result ≡ plain_line_of (words_of text.now) }
+    ensures names { IsNamed result }
 {
     match split_word(text) {
         None => Line::Silent,
@@ -60,7 +62,8 @@ fn plain_line(text: &[u8]) -> Line<'_>
 
 // A line with a colon, by the text before it and the text after it.
 fn colon_line<'a>(text: &'a [u8], literal: &'a [u8]) -> Line<'a>
-    ensures { pure_line result ≡ colon_line_of (words_of text.now) literal.now }
+    ensures form { pure_line result ≡ colon_line_of (words_of text.now) literal.now }
+    ensures names { IsNamed result }
 {
     let Some((word, rest)) = split_word(text) else {
         return Line::Bad;
@@ -82,7 +85,8 @@ fn colon_line<'a>(text: &'a [u8], literal: &'a [u8]) -> Line<'a>
 
 // A line of three words before its colon.
 fn link_line<'a>(word: &[u8], listener: &'a [u8], speaker: &'a [u8], label: &'a [u8]) -> Line<'a>
-    ensures { pure_line result ≡ colon_line_of (word.now ∷ listener.now ∷ speaker.now ∷ []) label.now }
+    ensures form { pure_line result ≡ colon_line_of (word.now ∷ listener.now ∷ speaker.now ∷ []) label.now }
+    ensures names { IsNamed result }
 {
     if is_word(word, b"link") && is_name(listener) && is_name(speaker) {
         Line::Link {
@@ -103,7 +107,8 @@ fn origin_line<'a>(
     node: &'a [u8],
     value: &'a [u8],
 ) -> Line<'a>
-    ensures { pure_line result ≡ colon_line_of (word.now ∷ dest.now ∷ at.now ∷ node.now ∷ []) value.now }
+    ensures form { pure_line result ≡ colon_line_of (word.now ∷ dest.now ∷ at.now ∷ node.now ∷ []) value.now }
+    ensures names { IsNamed result }
 {
     if is_word(word, b"origin") && is_word(at, b"at") && is_name(dest) && is_name(node) {
         Line::Origin { dest, node, value }

@@ -1,7 +1,9 @@
-ghost use Rattle.topology_file.specs.NetText.{OneTextOneNetwork};
+ghost use Rattle.std.specs.Prelude.{ℕ, List};
+ghost use Rattle.alg_model.specs.Expressions.{Expression};
+ghost use Rattle.topology_file.specs.NetText.{HasOneOutcome};
 
-/// One text means at most one network over an algebra, or has one fault there, and not both.
-#[tactic(auto, using(crate::proofs::Runs::one_outcome))]
+/// Each text means one network over an algebra, or has one fault there, and not both. So what
+/// [`crate::read_net`] answers, where it isn't for want of memory, is the only answer.
 pub fn one_text_one_network()
-    ensures { OneTextOneNetwork }
+    ensures { (text : List ℕ) (alg : Expression) → HasOneOutcome text alg }
 {}

@@ -7,7 +7,12 @@ mod faults;
 mod forms;
 mod laws;
 mod literals;
+mod network;
 mod texts;
 
 pub use faults::{NetError, NetFault, NetKind, What};
 pub use laws::one_text_one_network;
+pub use network::read_net;
+
+#[cfg(test)]
+mod tests;
