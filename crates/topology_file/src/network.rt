@@ -9,11 +9,11 @@ ghost use Rattle.topology_file.specs.declared.network.LineError.TheVariants.{NoM
 
 use crate::forms::{Line, line_form};
 use crate::literals::{label_in, value_in};
-use net_graph::{Net, NetDraft};
 use crate::texts::{said, split_line, split_word};
 use crate::{NetError, NetFault, NetKind};
 use alg_model::Alg;
 use meta_base::{MAX_FILE_BYTES, NoMemory, NodeId};
+use net_graph::{Net, NetDraft};
 use std::alloc::Global;
 
 // The most bytes of a line as it is cut.
