@@ -1,3 +1,8 @@
+<<<<<<< HEAD
+=======
+ghost use Rattle.std.specs.Prelude.{◌<◌};
+
+>>>>>>> 359eec8dbbdb8f7028508d5add27ef44072fdcf9
 use super::*;
 use alg_model::{Alg, Label, Tree, Value};
 use meta_base::{ArcId, DestId, MAX_FILE_BYTES, NoMemory, NodeId};
@@ -18,19 +23,44 @@ fn read(alloc: Global, text: &[u8]) -> Result<Result<Net, NetError>, Fail> {
 fn bad_line(alloc: Global, text: &[u8]) -> Result<u32, Fail> {
     match read(alloc, text)? {
         Ok(_) => Ok(0),
+<<<<<<< HEAD
         Err(NetError::Bad(NetFault {
             line,
             kind: NetKind::BadLine,
         })) => Ok(line),
+=======
+        Err(
+            NetError::Bad(
+                NetFault {
+                    line,
+                    kind: NetKind::BadLine,
+                },
+            ),
+        ) => Ok(line),
+>>>>>>> 359eec8dbbdb8f7028508d5add27ef44072fdcf9
         Err(_) => Err("another fault".into()),
     }
 }
 
+<<<<<<< HEAD
 #[test]
 fn reads_a_network(rt: HostRuntime) -> Result<(), Fail> {
     let text = b"# three nodes\r\nnode a b\tc.1_X-\r\n\n \t \nlink a b : 3 # of the fastest\r\n\tlink b a: 9\nlink\tb c.1_X-:007\t\norigin x at b : 0\norigin y at a : 4294967295\norigin x at c.1_X- :12";
     let net = read(rt.alloc(), text)??;
     assert_eq!(rt; (net.node_count(), net.arc_count(), net.dest_count()), (3, 3, 2));
+=======
+// A network in all its forms.
+const NETWORK: &[u8] =
+    b"# three nodes\r\nnode a b\tc.1_X-\r\n\n \t \nlink a b : 3 # of the fastest\r\n\tlink b a: 9\nlink\tb c.1_X-:007\t\norigin x at b : 0\norigin y at a : 4294967295\norigin x at c.1_X- :12";
+
+#[test]
+fn reads_a_network(rt: HostRuntime) -> Result<(), Fail> {
+    let net = read(rt.alloc(), NETWORK)??;
+    assert_eq!(rt;
+        (net.node_count(), net.arc_count(), net.dest_count()),
+        (3, 3, 2)
+    );
+>>>>>>> 359eec8dbbdb8f7028508d5add27ef44072fdcf9
     assert_eq!(rt; net.node_named(b"c.1_X-"), Some(NodeId(2)));
     assert_eq!(rt; net.dest_named(b"y"), Some(DestId(1)));
     let arc = net.arc(ArcId(2));
@@ -45,6 +75,7 @@ fn reads_a_network(rt: HostRuntime) -> Result<(), Fail> {
     Ok(())
 }
 
+<<<<<<< HEAD
 #[test]
 fn refuses_the_first_bad_line(rt: HostRuntime) -> Result<(), Fail> {
     let rows: [(&[u8], u32); 45] = [
@@ -97,6 +128,37 @@ fn refuses_the_first_bad_line(rt: HostRuntime) -> Result<(), Fail> {
     for (text, line) in rows {
         assert_eq!(rt; bad_line(rt.alloc(), text)?, line, "{text:?}");
     }
+=======
+// Rows of texts, each with the number of its first bad line in front, or 0 where there is none.
+const FORMS: &[u8] =
+    b"0|0node a|4\r\n# node a\n\nnode|1nodes a|1Node a|2node a\nboth a a : 1|1node a:|1:|1node a\x0bb|1node a\rb|1node a\r\r|1node a\r# b|0node a # b\r|1node a\xc3\xa9|0node abcdefghijklmnopqrstuvwxyz012345|1node abcdefghijklmnopqrstuvwxyz0123456|2node a\nnode b a|1node a b a";
+
+const LINKS: &[u8] =
+    b"0node a b\nlink a b : 1\nlink b a : 1|2node a b\nlink a b 1|2node a b\nlink a : 1|2node a b\nlink a b b : 1|2node a b\nlink a b :|2node a b\nlink a b : |2node a b\nlink a b : 1 2|2node a b\nlink a b : 1 : 2|2node a b\nlink a b : x|2node a b\nlink a b : +1|2node a b\nlink a b : 0|2node a b\nlink a b : 10|0node a b\nlink a b : 9|2node a b\nlink a c : 1|2node a b\nlink c a : 1|2node a b\nlink a a : 1|4node a b\nlink a b : 1\n\nlink a b : 2";
+
+const ORIGINS: &[u8] =
+    b"0node a\norigin a at a : 0\norigin b at a : 0|2node a\norigin a at a 0|2node a\norigin a on a : 0|2node a\norigin a at : 0|2node a\norigin a at a a : 0|2node a\norigin a/b at a : 0|2node a\norigin a at b : 0|2node a\norigin a at a : 4294967296|2node a\norigin a at a : 18446744073709551617|3node a\norigin a at a : 0\norigin a at a : 1";
+
+// How many rows have another bad line than the one in front.
+fn wrong_rows(alloc: Global, rows: &[u8]) -> Result<u32, Fail> {
+    let mut wrong = 0_u32;
+    for row in rows.split(|byte| *byte == b'|') {
+        let [digit, text @ ..] = row else {
+            return Err("a row without a number".into());
+        };
+        if bad_line(alloc, text)? != u32::from(digit.wrapping_sub(b'0')) {
+            wrong = wrong.saturating_add(1);
+        }
+    }
+    Ok(wrong)
+}
+
+#[test]
+fn refuses_the_first_bad_line(rt: HostRuntime) -> Result<(), Fail> {
+    assert_eq!(rt; wrong_rows(rt.alloc(), FORMS)?, 0);
+    assert_eq!(rt; wrong_rows(rt.alloc(), LINKS)?, 0);
+    assert_eq!(rt; wrong_rows(rt.alloc(), ORIGINS)?, 0);
+>>>>>>> 359eec8dbbdb8f7028508d5add27ef44072fdcf9
     Ok(())
 }
 
