@@ -5,16 +5,12 @@ use Rattle.std.proofs.lemmas.Bool.Decides.{nat_tests}
 use Rattle.alg_model.specs.Expressions.{Expression, PureLabel, PureValue}
 use Rattle.alg_model.specs.Carriers.{carrier_of, In}
 use Rattle.alg_model.specs.Application.{App, IsLabel}
-use Rattle.alg_model.specs.Formation.{IsFormed}
+use Rattle.alg_model.specs.Laws.{images_in}
 use Rattle.alg_model.specs.Properties.{PureProperty, monotone, isotone, IsMonotone, IsIsotone, Has}
 use Rattle.net_graph.specs.Nets.{PureArc, PureOrigin, PureNet, IsNet, IsArcOf, IsOriginOf, is_arc_between, is_origin_at, has_arc, has_origin, label_between, origin_value}
 use Rattle.net_graph.specs.Walks.{Walk, Weight, along}
 use Rattle.net_graph.specs.Tables.{NetHas, carrier}
 use Rattle.best_first.proofs.Preferred.{IsUnbeatenBy}
-
--- what a label makes of a value of the carrier is in the carrier
-abbrev pub ImagesAreValues : Type 0
-ImagesAreValues = (a : Expression) (l : PureLabel) (v w : PureValue) → IsFormed a → IsLabel a l → In (carrier_of a) v → App a l v ≡ Some w → In (carrier_of a) w
 
 pub of_some : {X : Type 0} (P : X → Type 0) (o : Option X) (x : X) → IfSome o P → o ≡ Some x → P x
 of_some P o x i e = rw e at i
@@ -109,8 +105,8 @@ walk_within net n dest i (j ∷ p) w =
     rw tail at g.0.tail_in
 
 -- what an arc makes of a value is a value of the carrier
-pub along_in : ImagesAreValues → (net : PureNet) → IsNet net → (i j : ℕ) (x : Option PureValue) → IfSome x (In (carrier net)) → IfSome (along net i j x) (In (carrier net))
-along_in f net n i j x h = by (label_between net i j) x (arcs_are net n i j) h
+pub along_in : (net : PureNet) → IsNet net → (i j : ℕ) (x : Option PureValue) → IfSome x (In (carrier net)) → IfSome (along net i j x) (In (carrier net))
+along_in net n i j x h = by (label_between net i j) x (arcs_are net n i j) h
   where
     image : (o : Option PureValue) → ((w : PureValue) → o ≡ Some w → In (carrier net) w) → IfSome o (In (carrier net))
     image None g = tt
@@ -120,16 +116,16 @@ along_in f net n i j x h = by (label_between net i j) x (arcs_are net n i j) h
         → IfSome (option_and_then (λ l. option_and_then (App net.alg l) x) o) (In (carrier net))
     by None x a h = tt
     by (Some l) None a h = tt
-    by (Some l) (Some v) a h = image (App net.alg l v) (λ w e. f net.alg l v w n.formed a.label_in h e)
+    by (Some l) (Some v) a h = image (App net.alg l v) (λ w e. images_in net.alg l v w n.formed a.label_in h e)
 
-pub weight_in : ImagesAreValues → (net : PureNet) → IsNet net → (dest : ℕ) (p : List ℕ) → IfSome (Weight net dest p) (In (carrier net))
-weight_in f net n dest [] = tt
-weight_in f net n dest (i ∷ []) = by (origin_value net dest i) (origins_are net n dest i)
+pub weight_in : (net : PureNet) → IsNet net → (dest : ℕ) (p : List ℕ) → IfSome (Weight net dest p) (In (carrier net))
+weight_in net n dest [] = tt
+weight_in net n dest (i ∷ []) = by (origin_value net dest i) (origins_are net n dest i)
   where
     by : (o : Option PureValue) → IfSome o (IsOrigin net dest i) → IfSome o (In (carrier net))
     by None h = tt
     by (Some v) h = h.value_in
-weight_in f net n dest (i ∷ j ∷ p) = along_in f net n i j (Weight net dest (j ∷ p)) (weight_in f net n dest (j ∷ p))
+weight_in net n dest (i ∷ j ∷ p) = along_in net n i j (Weight net dest (j ∷ p)) (weight_in net n dest (j ∷ p))
 
 -- an arc whose label is monotone makes no value better
 pub along_monotone : (net : PureNet) → NetHas monotone net → (i j : ℕ) (x : Option PureValue) → IfSome x (In (carrier net)) → IsUnbeatenBy (carrier net) x (along net i j x)
