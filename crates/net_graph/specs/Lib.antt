@@ -3,3 +3,11 @@ pub mod Lines
 pub mod Routes
 pub mod Walks
 pub mod Tables
+pub mod Views
+pub mod Codes
+pub mod Groups
+pub mod Cuts
+pub mod Dests
+pub mod Parts
+pub mod NetParts
+pub mod RowTexts

@@ -1,0 +1,5 @@
+pub mod Keys
+pub mod GroupLemmas
+pub mod CutLemmas
+pub mod NetLemmas
+pub mod FiledLemmas

@@ -1,0 +1,24 @@
+use Rattle.std.proofs.Common.{refl, arith}
+use Rattle.net_graph.specs.Groups.{items_at}
+use Rattle.net_graph.proofs.GroupLemmas.{item_at-stand}
+use Rattle.net_graph.proofs.FiledLemmas.{arcs_counted, arc_read}
+use Rattle.net_graph.proofs.net.Net.arc.Goals as goal
+
+pub index-requires : goal.index-requires
+index-requires c =
+    let count = arcs_counted c.self.inside.out c.self.inside.arc_spots.items c.self.invariant.filed.arc_spots in
+    let within = rw (← c.self.view_is) at c.requires in
+    omega (arith, count, within, c.self.inside.arc_spots.ok.0)
+
+pub item-requires : goal.item-requires
+item-requires c =
+    let count = arcs_counted c.self.inside.out c.self.inside.arc_spots.items c.self.invariant.filed.arc_spots in
+    let within = rw (← c.self.view_is, ← count) at c.requires in
+    let at = item_at-stand c.self.inside.out c.self.inside.arc_spots.items (items_at c.self.inside.out c.self.inside.arc_spots.items) c.args.id.0 c.index.result.now c.self.invariant.filed.arc_spots within c.index.ensures in
+    rw at.1 refl
+
+pub returns : goal.returns
+returns c =
+    let count = arcs_counted c.self.inside.out c.self.inside.arc_spots.items c.self.invariant.filed.arc_spots in
+    let within = rw (← c.self.view_is, ← count) at c.requires in
+    rw (← c.self.view_is) (arc_read c.self.inside.out c.self.inside.arc_spots.items c.args.id.0 c.index.result.now c.item.result.now c.self.invariant.filed.arc_spots within c.index.ensures c.item.ensures)

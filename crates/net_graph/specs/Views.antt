@@ -1,0 +1,27 @@
+-- What arcs, origins, routes and rows of the program stand for.
+use Rattle.std.specs.Prelude.{ℕ, List, map, option_map}
+use Rattle.alg_model.specs.Views.{pure_value, pure_label}
+use Rattle.net_graph.specs.declared.parts.Arc.{Arc}
+use Rattle.net_graph.specs.declared.parts.Origin.{Origin}
+use Rattle.net_graph.specs.declared.route.Route.{Route}
+use Rattle.net_graph.specs.declared.route.RouteRow.{RouteRow}
+use Rattle.net_graph.specs.declared.route.DestTable.{DestTable}
+use Rattle.net_graph.specs.Nets.{PureArc, PureOrigin}
+use Rattle.net_graph.specs.Routes.{PureRoute}
+use Rattle.net_graph.specs.Tables.{PureRow}
+
+abbrev pub pure_arc : Arc → PureArc
+pure_arc a = record { id = a.id.0; tail = a.tail.0; head = a.head.0; label = pure_label a.label }
+
+abbrev pub pure_origin : Origin → PureOrigin
+pure_origin o = record { node = o.node.0; dest = o.dest.0; value = pure_value o.value }
+
+abbrev pub pure_route : Route → PureRoute
+pure_route r = record { value = pure_value r.value; path = map (λ n. n.0) r.path }
+
+abbrev pub pure_row : RouteRow → PureRow
+pure_row row = record { node = row.node.0; dest = row.dest.0; route = option_map pure_route row.route }
+
+-- the rows of a table
+abbrev pub rows_of : DestTable → List PureRow
+rows_of table = map pure_row table.rows

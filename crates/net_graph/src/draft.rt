@@ -1,0 +1,204 @@
+ghost use Rattle.std.specs.Prelude.{◌≡◌, ◌≢◌, ◌<◌, Some, None, true, false, length, option_map, IfOk, IfSome, OnOk, OnErr};
+ghost use Rattle.meta_base.specs.declared.limits.TheConstants.{MAX_NUMBER};
+ghost use Rattle.alg_model.specs.Views.{pure_value, pure_label};
+ghost use Rattle.alg_model.specs.Carriers.{carrier_of, In};
+ghost use Rattle.alg_model.specs.Application.{IsLabel};
+ghost use Rattle.alg_model.specs.Bounds.{AtMost, LabelAtMost};
+ghost use Rattle.net_graph.specs.Nets.{IsNet, number_of, has_arc, has_origin, is_name, max_nodes, max_arcs, max_dests};
+ghost use Rattle.net_graph.specs.Lines.{empty_net, with_node, with_arc, with_origin};
+
+use crate::filed::{file_by_key, ids_by_head};
+use crate::names::Names;
+use crate::pairs::Pairs;
+use crate::parts::Known;
+use crate::{Arc, Net, Origin};
+use alg_model::{Alg, Label, Value};
+use meta_base::{ArcId, DestId, NoMemory, NodeId};
+use std::alloc::Global;
+use std::marker::Model;
+
+/// A network that is being made, line by line. Contracts see the network that was made so far.
+#[derive(Drop)]
+pub struct NetDraft {
+    alloc: Global,
+    known: Known,
+    // In file order.
+    arcs: Vec<Arc>,
+    origins: Vec<Origin>,
+}
+
+impl Model for NetDraft {
+    ghost use Rattle.net_graph.specs.Nets.{PureNet};
+    ghost use Rattle.net_graph.specs.Codes.{coded_net};
+
+    ghost Value = { PureNet };
+
+    ghost coded = { coded_net };
+
+    ghost use Rattle.net_graph.specs.Parts.{net_from, IsKnown};
+
+    ghost view = { λ d. net_from d.known.alg d.known.nodes d.known.dests d.arcs.items d.origins.items };
+
+    ghost invariant = { λ d. IsKnown (net_from d.known.alg d.known.nodes d.known.dests d.arcs.items d.origins.items) d.known.arc_pairs d.known.origin_pairs };
+}
+
+impl NetDraft {
+    /// The network of the algebra with no node, arc or origin. It takes no memory before something is
+    /// added.
+    pub fn new(alloc: Global, alg: Alg) -> NetDraft
+        ensures { result ≡ empty_net alg }
+    {
+        // To look at the tree is to know that it is formed.
+        let _ = alg.tree();
+        NetDraft {
+            alloc,
+            known: Known {
+                alg,
+                nodes: Names::new(alloc),
+                dests: Names::new(alloc),
+                arc_pairs: Pairs::new(alloc),
+                origin_pairs: Pairs::new(alloc),
+            },
+            arcs: Vec::new(alloc),
+            origins: Vec::new(alloc),
+        }
+    }
+
+    /// Adds a node of that name, with the next number. The name is 1 to 32 letters, digits and bytes
+    /// of `_-.`, no other node has it, and there are fewer than 512 nodes. After a refusal the draft is
+    /// as it was.
+    pub fn add_node(&mut self, name: &[u8]) -> Result<(), NoMemory>
+        requires name { is_name name.now ≡ true }
+        requires absent { number_of self.old.nodes name.now ≡ None }
+        requires room { length self.old.nodes < max_nodes }
+        ensures ok { OnOk result (self.new ≡ with_node self.old name.now) }
+        ensures err { OnErr result (self.new ≡ self.old) }
+    {
+        self.known.nodes.add(self.alloc, name)?;
+        Ok(())
+    }
+
+    /// Adds an arc, with the next number. Both are nodes and differ, no arc joins them in this
+    /// direction, the label is the algebra's with no number above [`meta_base::MAX_NUMBER`], and there
+    /// are fewer than 8,192 arcs. After a refusal the draft is as it was, and the label is dropped.
+    pub fn add_arc(&mut self, tail: NodeId, head: NodeId, label: Label) -> Result<(), NoMemory>
+        requires tail { tail.0 < length self.old.nodes }
+        requires head { head.0 < length self.old.nodes }
+        requires apart { tail.0 ≢ head.0 }
+        requires absent { has_arc self.old tail.0 head.0 ≡ false }
+        requires label { IsLabel self.old.alg (pure_label label) }
+        requires small { LabelAtMost MAX_NUMBER (pure_label label) }
+        requires room { length self.old.arcs < max_arcs }
+        ensures ok { OnOk result (self.new ≡ with_arc self.old tail.0 head.0 (pure_label label)) }
+        ensures err { OnErr result (self.new ≡ self.old) }
+    {
+        let id = ArcId(self.arcs.len() as u32);
+        self.arcs.reserve(1)?;
+        self.known.arc_pairs.add(tail.0, head.0)?;
+        let arc = Arc {
+            id,
+            tail,
+            head,
+            label,
+        };
+        self.arcs.push(arc).unwrap();
+        Ok(())
+    }
+
+    /// Adds an origin of the destination of that name, which gets the next number where it is new.
+    /// The name is 1 to 32 letters, digits and bytes of `_-.`, `node` is a node with no origin of the
+    /// destination, the value is the algebra's with no number above [`meta_base::MAX_NUMBER`], and
+    /// where the destination is new there are fewer than 64. After a refusal the draft is as it was,
+    /// and the value is dropped.
+    pub fn add_origin(&mut self, dest: &[u8], node: NodeId, value: Value) -> Result<(), NoMemory>
+        requires name { is_name dest.now ≡ true }
+        requires node { node.0 < length self.old.nodes }
+        requires absent { IfSome (number_of self.old.dests dest.now) (λ d. has_origin self.old d node.0 ≡ false) }
+        requires value { In (carrier_of self.old.alg) (pure_value value) }
+        requires small { AtMost MAX_NUMBER (pure_value value) }
+        requires room { number_of self.old.dests dest.now ≡ None → length self.old.dests < max_dests }
+        ensures ok { OnOk result (self.new ≡ with_origin self.old dest.now node.0 (pure_value value)) }
+        ensures err { OnErr result (self.new ≡ self.old) }
+    {
+        self.origins.reserve(1)?;
+        let dest = self.known.add_origin(self.alloc, dest, node)?;
+        self.origins.push(Origin { node, dest, value }).unwrap();
+        Ok(())
+    }
+
+    /// The network that was made.
+    pub fn finish(self) -> Result<Net, NoMemory>
+        ensures { IfOk result (λ net. net ≡ self) }
+    {
+        let NetDraft {
+            alloc,
+            known,
+            arcs,
+            origins,
+        } = self;
+        let nodes = known.nodes.count();
+        let dests = known.dests.count();
+        let heard = ids_by_head(alloc, nodes, &arcs)?;
+        let out = file_by_key(alloc, nodes, arcs)?;
+        let homes = file_by_key(alloc, dests, origins)?;
+        Ok(Net::from_parts(known, out, heard, homes))
+    }
+
+    /// Lends the algebra.
+    pub fn alg(&self) -> &Alg
+        ensures { result.now ≡ self.now.alg }
+    {
+        &self.known.alg
+    }
+
+    /// How many nodes there are, at most 512.
+    pub fn node_count(&self) -> usize
+        ensures count { result ≡ length self.now.nodes }
+        ensures net { IsNet self.now }
+    {
+        self.known.nodes.count()
+    }
+
+    /// How many arcs there are, at most 8,192.
+    pub fn arc_count(&self) -> usize
+        ensures count { result ≡ length self.now.arcs }
+        ensures net { IsNet self.now }
+    {
+        self.arcs.len()
+    }
+
+    /// How many destinations there are, at most 64.
+    pub fn dest_count(&self) -> usize
+        ensures { result ≡ length self.now.dests }
+    {
+        self.known.dests.count()
+    }
+
+    /// The node of that name, or `None` exactly where there is none.
+    pub fn node_named(&self, name: &[u8]) -> Option<NodeId>
+        ensures { option_map (λ node. node.0) result ≡ number_of self.now.nodes name.now }
+    {
+        self.known.node_named(name)
+    }
+
+    /// The destination of that name, or `None` exactly where there is none.
+    pub fn dest_named(&self, name: &[u8]) -> Option<DestId>
+        ensures { option_map (λ dest. dest.0) result ≡ number_of self.now.dests name.now }
+    {
+        self.known.dest_named(name)
+    }
+
+    /// There is an arc from `tail` to `head`.
+    pub fn has_arc(&self, tail: NodeId, head: NodeId) -> bool
+        ensures { result ≡ has_arc self.now tail.0 head.0 }
+    {
+        self.known.arc_pairs.contains(tail.0, head.0)
+    }
+
+    /// There is an origin of the destination at the node.
+    pub fn has_origin(&self, dest: DestId, node: NodeId) -> bool
+        ensures { result ≡ has_origin self.now dest.0 node.0 }
+    {
+        self.known.origin_pairs.contains(dest.0, node.0)
+    }
+}

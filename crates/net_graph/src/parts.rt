@@ -1,0 +1,116 @@
+ghost use Rattle.std.specs.Prelude.{◌≡◌, ◌==◌, ◌&&◌, ◌<◌, ◌^◌, ◌++◌, ◌∷◌, [], ℕ, false, length, option_map, IfOk, OnOk, OnErr};
+ghost use Rattle.std.specs.List.{list_any};
+ghost use Rattle.net_graph.specs.Nets.{number_of};
+ghost use Rattle.net_graph.specs.Dests.{dests_with, dest_number};
+
+use crate::names::Names;
+use crate::pairs::Pairs;
+use alg_model::{Alg, Label, Value};
+use meta_base::{ArcId, DestId, NoMemory, NodeId};
+use std::alloc::Global;
+
+/// An arc: its tail may route by its head, so the tail listens and the head speaks. The label says
+/// what the arc does to the value of a route that passes it.
+#[derive(Drop)]
+pub struct Arc {
+    pub id: ArcId,
+    pub tail: NodeId,
+    pub head: NodeId,
+    pub label: Label,
+}
+
+/// An origin: the node has a value of its own for the destination.
+#[derive(Drop)]
+pub struct Origin {
+    pub node: NodeId,
+    pub dest: DestId,
+    pub value: Value,
+}
+
+// What a network is looked up by.
+#[derive(Drop)]
+pub(crate) struct Known {
+    pub alg: Alg,
+    pub nodes: Names,
+    pub dests: Names,
+    // The tails and heads of the arcs, in file order.
+    pub arc_pairs: Pairs,
+    // The destinations and nodes of the origins, in file order.
+    pub origin_pairs: Pairs,
+}
+
+impl Known {
+    // The node of that name.
+    pub fn node_named(&self, name: &[u8]) -> Option<NodeId>
+        requires { length self.now.nodes < 2 ^ 32 }
+        ensures { option_map (λ node. node.0) result ≡ number_of self.now.nodes name.now }
+    {
+        self.nodes.named(name).map(NodeId)
+    }
+
+    // The destination of that name.
+    pub fn dest_named(&self, name: &[u8]) -> Option<DestId>
+        requires { length self.now.dests < 2 ^ 32 }
+        ensures { option_map (λ dest. dest.0) result ≡ number_of self.now.dests name.now }
+    {
+        self.dests.named(name).map(DestId)
+    }
+
+    // Notes an origin of the destination of that name, which is added where it is new. After a
+    // refusal nothing has changed.
+    pub fn add_origin(
+        &mut self,
+        alloc: Global,
+        dest: &[u8],
+        node: NodeId,
+    ) -> Result<DestId, NoMemory>
+        requires room { length self.old.dests < 2 ^ 32 }
+        requires absent { list_any (λ p. p.0 == dest_number self.old.dests dest.now && p.1 == node.0) self.old.origin_pairs ≡ false }
+        ensures number { IfOk result (λ d. d.0 ≡ dest_number self.old.dests dest.now) }
+        ensures ok { OnOk result (self.new ≡ record self.old {
+          dests = dests_with self.old.dests dest.now;
+          origin_pairs = self.old.origin_pairs ++ (dest_number self.old.dests dest.now, node.0) ∷ [];
+        }) }
+        ensures err { OnErr result (self.new ≡ self.old) }
+    {
+        if let Some(number) = self.dests.named(dest) {
+            self.origin_pairs.add(number, node.0)?;
+            return Ok(DestId(number));
+        }
+        let number = self.dests.count() as u32;
+        self.dests.add(alloc, dest)?;
+        match self.origin_pairs.add(number, node.0) {
+            Ok(()) => Ok(DestId(number)),
+            Err(refusal) => {
+                self.dests.drop_last();
+                Err(refusal)
+            }
+        }
+    }
+}
+
+// What is filed in groups, each item under its key.
+pub(crate) trait Keyed {
+    ghost key: { Self → ℕ };
+
+    fn key(&self) -> usize
+        ensures { result ≡ key self.now };
+}
+
+// Arcs are filed under their tails.
+impl Keyed for Arc {
+    ghost key = { λ a. a.tail.0 };
+
+    fn key(&self) -> usize {
+        self.tail.0 as usize
+    }
+}
+
+// Origins are filed under their destinations.
+impl Keyed for Origin {
+    ghost key = { λ o. o.dest.0 };
+
+    fn key(&self) -> usize {
+        self.dest.0 as usize
+    }
+}

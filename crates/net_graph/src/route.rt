@@ -1,0 +1,41 @@
+ghost use Rattle.std.specs.Prelude.{◌≡◌, IfOk};
+
+use alg_model::Value;
+use meta_base::{DestId, List, NoMemory, NodeId};
+use std::alloc::Global;
+
+/// A route: a value, and the path from the node itself to the origin.
+#[derive(Drop)]
+pub struct Route {
+    pub value: Value,
+    pub path: List<NodeId>,
+}
+
+impl Route {
+    ghost use Rattle.net_graph.specs.Views.{pure_route};
+
+    /// An equal route.
+    pub fn copy(&self, alloc: Global) -> Result<Route, NoMemory>
+        ensures { IfOk result (λ copied. pure_route copied ≡ pure_route self.now) }
+    {
+        Ok(Route {
+            value: self.value.copy(alloc)?,
+            path: List::from_vec(Vec::from_slice(alloc, self.path.as_slice())?),
+        })
+    }
+}
+
+/// A node's route for a destination, or none.
+#[derive(Drop)]
+pub struct RouteRow {
+    pub node: NodeId,
+    pub dest: DestId,
+    pub route: Option<Route>,
+}
+
+/// The routes for a destination: one row for each node of the network, in order.
+#[derive(Drop)]
+pub struct DestTable {
+    pub dest: DestId,
+    pub rows: List<RouteRow>,
+}
