@@ -18,10 +18,14 @@ WereFixed net dest table (i ∷ before) = (i < length net.nodes) × (is_among be
     × ((k : ℕ) (s : PureRoute) → k < length net.nodes → is_among before k ≡ false → IsOfferFrom net dest table before k s → ¬ Better (carrier net) s r))
     × WereFixed net dest table before
 
--- the best that the node's own origin and the nodes before offer it, or none where they offer nothing
+-- one of these routes that none of them is better than, or none where there is none
+abbrev pub IsBestIn : PureCarrier → (PureRoute → Type 0) → Option PureRoute → Type 0
+IsBestIn c Offered (Some r) = Offered r × ((s : PureRoute) → Offered s → ¬ Better c s r)
+IsBestIn c Offered None = (r : PureRoute) → ¬ Offered r
+
+-- the best that the node's own origin and the nodes before offer it
 abbrev pub IsBestOffer : PureNet → ℕ → List PureRow → List ℕ → ℕ → Option PureRoute → Type 0
-IsBestOffer net dest table before k (Some r) = IsOfferFrom net dest table before k r × ((s : PureRoute) → IsOfferFrom net dest table before k s → ¬ Better (carrier net) s r)
-IsBestOffer net dest table before k None = (r : PureRoute) → ¬ IsOfferFrom net dest table before k r
+IsBestOffer net dest table before k o = IsBestIn (carrier net) (IsOfferFrom net dest table before k) o
 
 -- how many have no route yet
 abbrev pub none_count : List (Option PureRoute) → ℕ
