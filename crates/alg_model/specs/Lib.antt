@@ -9,3 +9,4 @@ pub mod Properties
 pub mod Verdicts
 pub mod Instances
 pub mod Texts
+pub mod Laws

@@ -15,13 +15,13 @@ pub fn violations_refute()
 {}
 
 /// Preference is a total preorder on each carrier (Griffin and Sobrinho 2005).
-#[tactic(auto, using(crate::proofs::Preorder::total_preorder))]
+#[tactic(auto, using(crate::specs::Laws::total_preorder))]
 pub fn preference_is_total_preorder()
     ensures { (c : PureCarrier) → IsTotalPreorder c }
 {}
 
 /// What a label of an algebra makes of a value of its carrier is in the carrier too.
-#[tactic(auto, using(crate::proofs::Images::images_in))]
+#[tactic(auto, using(crate::specs::Laws::images_in))]
 pub fn images_are_values()
     ensures { (a : Expression) (l : PureLabel) (v w : PureValue) → IsFormed a → IsLabel a l →
         In (carrier_of a) v → App a l v ≡ Some w → In (carrier_of a) w }

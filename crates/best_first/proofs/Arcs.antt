@@ -1,20 +1,18 @@
 -- What is found in a network's lists.
-use Rattle.std.proofs.Common.{◌≡◌, ℕ, ◌<◌, List, [], ◌∷◌, Option, Some, None, IfSome, Bool, true, false, ◌==◌, option_map, option_and_then, length, refl, arith}
+use Rattle.std.proofs.Common.{◌≡◌, ℕ, ◌+◌, ◌<◌, List, [], ◌∷◌, Option, Some, None, IfSome, Bool, true, false, ◌==◌, option_map, option_and_then, length, refl, arith}
 use Rattle.std.specs.List.{list_any, find, AllByRecursion}
 use Rattle.std.proofs.lemmas.Bool.Decides.{nat_tests}
 use Rattle.alg_model.specs.Expressions.{Expression, PureLabel, PureValue}
 use Rattle.alg_model.specs.Carriers.{carrier_of, In}
 use Rattle.alg_model.specs.Application.{App, IsLabel}
-use Rattle.alg_model.specs.Formation.{IsFormed}
+use Rattle.alg_model.specs.Bounds.{AtMost, LabelAtMost}
+use Rattle.alg_model.specs.Laws.{images_in, images_at_most}
+use Rattle.meta_base.specs.declared.limits.TheConstants.{MAX_NUMBER}
 use Rattle.alg_model.specs.Properties.{PureProperty, monotone, isotone, IsMonotone, IsIsotone, Has}
 use Rattle.net_graph.specs.Nets.{PureArc, PureOrigin, PureNet, IsNet, IsArcOf, IsOriginOf, is_arc_between, is_origin_at, has_arc, has_origin, label_between, origin_value}
 use Rattle.net_graph.specs.Walks.{Walk, Weight, along}
 use Rattle.net_graph.specs.Tables.{NetHas, carrier}
 use Rattle.best_first.proofs.Preferred.{IsUnbeatenBy}
-
--- what a label makes of a value of the carrier is in the carrier
-abbrev pub ImagesAreValues : Type 0
-ImagesAreValues = (a : Expression) (l : PureLabel) (v w : PureValue) → IsFormed a → IsLabel a l → In (carrier_of a) v → App a l v ≡ Some w → In (carrier_of a) w
 
 pub of_some : {X : Type 0} (P : X → Type 0) (o : Option X) (x : X) → IfSome o P → o ≡ Some x → P x
 of_some P o x i e = rw e at i
@@ -54,7 +52,9 @@ find_all P p (y ∷ ys) all x e = by (find_all P p ys all.1 x) (p y) refl
 pub record IsArc (net : PureNet) (i j : ℕ) (l : PureLabel) : Type 0 where
   pub tail_in : i < length net.nodes
   pub head_in : j < length net.nodes
+  pub apart : (i == j) ≡ false
   pub label_in : IsLabel net.alg l
+  pub small : LabelAtMost MAX_NUMBER l
   pub has : has_arc net i j ≡ true
 
 pub arcs_are : (net : PureNet) → IsNet net → (i j : ℕ) → IfSome (label_between net i j) (IsArc net i j)
@@ -68,7 +68,9 @@ arcs_are net n i j = if_mapped (λ (a : PureArc). a.label) (IsArc net i j) (find
         record {
           tail_in = rw tail at f.0.tail_in;
           head_in = rw head at f.0.head_in;
+          apart = rw (tail, head) at f.0.apart;
           label_in = f.0.label_in;
+          small = f.0.bound;
           has = find_any (is_arc_between i j) net.arcs a e;
         }
 
@@ -80,6 +82,7 @@ labels_have p net h i j = if_mapped (λ (a : PureArc). a.label) (Has p net.alg) 
 pub record IsOrigin (net : PureNet) (dest i : ℕ) (v : PureValue) : Type 0 where
   pub node_in : i < length net.nodes
   pub value_in : In (carrier net) v
+  pub small : AtMost MAX_NUMBER v
   pub has : has_origin net dest i ≡ true
 
 pub origins_are : (net : PureNet) → IsNet net → (dest i : ℕ) → IfSome (origin_value net dest i) (IsOrigin net dest i)
@@ -92,6 +95,7 @@ origins_are net n dest i = if_mapped (λ (o : PureOrigin). o.value) (IsOrigin ne
         record {
           node_in = rw node at f.0.node_in;
           value_in = f.0.value_in;
+          small = f.0.bound;
           has = find_any (is_origin_at dest i) net.origins o e;
         }
 
@@ -109,8 +113,8 @@ walk_within net n dest i (j ∷ p) w =
     rw tail at g.0.tail_in
 
 -- what an arc makes of a value is a value of the carrier
-pub along_in : ImagesAreValues → (net : PureNet) → IsNet net → (i j : ℕ) (x : Option PureValue) → IfSome x (In (carrier net)) → IfSome (along net i j x) (In (carrier net))
-along_in f net n i j x h = by (label_between net i j) x (arcs_are net n i j) h
+pub along_in : (net : PureNet) → IsNet net → (i j : ℕ) (x : Option PureValue) → IfSome x (In (carrier net)) → IfSome (along net i j x) (In (carrier net))
+along_in net n i j x h = by (label_between net i j) x (arcs_are net n i j) h
   where
     image : (o : Option PureValue) → ((w : PureValue) → o ≡ Some w → In (carrier net) w) → IfSome o (In (carrier net))
     image None g = tt
@@ -120,16 +124,16 @@ along_in f net n i j x h = by (label_between net i j) x (arcs_are net n i j) h
         → IfSome (option_and_then (λ l. option_and_then (App net.alg l) x) o) (In (carrier net))
     by None x a h = tt
     by (Some l) None a h = tt
-    by (Some l) (Some v) a h = image (App net.alg l v) (λ w e. f net.alg l v w n.formed a.label_in h e)
+    by (Some l) (Some v) a h = image (App net.alg l v) (λ w e. images_in net.alg l v w n.formed a.label_in h e)
 
-pub weight_in : ImagesAreValues → (net : PureNet) → IsNet net → (dest : ℕ) (p : List ℕ) → IfSome (Weight net dest p) (In (carrier net))
-weight_in f net n dest [] = tt
-weight_in f net n dest (i ∷ []) = by (origin_value net dest i) (origins_are net n dest i)
+pub weight_in : (net : PureNet) → IsNet net → (dest : ℕ) (p : List ℕ) → IfSome (Weight net dest p) (In (carrier net))
+weight_in net n dest [] = tt
+weight_in net n dest (i ∷ []) = by (origin_value net dest i) (origins_are net n dest i)
   where
     by : (o : Option PureValue) → IfSome o (IsOrigin net dest i) → IfSome o (In (carrier net))
     by None h = tt
     by (Some v) h = h.value_in
-weight_in f net n dest (i ∷ j ∷ p) = along_in f net n i j (Weight net dest (j ∷ p)) (weight_in f net n dest (j ∷ p))
+weight_in net n dest (i ∷ j ∷ p) = along_in net n i j (Weight net dest (j ∷ p)) (weight_in net n dest (j ∷ p))
 
 -- an arc whose label is monotone makes no value better
 pub along_monotone : (net : PureNet) → NetHas monotone net → (i j : ℕ) (x : Option PureValue) → IfSome x (In (carrier net)) → IsUnbeatenBy (carrier net) x (along net i j x)
@@ -160,3 +164,11 @@ along_isotone net m i j x y h k u = by (label_between net i j) x y (labels_have 
     by (Some l) x None a h k u = last (option_and_then (App net.alg l) x)
     by (Some l) (Some v) (Some w) a h k u = a v w h k u
     by (Some l) None (Some w) a h k u = absurd (u (cc))
+
+-- an arc adds at most the greatest number of a text to the greatest of a value
+pub along_at_most : (net : PureNet) → IsNet net → (i j : ℕ) (v w : PureValue) (m : ℕ) → AtMost m v → along net i j (Some v) ≡ Some w → AtMost (m + MAX_NUMBER) w
+along_at_most net n i j v w m h e = by (label_between net i j) (arcs_are net n i j) e
+  where
+    by : (o : Option PureLabel) → IfSome o (IsArc net i j) → option_and_then (λ l. option_and_then (App net.alg l) (Some v)) o ≡ Some w → AtMost (m + MAX_NUMBER) w
+    by None a e = absurd (cc)
+    by (Some l) a e = images_at_most net.alg l v w m MAX_NUMBER a.label_in a.small h e

@@ -2,6 +2,9 @@ pub mod Preferred
 pub mod Arcs
 pub mod Routes
 pub mod Offers
+pub mod Better
+pub mod Places
 pub mod Unique
 pub mod Unbeaten
+pub mod Steps
 pub mod Rows

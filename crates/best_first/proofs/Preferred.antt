@@ -5,7 +5,7 @@ use Rattle.std.specs.declared.cmp.Ordering.{Ordering}
 use Rattle.std.specs.declared.cmp.Ordering.TheVariants.{Less, Equal, Greater}
 use Rattle.alg_model.specs.Expressions.{PureCarrier, PureValue}
 use Rattle.alg_model.specs.Carriers.{In, Order, OrderOrNone}
-use Rattle.alg_model.specs.Preorder.{IsTotalPreorder}
+use Rattle.alg_model.specs.Laws.{total_preorder}
 
 -- the second isn't preferred to the first
 abbrev pub IsUnbeatenBy : PureCarrier → Option PureValue → Option PureValue → Type 0
@@ -15,24 +15,18 @@ joined : (xy yx yz zy xz zx : Ordering) → yx ≡ ordering_reverse xy → zy �
     → (xy ≡ Less → zy ≡ Less) → (xy ≡ Equal → xz ≡ yz) → yx ≢ Less → zy ≢ Less → zx ≡ Less → ⊥
 joined xy yx yz zy xz zx a b d t q f g e = grind arith
 
-values_trans : (c : PureCarrier) → IsTotalPreorder c → (x y z : PureValue) → In c x → In c y → In c z
+values_trans : (c : PureCarrier) → (x y z : PureValue) → In c x → In c y → In c z
     → Order c y x ≢ Less → Order c z y ≢ Less → Order c z x ≢ Less
-values_trans c p x y z i j k f g e =
+values_trans c x y z i j k f g e =
+    let p = total_preorder c in
     joined (Order c x y) (Order c y x) (Order c y z) (Order c z y) (Order c x z) (Order c z x) (p.flip x y i j) (p.flip y z j k) (p.flip x z i k)
     (p.trans z x y k i j e) (p.congr x y z i j k) f g e
 
-pub unbeaten_trans : (c : PureCarrier) → IsTotalPreorder c → (x y z : Option PureValue) → IfSome x (In c) → IfSome y (In c) → IfSome z (In c)
+pub unbeaten_trans : (c : PureCarrier) → (x y z : Option PureValue) → IfSome x (In c) → IfSome y (In c) → IfSome z (In c)
     → IsUnbeatenBy c x y → IsUnbeatenBy c y z → IsUnbeatenBy c x z
-unbeaten_trans c p (Some u) (Some v) (Some w) i j k f g = values_trans c p u v w i j k f g
-unbeaten_trans c p (Some u) (Some v) None i j k f g = λ e. cc
-unbeaten_trans c p (Some u) None (Some w) i j k f g = λ e. g (cc)
-unbeaten_trans c p (Some u) None None i j k f g = λ e. cc
-unbeaten_trans c p None (Some v) z i j k f g = λ e. f (cc)
-unbeaten_trans c p None None z i j k f g = g
-
--- of two routes' values neither of which is preferred, the orders both ways are alike
-pub both_equal : (c : PureCarrier) → IsTotalPreorder c → (u v : PureValue) → In c u → In c v → Order c u v ≢ Less → Order c v u ≢ Less → Order c u v ≡ Equal
-both_equal c p u v i j f g = by (Order c u v) (Order c v u) (p.flip u v i j) f g
-  where
-    by : (a b : Ordering) → b ≡ ordering_reverse a → a ≢ Less → b ≢ Less → a ≡ Equal
-    by a b e f g = grind arith
+unbeaten_trans c (Some u) (Some v) (Some w) i j k f g = values_trans c u v w i j k f g
+unbeaten_trans c (Some u) (Some v) None i j k f g = λ e. cc
+unbeaten_trans c (Some u) None (Some w) i j k f g = λ e. g (cc)
+unbeaten_trans c (Some u) None None i j k f g = λ e. cc
+unbeaten_trans c None (Some v) z i j k f g = λ e. f (cc)
+unbeaten_trans c None None z i j k f g = g

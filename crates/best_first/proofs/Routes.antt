@@ -8,7 +8,7 @@ use Rattle.std.proofs.lemmas.Bool.Decides.{nat_tests}
 use Rattle.std.proofs.lemmas.Option.{slice_get_past}
 use Rattle.alg_model.specs.Expressions.{PureCarrier, PureValue}
 use Rattle.alg_model.specs.Carriers.{In, Order}
-use Rattle.alg_model.specs.Preorder.{IsTotalPreorder}
+use Rattle.alg_model.specs.Laws.{total_preorder}
 use Rattle.net_graph.specs.Nets.{PureNet}
 use Rattle.net_graph.specs.Routes.{PureRoute, compare_nodes, compare_paths, Better}
 use Rattle.net_graph.specs.Tables.{PureRow, IsRouteOf, AreRowsFrom, TableOf, route_at}
@@ -86,7 +86,7 @@ nodes_flip (i ∷ p) (j ∷ q) = flipped (nat_cmp i j) (nat_cmp j i) (compare_no
     flipped : (a b c d : Ordering) → b ≡ ordering_reverse a → d ≡ ordering_reverse c → ordering_then b d ≡ ordering_reverse (ordering_then a c)
     flipped a b c d e f = grind arith
 
-paths_flip : (p q : List ℕ) → compare_paths q p ≡ ordering_reverse (compare_paths p q)
+pub paths_flip : (p q : List ℕ) → compare_paths q p ≡ ordering_reverse (compare_paths p q)
 paths_flip p q = flipped (nat_cmp (length p) (length q)) (nat_cmp (length q) (length p)) (compare_nodes p q) (compare_nodes q p) (grind (arith, nat_tests)) (nodes_flip p q)
   where
     flipped : (a b c d : Ordering) → b ≡ ordering_reverse a → d ≡ ordering_reverse c → ordering_then b d ≡ ordering_reverse (ordering_then a c)
@@ -96,9 +96,9 @@ paths_equal : (p q : List ℕ) → compare_paths p q ≡ Equal → p ≡ q
 paths_equal p q e = nodes_equal p q (then_equal (nat_cmp (length p) (length q)) (compare_nodes p q) e).1
 
 -- routes neither of which is better have one path
-pub neither_better : (c : PureCarrier) → IsTotalPreorder c → (r s : PureRoute) → In c r.value → In c s.value → ¬ Better c r s → ¬ Better c s r → r.path ≡ s.path
-neither_better c p r s i j f g = paths_equal r.path s.path
-    (by (Order c r.value s.value) (Order c s.value r.value) (compare_paths r.path s.path) (compare_paths s.path r.path) (p.flip r.value s.value i j) (paths_flip r.path s.path) f g)
+pub neither_better : (c : PureCarrier) → (r s : PureRoute) → In c r.value → In c s.value → ¬ Better c r s → ¬ Better c s r → r.path ≡ s.path
+neither_better c r s i j f g = paths_equal r.path s.path
+    (by (Order c r.value s.value) (Order c s.value r.value) (compare_paths r.path s.path) (compare_paths s.path r.path) ((total_preorder c).flip r.value s.value i j) (paths_flip r.path s.path) f g)
   where
     by : (a b x y : Ordering) → b ≡ ordering_reverse a → y ≡ ordering_reverse x → ordering_then a x ≢ Less → ordering_then b y ≢ Less → x ≡ Equal
     by a b x y e h f g = grind arith

@@ -8,7 +8,6 @@ use Rattle.std.proofs.lemmas.Bool.{cases_lt, false≢true}
 use Rattle.std.proofs.lemmas.Bool.Decides.{nat_tests}
 use Rattle.alg_model.specs.Expressions.{PureCarrier, PureValue, PureLabel}
 use Rattle.alg_model.specs.Carriers.{In, Order, OrderOrNone}
-use Rattle.alg_model.specs.Preorder.{IsTotalPreorder}
 use Rattle.alg_model.specs.Properties.{monotone, isotone}
 use Rattle.alg_model.specs.Application.{App}
 use Rattle.net_graph.specs.Nets.{PureNet, IsNet, has_arc, has_origin, label_between, origin_value}
@@ -16,7 +15,7 @@ use Rattle.net_graph.specs.Routes.{PureRoute, Better, compare_paths}
 use Rattle.net_graph.specs.Walks.{Walk, Weight, along}
 use Rattle.net_graph.specs.Tables.{PureRow, TableOf, IsRouteOf, NetHas, HasWalks, route_at, value_at, carrier, is_among, IsOfferFrom, AreFixed, BestFirst, Optimal}
 use Rattle.best_first.proofs.Preferred.{IsUnbeatenBy, unbeaten_trans}
-use Rattle.best_first.proofs.Arcs.{ImagesAreValues, of_some, IsArc, arcs_are, IsOrigin, origins_are, walk_within, along_in, weight_in, along_monotone, along_isotone}
+use Rattle.best_first.proofs.Arcs.{of_some, IsArc, arcs_are, IsOrigin, origins_are, walk_within, along_in, weight_in, along_monotone, along_isotone}
 use Rattle.best_first.proofs.Routes.{table_route_in, no_route_past}
 use Rattle.best_first.proofs.Offers.{among_split, among_first, among_more, offer_begins}
 
@@ -34,8 +33,6 @@ record AreBest (net : PureNet) (dest : ℕ) (t : List PureRow) (before : List �
 
 -- what the laws need of the network and of the table
 record Given (net : PureNet) (dest : ℕ) (t : List PureRow) : Type 0 where
-  pub images : ImagesAreValues
-  pub preorder : IsTotalPreorder (carrier net)
   pub is_net : IsNet net
   pub are_monotone : NetHas monotone net
   pub are_isotone : NetHas isotone net
@@ -145,21 +142,21 @@ next_best net dest t before x g b i f k [] out w = at_origin net dest t before x
 next_best net dest t before x g b i f k (j ∷ p) out w = by (λ e. next_best net dest t before x g b i f j p e w.1) (is_among before j) refl
   where
     rest_in : IfSome (Weight net dest (j ∷ p)) (In (carrier net))
-    rest_in = weight_in g.images net g.is_net dest (j ∷ p)
+    rest_in = weight_in net g.is_net dest (j ∷ p)
 
     whole_in : IfSome (along net k j (Weight net dest (j ∷ p))) (In (carrier net))
-    whole_in = along_in g.images net g.is_net k j (Weight net dest (j ∷ p)) rest_in
+    whole_in = along_in net g.is_net k j (Weight net dest (j ∷ p)) rest_in
 
     by : (is_among before j ≡ false → IsUnbeatenBy (carrier net) x (Weight net dest (j ∷ p))) → (c : Bool) → is_among before j ≡ c
         → IsUnbeatenBy (carrier net) x (along net k j (Weight net dest (j ∷ p)))
     by rest true e =
         let row_in = value_in net dest t g.table_of j in
-        unbeaten_trans (carrier net) g.preorder x (along net k j (value_at t j)) (along net k j (Weight net dest (j ∷ p)))
-        i (along_in g.images net g.is_net k j (value_at t j) row_in) whole_in
+        unbeaten_trans (carrier net) x (along net k j (value_at t j)) (along net k j (Weight net dest (j ∷ p)))
+        i (along_in net g.is_net k j (value_at t j) row_in) whole_in
         (at_arc net dest t before x b f k j (walk_within net g.is_net dest k (j ∷ p) w) out e)
         (along_isotone net g.are_isotone k j (value_at t j) (Weight net dest (j ∷ p)) row_in rest_in (b.unbeaten j p e w.1))
     by rest false e =
-        unbeaten_trans (carrier net) g.preorder x (Weight net dest (j ∷ p)) (along net k j (Weight net dest (j ∷ p)))
+        unbeaten_trans (carrier net) x (Weight net dest (j ∷ p)) (along net k j (Weight net dest (j ∷ p)))
         i rest_in whole_in (rest e) (along_monotone net g.are_monotone k j (Weight net dest (j ∷ p)) rest_in)
 
 -- with the next node too the routes are best
@@ -236,11 +233,11 @@ fixed_best net dest t before [] g b f = last_best net dest t before g b f
 fixed_best net dest t before (i ∷ order) g b f =
     fixed_best net dest t (i ∷ before) order g (best_more net dest t before i f.2.0 g b f.1 f.2.1 f.2.2 f.2.3) f.3
 
-pub optimal : (net : PureNet) (dest : ℕ) (t : List PureRow) → ImagesAreValues → IsTotalPreorder (carrier net) → IsNet net → NetHas monotone net → NetHas isotone net
+pub optimal : (net : PureNet) (dest : ℕ) (t : List PureRow) → IsNet net → NetHas monotone net → NetHas isotone net
     → BestFirst net dest t → Optimal net dest t
 unfolding Unbeaten
-optimal net dest t a p n m i h =
-    let g : Given net dest t = record { images = a; preorder = p; is_net = n; are_monotone = m; are_isotone = i; table_of = h.table_of } in
+optimal net dest t n m i h =
+    let g : Given net dest t = record { is_net = n; are_monotone = m; are_isotone = i; table_of = h.table_of } in
     let b : AreBest net dest t [] = record { sound = λ j r e. absurd (cc); unbeaten = λ j q e. absurd (cc) } in
     let f = fixed_best net dest t [] h.order g b h.fixed in
     record { table_of = h.table_of; walks = f.0; unbeaten = f.1 }

@@ -1,1 +1,2 @@
--- No definitions of its own: what makes a table best first is said where networks are.
+pub mod Found
+pub mod State

@@ -9,18 +9,11 @@ ghost use Rattle.topology_file.specs.declared.network.LineError.TheVariants.{NoM
 
 use crate::forms::{Line, line_form};
 use crate::literals::{label_in, value_in};
-<<<<<<< HEAD
-use net_graph::{Net, NetDraft};
-=======
->>>>>>> 359eec8dbbdb8f7028508d5add27ef44072fdcf9
 use crate::texts::{said, split_line, split_word};
 use crate::{NetError, NetFault, NetKind};
 use alg_model::Alg;
 use meta_base::{MAX_FILE_BYTES, NoMemory, NodeId};
-<<<<<<< HEAD
-=======
 use net_graph::{Net, NetDraft};
->>>>>>> 359eec8dbbdb8f7028508d5add27ef44072fdcf9
 use std::alloc::Global;
 
 // The most bytes of a line as it is cut.

@@ -1,8 +1,5 @@
-<<<<<<< HEAD
-=======
 ghost use Rattle.std.specs.Prelude.{◌<◌};
 
->>>>>>> 359eec8dbbdb8f7028508d5add27ef44072fdcf9
 use super::*;
 use alg_model::{Alg, Label, Tree, Value};
 use meta_base::{ArcId, DestId, MAX_FILE_BYTES, NoMemory, NodeId};
@@ -23,12 +20,6 @@ fn read(alloc: Global, text: &[u8]) -> Result<Result<Net, NetError>, Fail> {
 fn bad_line(alloc: Global, text: &[u8]) -> Result<u32, Fail> {
     match read(alloc, text)? {
         Ok(_) => Ok(0),
-<<<<<<< HEAD
-        Err(NetError::Bad(NetFault {
-            line,
-            kind: NetKind::BadLine,
-        })) => Ok(line),
-=======
         Err(
             NetError::Bad(
                 NetFault {
@@ -37,18 +28,10 @@ fn bad_line(alloc: Global, text: &[u8]) -> Result<u32, Fail> {
                 },
             ),
         ) => Ok(line),
->>>>>>> 359eec8dbbdb8f7028508d5add27ef44072fdcf9
         Err(_) => Err("another fault".into()),
     }
 }
 
-<<<<<<< HEAD
-#[test]
-fn reads_a_network(rt: HostRuntime) -> Result<(), Fail> {
-    let text = b"# three nodes\r\nnode a b\tc.1_X-\r\n\n \t \nlink a b : 3 # of the fastest\r\n\tlink b a: 9\nlink\tb c.1_X-:007\t\norigin x at b : 0\norigin y at a : 4294967295\norigin x at c.1_X- :12";
-    let net = read(rt.alloc(), text)??;
-    assert_eq!(rt; (net.node_count(), net.arc_count(), net.dest_count()), (3, 3, 2));
-=======
 // A network in all its forms.
 const NETWORK: &[u8] =
     b"# three nodes\r\nnode a b\tc.1_X-\r\n\n \t \nlink a b : 3 # of the fastest\r\n\tlink b a: 9\nlink\tb c.1_X-:007\t\norigin x at b : 0\norigin y at a : 4294967295\norigin x at c.1_X- :12";
@@ -60,7 +43,6 @@ fn reads_a_network(rt: HostRuntime) -> Result<(), Fail> {
         (net.node_count(), net.arc_count(), net.dest_count()),
         (3, 3, 2)
     );
->>>>>>> 359eec8dbbdb8f7028508d5add27ef44072fdcf9
     assert_eq!(rt; net.node_named(b"c.1_X-"), Some(NodeId(2)));
     assert_eq!(rt; net.dest_named(b"y"), Some(DestId(1)));
     let arc = net.arc(ArcId(2));
@@ -75,60 +57,6 @@ fn reads_a_network(rt: HostRuntime) -> Result<(), Fail> {
     Ok(())
 }
 
-<<<<<<< HEAD
-#[test]
-fn refuses_the_first_bad_line(rt: HostRuntime) -> Result<(), Fail> {
-    let rows: [(&[u8], u32); 45] = [
-        (b"", 0),
-        (b"node a", 0),
-        (b"\r\n# node a\n\nnode", 4),
-        (b"nodes a", 1),
-        (b"Node a", 1),
-        (b"node a\nboth a a : 1", 2),
-        (b"node a:", 1),
-        (b":", 1),
-        (b"node a\x0bb", 1),
-        (b"node a\rb", 1),
-        (b"node a\r\r", 1),
-        (b"node a\r# b", 1),
-        (b"node a # b\r", 0),
-        (b"node a\xc3\xa9", 1),
-        (b"node abcdefghijklmnopqrstuvwxyz012345", 0),
-        (b"node abcdefghijklmnopqrstuvwxyz0123456", 1),
-        (b"node a\nnode b a", 2),
-        (b"node a b a", 1),
-        (b"node a b\nlink a b : 1\nlink b a : 1", 0),
-        (b"node a b\nlink a b 1", 2),
-        (b"node a b\nlink a : 1", 2),
-        (b"node a b\nlink a b b : 1", 2),
-        (b"node a b\nlink a b :", 2),
-        (b"node a b\nlink a b : ", 2),
-        (b"node a b\nlink a b : 1 2", 2),
-        (b"node a b\nlink a b : 1 : 2", 2),
-        (b"node a b\nlink a b : x", 2),
-        (b"node a b\nlink a b : +1", 2),
-        (b"node a b\nlink a b : 0", 2),
-        (b"node a b\nlink a b : 10", 2),
-        (b"node a b\nlink a b : 9", 0),
-        (b"node a b\nlink a c : 1", 2),
-        (b"node a b\nlink c a : 1", 2),
-        (b"node a b\nlink a a : 1", 2),
-        (b"node a b\nlink a b : 1\n\nlink a b : 2", 4),
-        (b"node a\norigin a at a : 0\norigin b at a : 0", 0),
-        (b"node a\norigin a at a 0", 2),
-        (b"node a\norigin a on a : 0", 2),
-        (b"node a\norigin a at : 0", 2),
-        (b"node a\norigin a at a a : 0", 2),
-        (b"node a\norigin a/b at a : 0", 2),
-        (b"node a\norigin a at b : 0", 2),
-        (b"node a\norigin a at a : 4294967296", 2),
-        (b"node a\norigin a at a : 18446744073709551617", 2),
-        (b"node a\norigin a at a : 0\norigin a at a : 1", 3),
-    ];
-    for (text, line) in rows {
-        assert_eq!(rt; bad_line(rt.alloc(), text)?, line, "{text:?}");
-    }
-=======
 // Rows of texts, each with the number of its first bad line in front, or 0 where there is none.
 const FORMS: &[u8] =
     b"0|0node a|4\r\n# node a\n\nnode|1nodes a|1Node a|2node a\nboth a a : 1|1node a:|1:|1node a\x0bb|1node a\rb|1node a\r\r|1node a\r# b|0node a # b\r|1node a\xc3\xa9|0node abcdefghijklmnopqrstuvwxyz012345|1node abcdefghijklmnopqrstuvwxyz0123456|2node a\nnode b a|1node a b a";
@@ -158,7 +86,6 @@ fn refuses_the_first_bad_line(rt: HostRuntime) -> Result<(), Fail> {
     assert_eq!(rt; wrong_rows(rt.alloc(), FORMS)?, 0);
     assert_eq!(rt; wrong_rows(rt.alloc(), LINKS)?, 0);
     assert_eq!(rt; wrong_rows(rt.alloc(), ORIGINS)?, 0);
->>>>>>> 359eec8dbbdb8f7028508d5add27ef44072fdcf9
     Ok(())
 }
 
