@@ -25,5 +25,4 @@ pub fn best_first_is_optimal()
 pub fn optimal_rows_are_the_networks()
     ensures { (net : PureNet) (dest : ℕ) (t : List PureRow) → IsNet net → dest < length net.dests →
         Optimal net dest t → AllByRecursion (IsRowOf net) t }
-{
-}
+{}
