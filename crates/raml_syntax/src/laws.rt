@@ -6,5 +6,4 @@ ghost use Rattle.raml_syntax.specs.ExprText.{ExprText};
 #[tactic(auto, using(crate::proofs::Unique::same_algebra))]
 pub fn one_text_one_algebra()
     ensures { (text : List ℕ) (a b : Expression) → ExprText text a → ExprText text b → a ≡ b }
-{
-}
+{}
