@@ -2,6 +2,9 @@
 //! does is decided, and on the traits of `meta_base`.
 #![tactic(auto)]
 
+ghost use Rattle.std.specs.Prelude.{◌≡◌};
+ghost use Rattle.meta.specs.declared.WordsError.TheVariants.{NoMemory as NoMemoryLeft};
+
 mod edge;
 
 use edge::{FileShelf, OutSink};
@@ -19,6 +22,8 @@ enum WordsError {
 }
 
 impl From<NoMemory> for WordsError {
+    ghost from_gives = { λ _ e. e ≡ NoMemoryLeft };
+
     fn from(_: NoMemory) -> Self {
         WordsError::NoMemory
     }
