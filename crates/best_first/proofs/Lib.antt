@@ -7,3 +7,4 @@ pub mod Places
 pub mod Unique
 pub mod Unbeaten
 pub mod Steps
+pub mod Listeners

@@ -4,5 +4,7 @@
 mod found;
 mod laws;
 mod offer;
+mod solution;
 
 pub use laws::{best_first_is_optimal, best_first_is_unique};
+pub use solution::solve;
