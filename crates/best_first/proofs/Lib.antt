@@ -8,3 +8,4 @@ pub mod Unique
 pub mod Unbeaten
 pub mod Steps
 pub mod Listeners
+pub mod Fixing
