@@ -7,4 +7,6 @@ pub mod Places
 pub mod Unique
 pub mod Unbeaten
 pub mod Steps
+pub mod Listeners
+pub mod Fixing
 pub mod Rows

@@ -1,6 +1,8 @@
 -- What stands at a node's place in the lists of what is found.
 use Rattle.std.proofs.Common.{◌≡◌, ◌≢◌, ℕ, ◌<◌, ◌≤◌, ◌+◌, zero, suc, List, [], ◌∷◌, ◌++◌, Option, Some, None, IfSome, Bool, true, false, cond, ◌==◌, ◌&&◌, if◌then◌else◌, map, option_map, option_and_then, filter, length, get_or, inl, inr, refl, sym, ap, ◌∙◌, arith}
 use Rattle.std.specs.List.{slice_get, find}
+use Rattle.std.specs.Option.{is_some}
+use Rattle.std.proofs.lemmas.List.{length-map, map-append}
 use Rattle.std.proofs.Math.ListN.{set}
 use Rattle.std.proofs.lemmas.Bool.{cases_lt}
 use Rattle.std.proofs.lemmas.Bool.Decides.{nat_tests}
@@ -10,9 +12,10 @@ use Rattle.net_graph.specs.Routes.{PureRoute}
 use Rattle.best_first.specs.declared.offer.Offer.{Offer}
 use Rattle.alg_model.specs.Views.{pure_value}
 use Rattle.net_graph.specs.Nets.{PureNet, PureOrigin, origins_of, origin_value}
-use Rattle.net_graph.specs.Views.{pure_origin}
+use Rattle.net_graph.specs.Views.{pure_origin, pure_row}
+use Rattle.net_graph.specs.declared.route.RouteRow.{RouteRow}
 use Rattle.net_graph.specs.declared.parts.Origin.{Origin}
-use Rattle.best_first.specs.Found.{route_of, routes_of, found_at, offer_at, AreSigs, own_offer}
+use Rattle.best_first.specs.Found.{route_of, routes_of, found_at, offer_at, AreSigs, own_offer, row_from, rows_from}
 
 -- the route at a place is that of the offer there
 pub found-offer : {S : Type 0} (value : S → PureValue) (xs : List (Option (Offer S))) (k : ℕ) → found_at (routes_of value xs) k ≡ option_map (route_of value) (offer_at xs k)
@@ -173,3 +176,28 @@ found_within value xs k r e = elim (cases_lt k (length xs)) [
   | inl below ↦ below
   | inr past ↦ absurd (let n = found_past value xs k past in cc)
 ]
+
+pub mapped_none : {X Y : Type 0} (f : X → Y) (o : Option X) → is_some o ≡ false → option_map f o ≡ None
+mapped_none f None e = refl
+mapped_none f (Some x) e = absurd (cc)
+
+pub mapped_some : {X Y : Type 0} (f : X → Y) (o : Option X) → is_some o ≡ true → is_some (option_map f o) ≡ true
+mapped_some f None e = absurd (cc)
+mapped_some f (Some x) e = refl
+
+-- with one row more
+rows-push : (dest i : ℕ) (xs : List (Option PureRoute)) (o : Option PureRoute) → rows_from dest i (xs ++ o ∷ []) ≡ rows_from dest i xs ++ row_from (i + length xs) dest o ∷ []
+rows-push dest i [] o = let e : i ≡ i + length {A = Option PureRoute} [] = omega arith in rw (← e) refl
+rows-push dest i (x ∷ xs) o =
+    let e : (i + 1) + length xs ≡ i + length (x ∷ xs) = omega arith in
+    ap (λ rows. row_from i dest x ∷ rows) (rows-push dest (i + 1) xs o ∙ ap (λ n. rows_from dest (i + 1) xs ++ row_from n dest o ∷ []) e)
+
+pub table-push : {S : Type 0} (value : S → PureValue) (dest node : ℕ) (table : List RouteRow) (row : RouteRow) (ys : List (Option (Offer S))) (y : Option (Offer S)) → node ≡ length ys
+    → map pure_row table ≡ rows_from dest 0 (routes_of value ys) → pure_row row ≡ row_from node dest (option_map (route_of value) y)
+    → map pure_row (table ++ row ∷ []) ≡ rows_from dest 0 (routes_of value (ys ++ y ∷ []))
+table-push value dest node table row ys y e f h =
+    let first = map-append pure_row table (row ∷ []) in
+    let second = map-append (option_map (route_of value)) ys (y ∷ []) in
+    let third = rows-push dest 0 (routes_of value ys) (option_map (route_of value) y) in
+    let place : node ≡ 0 + length (routes_of value ys) = let l = length-map ys (option_map (route_of value)) in omega arith in
+    rw (first, second, third, f, h, place) refl

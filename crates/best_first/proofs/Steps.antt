@@ -1,5 +1,6 @@
 -- From one state to the next, and from the last to the table.
-use Rattle.std.proofs.Common.{◌≡◌, ◌≢◌, ℕ, ◌+◌, ◌*◌, ◌^◌, ◌<◌, ◌≤◌, zero, suc, ◌⊎◌, inl, inr, List, [], ◌∷◌, Option, Some, None, IfSome, Bool, true, false, cond, ◌==◌, if◌then◌else◌, is_some, option_map, option_and_then, length, refl, sym, ap, ◌∙◌, arith}
+use Rattle.std.proofs.Common.{◌≡◌, ◌≢◌, ℕ, ◌+◌, ◌*◌, ◌^◌, ◌<◌, ◌≤◌, zero, suc, ◌⊎◌, inl, inr, List, [], ◌∷◌, Option, Some, None, IfSome, Bool, true, false, cond, ◌==◌, if◌then◌else◌, is_some, option_map, option_and_then, replicate, length, refl, sym, ap, ◌∙◌, arith}
+use Rattle.std.proofs.Math.ListN.{set}
 use Rattle.std.proofs.lemmas.Bool.{cases_lt, false≢true}
 use Rattle.std.proofs.lemmas.Bool.Decides.{nat_tests}
 use Rattle.meta_base.specs.declared.limits.TheConstants.{MAX_NUMBER}
@@ -431,3 +432,49 @@ last_state net dest rows open_routes n st none = record { table_of = table; orde
 
     order : (all : List ℕ) × AreFixed net dest (rows_from dest 0 rows) [] all
     order = in_order net dest (rows_from dest 0 rows) st.before [] st.fixed left
+
+-- the numbers of what is open are small
+pub open_small : (net : PureNet) (dest : ℕ) (rows open_routes : List (Option PureRoute)) (i : ℕ) (r : PureRoute) → IsNet net → IsState net dest rows open_routes → found_at open_routes i ≡ Some r
+    → AtMost (2 ^ 62) r.value
+open_small net dest rows open_routes i r n st told =
+    let within : i < length net.nodes = elim (cases_lt i (length net.nodes)) [
+      | inl l ↦ l
+      | inr l ↦ absurd (let e = list_past open_routes i (let h = st.open_count in omega arith) in cc)
+    ] in
+    at_most_more (MAX_NUMBER * length r.path) (2 ^ 62) r.value (few within (is_among st.before i) refl) (kept within (is_among st.before i) refl).bound
+  where
+    kept : i < length net.nodes → (b : Bool) → is_among st.before i ≡ b → IsKept net (i ∷ st.before) r
+    kept l true e = absurd (let f = st.shut i e in cc)
+    kept l false e = offer_kept net dest (rows_from dest 0 rows) st.before i r n (λ j s f. st.kept j s (sym (row-found dest 0 rows j) ∙ f)) (rw told at (st.chosen i l e)).0
+
+    few : i < length net.nodes → (b : Bool) → is_among st.before i ≡ b → MAX_NUMBER * length r.path ≤ 2 ^ 62
+    few l b e =
+        let short = (kept l b e).short in
+        let room = st.room in
+        let bound = n.node_room in
+        omega arith
+
+pub none_count-set : (xs : List (Option PureRoute)) (i : ℕ) (r : PureRoute) → i < length xs → found_at xs i ≡ None → none_count (set xs i (Some r)) + 1 ≡ none_count xs
+none_count-set [] i r l e = absurd (omega arith)
+none_count-set (None ∷ xs) zero r l e = refl
+none_count-set (Some x ∷ xs) zero r l e = absurd (cc)
+none_count-set (None ∷ xs) (suc i) r l e = let h = none_count-set xs i r (omega arith) e in omega arith
+none_count-set (Some x ∷ xs) (suc i) r l e = none_count-set xs i r (omega arith) e
+
+pub none_count-replicate : (n : ℕ) → none_count (replicate n None) ≡ n
+none_count-replicate zero = refl
+none_count-replicate (suc n) = let h = none_count-replicate n in omega arith
+
+-- a node that has a route open has no row
+pub open_without_row : (net : PureNet) (dest : ℕ) (rows open_routes : List (Option PureRoute)) (i : ℕ) (r : PureRoute) → IsState net dest rows open_routes → found_at open_routes i ≡ Some r → found_at rows i ≡ None
+open_without_row net dest rows open_routes i r st told = by (is_among st.before i) refl
+  where
+    within : i < length net.nodes
+    within = elim (cases_lt i (length net.nodes)) [
+      | inl l ↦ l
+      | inr l ↦ absurd (let e = list_past open_routes i (let h = st.open_count in omega arith) in cc)
+    ]
+
+    by : (b : Bool) → is_among st.before i ≡ b → found_at rows i ≡ None
+    by true e = absurd (let f = st.shut i e in cc)
+    by false e = is_none (found_at rows i) (st.marks i within ∙ e)

@@ -49,10 +49,14 @@ own_offer net dest k = option_map (λ (v : PureValue). record { value = v; path 
 abbrev pub arc_offer : PureNet → ℕ → ℕ → PureRoute → Option PureRoute
 arc_offer net k j r = option_map (λ (v : PureValue). record { value = v; path = k ∷ r.path }) (along net k j (Some r.value))
 
+-- a row
+abbrev pub row_from : ℕ → ℕ → Option PureRoute → PureRow
+row_from node dest o = record { node = node; dest = dest; route = o }
+
 -- the rows of the nodes from i on
 abbrev pub rows_from : ℕ → ℕ → List (Option PureRoute) → List PureRow
 rows_from dest i [] = []
-rows_from dest i (o ∷ os) = record { node = i; dest = dest; route = o } ∷ rows_from dest (i + 1) os
+rows_from dest i (o ∷ os) = row_from i dest o ∷ rows_from dest (i + 1) os
 
 -- the offer to the node, if there is one
 abbrev pub offer_at : {S : Type 0} → List (Option (Offer S)) → ℕ → Option (Offer S)

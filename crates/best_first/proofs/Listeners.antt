@@ -1,0 +1,193 @@
+-- The arcs that a node speaks on, one after the other.
+use Rattle.std.proofs.Common.{◌≡◌, ◌≢◌, ℕ, ◌+◌, ◌<◌, ◌≤◌, zero, suc, List, [], ◌∷◌, Option, Some, None, IfSome, Bool, true, false, cond, ◌==◌, ◌&&◌, ◌||◌, if◌then◌else◌, map, filter, take, get_or, is_some, option_map, option_and_then, length, refl, sym, ap, ◌∙◌, arith}
+use Rattle.std.specs.List.{slice_get, list_any, find, AllByRecursion}
+use Rattle.std.proofs.lemmas.Bool.{false≢true}
+use Rattle.std.proofs.lemmas.Bool.Decides.{nat_tests}
+use Rattle.std.proofs.Math.Seq.{take-length}
+use Rattle.std.proofs.lemmas.List.Folds.{list_any_more}
+use Rattle.std.proofs.lemmas.Option.{slice_get_within, get_or_from_slice_get, slice_get-map}
+use Rattle.meta_base.specs.declared.ids.ArcId.{ArcId}
+use Rattle.meta_base.specs.declared.limits.TheConstants.{MAX_NUMBER}
+use Rattle.alg_model.specs.Expressions.{PureCarrier, PureLabel, PureValue}
+use Rattle.alg_model.specs.Application.{App, IsLabel}
+use Rattle.alg_model.specs.Bounds.{LabelAtMost}
+use Rattle.net_graph.specs.Nets.{PureArc, PureNet, IsNet, IsArcOf, AreNumbered, AreDistinct, joins_same, is_arc_between, arcs_to, label_between}
+use Rattle.net_graph.specs.Routes.{PureRoute}
+use Rattle.net_graph.specs.Walks.{along}
+use Rattle.net_graph.specs.Tables.{carrier}
+use Rattle.best_first.specs.Found.{better_of, arc_offer}
+use Rattle.best_first.specs.State.{relaxed}
+use Rattle.best_first.proofs.Arcs.{of_some, IsArc, arcs_are}
+use Rattle.best_first.proofs.Better.{better_twice}
+
+record IsAt (arcs : List PureArc) (p : PureArc → Bool) (n : ℕ) (b : PureArc) : Type 0 where
+  pub place : ℕ
+  pub number : b.id ≡ n + place
+  pub there : slice_get arcs place ≡ Some b
+  pub passes : p b ≡ true
+
+-- what passes a test among numbered arcs stands where its number says
+numbered_at : (arcs : List PureArc) (p : PureArc → Bool) (n : ℕ) → AreNumbered n arcs → (m : ℕ) (b : PureArc) → slice_get (filter p arcs) m ≡ Some b → IsAt arcs p n b
+numbered_at [] p n h m b e = absurd (cc)
+numbered_at (a ∷ arcs) p n h m b e = by (λ k f. numbered_at arcs p (n + 1) h.1 k b f) (p a) refl m e
+  where
+    later : IsAt arcs p (n + 1) b → IsAt (a ∷ arcs) p n b
+    later i = let e = i.number in record { place = suc i.place; number = omega arith; there = i.there; passes = i.passes }
+
+    by : ((k : ℕ) → slice_get (filter p arcs) k ≡ Some b → IsAt arcs p (n + 1) b) → (c : Bool) → p a ≡ c → (m : ℕ) → slice_get (filter p (a ∷ arcs)) m ≡ Some b → IsAt (a ∷ arcs) p n b
+    by rest true f zero e =
+        let g : Some a ≡ Some b = rw f at e in
+        let same : a ≡ b = cc in
+        let id = h.0 in
+        record { place = 0; number = rw (← same) (omega arith); there = rw same refl; passes = rw (← same) f }
+    by rest true f (suc k) e = later (rest k (rw f at e))
+    by rest false f m e = later (rest m (rw f at e))
+
+all_at : {X : Type 0} (P : X → Type 0) (xs : List X) (k : ℕ) (x : X) → AllByRecursion P xs → slice_get xs k ≡ Some x → P x
+all_at P [] k x h e = absurd (cc)
+all_at P (y ∷ ys) zero x h e =
+    let same : y ≡ x = cc in
+    rw same at h.0
+all_at P (y ∷ ys) (suc k) x h e = all_at P ys k x h.1 e
+
+-- an arc is the one between its nodes
+found_between : (arcs : List PureArc) → AreDistinct joins_same arcs → (k : ℕ) (b : PureArc) → slice_get arcs k ≡ Some b → find (is_arc_between b.tail b.head) arcs ≡ Some b
+found_between [] h k b e = absurd (cc)
+found_between (a ∷ arcs) h zero b e =
+    let same : a ≡ b = cc in
+    let test : is_arc_between b.tail b.head b ≡ true = grind (arith, nat_tests) in
+    rw (same, test) refl
+found_between (a ∷ arcs) h (suc k) b e =
+    let apart : is_arc_between b.tail b.head a ≡ false = all_at (λ y. joins_same a y ≡ false) arcs k b h.0 e in
+    rw apart (found_between arcs h.1 k b e)
+
+-- the arc by the id at a place of those that a node speaks on
+pub record IsHeard (net : PureNet) (i m : ℕ) (a : PureArc) : Type 0 where
+  pub within : m < length (arcs_to net i)
+  pub at_place : a ≡ get_or (arcs_to net i) m a
+  pub head : a.head ≡ i
+  pub label : label_between net a.tail i ≡ Some a.label
+  pub facts : IsArc net a.tail i a.label
+
+pub record IsHeardId (net : PureNet) (i m id : ℕ) : Type 0 where
+  pub arc : PureArc
+  pub there : slice_get net.arcs id ≡ Some arc
+  pub heard : IsHeard net i m arc
+
+pub heard_id : (net : PureNet) → IsNet net → (i : ℕ) (ids : List ArcId) → map (λ (d : ArcId). d.0) ids ≡ map (λ (a : PureArc). a.id) (arcs_to net i)
+    → (m : ℕ) (id : ArcId) → slice_get ids m ≡ Some id → IsHeardId net i m id.0
+heard_id net n i ids e m id f = by (slice_get (arcs_to net i) m) refl
+  where
+    at_ids : slice_get (map (λ (d : ArcId). d.0) ids) m ≡ Some id.0
+    at_ids = slice_get-map (λ (d : ArcId). d.0) ids m ∙ ap (option_map (λ (d : ArcId). d.0)) f
+
+    mapped : option_map (λ (a : PureArc). a.id) (slice_get (arcs_to net i) m) ≡ Some id.0
+    mapped = sym (slice_get-map (λ (a : PureArc). a.id) (arcs_to net i) m) ∙ (ap (λ xs. slice_get xs m) (sym e) ∙ at_ids)
+
+    by : (o : Option PureArc) → slice_get (arcs_to net i) m ≡ o → IsHeardId net i m id.0
+    by None g = absurd (let h = mapped in cc)
+    by (Some a) g =
+        let number : Some a.id ≡ Some id.0 = rw g at mapped in
+        let place = numbered_at net.arcs (λ (b : PureArc). b.head == i) 0 n.arc_ids m a g in
+        let zero_more = place.number in
+        let same : place.place ≡ id.0 = (let k : a.id ≡ id.0 = cc in omega arith) in
+        let head : a.head ≡ i = (let p = place.passes in grind (arith, nat_tests)) in
+        let between : label_between net a.tail i ≡ Some a.label = rw (← head) (ap (option_map (λ (b : PureArc). b.label)) (found_between net.arcs n.arc_apart place.place a place.there)) in
+        record {
+          arc = a;
+          there = rw same at place.there;
+          heard = record {
+            within = slice_get_within (arcs_to net i) m a g;
+            at_place = sym (get_or_from_slice_get (arcs_to net i) m a a g);
+            head = head;
+            label = between;
+            facts = of_some (IsArc net a.tail i) (label_between net a.tail i) a.label (arcs_are net n a.tail i) between;
+          };
+        }
+
+-- what the first m of the arcs that node i speaks on make of its route
+abbrev pub heard_so_far : PureNet → ℕ → PureRoute → ℕ → ℕ → Option PureRoute
+heard_so_far net i r m k = if list_any (λ (a : PureArc). a.tail == k) (take m (arcs_to net i)) then arc_offer net k i r else None
+
+heard_more : (net : PureNet) (i : ℕ) (r : PureRoute) (m k : ℕ) (a : PureArc) → IsHeard net i m a
+    → list_any (λ (b : PureArc). b.tail == k) (take (m + 1) (arcs_to net i)) ≡ (list_any (λ (b : PureArc). b.tail == k) (take m (arcs_to net i)) || (a.tail == k))
+heard_more net i r m k a h =
+    list_any_more (λ (b : PureArc). b.tail == k) (arcs_to net i) m a h.within ∙ rw (← h.at_place) refl
+
+-- an arc whose tail has a row changes nothing
+pub step_over : (net : PureNet) (i : ℕ) (r : PureRoute) (m k : ℕ) (a : PureArc) (row start : Option PureRoute) → IsHeard net i m a → (a.tail ≡ k → is_some row ≡ true)
+    → relaxed (carrier net) row start (heard_so_far net i r m k) ≡ relaxed (carrier net) row start (heard_so_far net i r (m + 1) k)
+step_over net i r m k a None start h row =
+    ap (λ b. better_of (carrier net) start (if b then arc_offer net k i r else None)) (sym same)
+  where
+    or_false : (b : Bool) → (b || false) ≡ b
+    or_false true = refl
+    or_false false = refl
+
+    other : (a.tail == k) ≡ false
+    other =
+        let ne : a.tail ≢ k = λ e. false≢true (row e) in
+        grind (arith, nat_tests)
+
+    same : list_any (λ (b : PureArc). b.tail == k) (take (m + 1) (arcs_to net i)) ≡ list_any (λ (b : PureArc). b.tail == k) (take m (arcs_to net i))
+    same = heard_more net i r m k a h ∙ rw other (or_false (list_any (λ (b : PureArc). b.tail == k) (take m (arcs_to net i))))
+step_over net i r m k a (Some x) start h row = refl
+
+-- an arc whose tail has no row offers it a route
+pub step_take : (net : PureNet) (i : ℕ) (r : PureRoute) (m k : ℕ) (a : PureArc) (row start old new : Option PureRoute) → IsHeard net i m a → (k ≡ a.tail → row ≡ None)
+    → old ≡ relaxed (carrier net) row start (heard_so_far net i r m k) → new ≡ (if k == a.tail then better_of (carrier net) old (arc_offer net a.tail i r) else old)
+    → new ≡ relaxed (carrier net) row start (heard_so_far net i r (m + 1) k)
+step_take net i r m k a row start old new h none e f = by (k == a.tail) refl
+  where
+    or_true : (b : Bool) → (b || true) ≡ true
+    or_true true = refl
+    or_true false = refl
+
+    by : (b : Bool) → (k == a.tail) ≡ b → new ≡ relaxed (carrier net) row start (heard_so_far net i r (m + 1) k)
+    by true g =
+        let here : k ≡ a.tail = grind (arith, nat_tests) in
+        let back : (a.tail == k) ≡ true = grind (arith, nat_tests) in
+        let heard : list_any (λ (b : PureArc). b.tail == k) (take (m + 1) (arcs_to net i)) ≡ true =
+        heard_more net i r m k a h ∙ rw back (or_true (list_any (λ (b : PureArc). b.tail == k) (take m (arcs_to net i)))) in
+        rw (heard, none here) (rw (g, ← here) at f ∙ (ap (λ o. better_of (carrier net) o (arc_offer net k i r)) (rw (none here) at e)
+        ∙ both (list_any (λ (b : PureArc). b.tail == k) (take m (arcs_to net i)))))
+      where
+        both : (b : Bool) → better_of (carrier net) (better_of (carrier net) start (if b then arc_offer net k i r else None)) (arc_offer net k i r) ≡ better_of (carrier net) start (arc_offer net k i r)
+        both true = better_twice (carrier net) start (arc_offer net k i r)
+        both false = refl
+    by false g =
+        let ne : (a.tail ≡ k → is_some row ≡ true) = λ x. absurd (let y : (k == a.tail) ≡ true = grind (arith, nat_tests) in false≢true (sym g ∙ y)) in
+        (rw g at f) ∙ (e ∙ step_over net i r m k a row start h ne)
+
+-- what an arc makes of the route of its head
+pub made_offer : (net : PureNet) (i m : ℕ) (a : PureArc) (r : PureRoute) → IsHeard net i m a
+    → option_map (λ (v : PureValue). record { value = v; path = a.tail ∷ r.path }) (App net.alg a.label r.value) ≡ arc_offer net a.tail i r
+made_offer net i m a r h = rw h.label refl
+
+none_between : (arcs : List PureArc) (k i : ℕ) → list_any (λ (a : PureArc). a.tail == k) (filter (λ (a : PureArc). a.head == i) arcs) ≡ false → find (is_arc_between k i) arcs ≡ None
+none_between [] k i e = refl
+none_between (a ∷ arcs) k i e = by (none_between arcs k i) (a.head == i) refl (a.tail == k) refl
+  where
+    by : (list_any (λ (a : PureArc). a.tail == k) (filter (λ (a : PureArc). a.head == i) arcs) ≡ false → find (is_arc_between k i) arcs ≡ None)
+        → (b : Bool) → (a.head == i) ≡ b → (c : Bool) → (a.tail == k) ≡ c → find (is_arc_between k i) (a ∷ arcs) ≡ None
+    by rest true f true g = absurd (false≢true (sym (rw (f, g) at e)))
+    by rest true f false g = rw (f, g) (rest (rw (f, g) at e))
+    by rest false f true g = rw (f, g) (rest (rw f at e))
+    by rest false f false g = rw (f, g) (rest (rw f at e))
+
+-- all arcs that the node speaks on make of its route what arcs make of it
+pub heard_all : (net : PureNet) (i : ℕ) (r : PureRoute) (m k : ℕ) → m ≡ length (arcs_to net i) → heard_so_far net i r m k ≡ arc_offer net k i r
+heard_all net i r m k e = rw (e, take-length (arcs_to net i)) (by (list_any (λ (a : PureArc). a.tail == k) (arcs_to net i)) refl)
+  where
+    by : (b : Bool) → list_any (λ (a : PureArc). a.tail == k) (arcs_to net i) ≡ b → (if b then arc_offer net k i r else None) ≡ arc_offer net k i r
+    by true f = refl
+    by false f = rw (none_between net.arcs k i f) refl
+
+pub heard_arc : (net : PureNet) (i m id : ℕ) (a : PureArc) → IsHeardId net i m id → slice_get net.arcs id ≡ Some a → IsHeard net i m a
+heard_arc net i m id a h e =
+    let f = h.there in
+    let same : h.arc ≡ a = cc in
+    rw same at h.heard
+
+pub heard_within : (net : PureNet) (i m id : ℕ) → IsHeardId net i m id → id < length net.arcs
+heard_within net i m id h = slice_get_within net.arcs id h.arc h.there
