@@ -1,10 +1,10 @@
 -- Preference is a total preorder on each carrier.
-use Rattle.std.proofs.Common.{◌≡◌, ℕ, arith}
+use Rattle.std.proofs.Common.{◌≡◌, arith}
 use Rattle.std.proofs.lemmas.Bool.Decides.{nat_tests}
-use Rattle.std.specs.Ordering.{nat_cmp, ordering_reverse}
+use Rattle.std.specs.Ordering.{ordering_reverse}
 use Rattle.std.specs.declared.cmp.Ordering.TheVariants.{Less, Equal}
 use Rattle.alg_model.specs.Expressions.{PureCarrier, whole, PureValue, number}
-use Rattle.alg_model.specs.Carriers.{In, Order}
+use Rattle.alg_model.specs.Carriers.{Order}
 use Rattle.alg_model.specs.Preorder.{IsTotalPreorder}
 
 flipped : (u v : PureValue) → Order whole v u ≡ ordering_reverse (Order whole u v)

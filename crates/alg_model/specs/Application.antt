@@ -1,5 +1,5 @@
 -- Labels, and what they make of values (Griffin and Sobrinho 2005).
-use Rattle.std.specs.Prelude.{ℕ, ◌+◌, ◌≤◌, Option, Some}
+use Rattle.std.specs.Prelude.{◌+◌, ◌≤◌, Option, Some}
 use Rattle.alg_model.specs.Expressions.{Expression, add, PureValue, number, PureLabel, number_label}
 
 -- the label is one of the algebra's

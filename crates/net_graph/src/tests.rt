@@ -28,11 +28,7 @@ fn two_nodes(alloc: Global) -> Result<NetDraft, Fail>
 }
 
 // An arc from a to b, and an origin of d at b.
-fn small_net(alloc: Global) -> Result<Net, Fail>
-    ensures nodes { IfOk result (λ net. length net.nodes ≡ 2) }
-    ensures dests { IfOk result (λ net. length net.dests ≡ 1) }
-    ensures arcs { IfOk result (λ net. length net.arcs ≡ 1) }
-{
+fn small_net(alloc: Global) -> Result<Net, Fail> {
     let mut draft = two_nodes(alloc)?;
     draft.add_arc(NodeId(0), NodeId(1), Label::Number(3))?;
     draft.add_origin(b"d", NodeId(1), Value::Number(7))?;
@@ -40,34 +36,45 @@ fn small_net(alloc: Global) -> Result<Net, Fail>
     Ok(draft.finish()?)
 }
 
+fn keeps_names(net: &Net) -> bool
+    requires nodes { length net.now.nodes ≡ 2 }
+    requires dests { length net.now.dests ≡ 1 }
+{
+    net.node_named(b"b") == Some(NodeId(1))
+        && net.dest_named(b"d") == Some(DestId(0))
+        && net.node_name(NodeId(1)) == b"b".as_slice()
+        && net.dest_name(DestId(0)) == b"d".as_slice()
+}
+
+fn files_arcs(net: &Net) -> bool
+    requires nodes { length net.now.nodes ≡ 2 }
+    requires arcs { length net.now.arcs ≡ 1 }
+{
+    net.out_arcs(NodeId(0)).len() == 1
+        && net.listeners(NodeId(1)) == [ArcId(0)].as_slice()
+        && net.arc(ArcId(0)).head == NodeId(1)
+        && net.has_arc(NodeId(0), NodeId(1))
+        && !net.has_arc(NodeId(1), NodeId(0))
+}
+
+fn files_origins(net: &Net) -> bool
+    requires { length net.now.dests ≡ 1 }
+{
+    net.origins_of(DestId(0)).len() == 1
+        && net.has_origin(DestId(0), NodeId(1))
+        && !net.has_origin(DestId(0), NodeId(0))
+}
+
 #[test]
-fn keeps_names(rt: HostRuntime) -> Result<(), Fail> {
+fn files_a_network(rt: HostRuntime) -> Result<(), Fail> {
     let net = small_net(rt.alloc())?;
     is_shared(&net);
-    assert_eq!(rt; net.node_named(b"b"), Some(NodeId(1)));
-    assert_eq!(rt; net.dest_named(b"d"), Some(DestId(0)));
-    assert_eq!(rt; net.node_name(NodeId(1)), b"b".as_slice());
-    assert_eq!(rt; net.dest_name(DestId(0)), b"d".as_slice());
-    Ok(())
-}
-
-#[test]
-fn files_arcs(rt: HostRuntime) -> Result<(), Fail> {
-    let net = small_net(rt.alloc())?;
-    assert_eq!(rt; net.out_arcs(NodeId(0)).len(), 1);
-    assert_eq!(rt; net.listeners(NodeId(1)), [ArcId(0)].as_slice());
-    assert_eq!(rt; net.arc(ArcId(0)).head, NodeId(1));
-    assert!(rt; net.has_arc(NodeId(0), NodeId(1)));
-    assert!(rt; !net.has_arc(NodeId(1), NodeId(0)));
-    Ok(())
-}
-
-#[test]
-fn files_origins(rt: HostRuntime) -> Result<(), Fail> {
-    let net = small_net(rt.alloc())?;
-    assert_eq!(rt; net.origins_of(DestId(0)).len(), 1);
-    assert!(rt; net.has_origin(DestId(0), NodeId(1)));
-    assert!(rt; !net.has_origin(DestId(0), NodeId(0)));
+    assert!(rt; net.node_count() == 2);
+    assert!(rt; net.arc_count() == 1);
+    assert!(rt; net.dest_count() == 1);
+    assert!(rt; keeps_names(&net));
+    assert!(rt; files_arcs(&net));
+    assert!(rt; files_origins(&net));
     Ok(())
 }
 
