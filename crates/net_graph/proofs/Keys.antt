@@ -1,5 +1,5 @@
 -- Names and pairs as keys.
-use Rattle.std.proofs.Common.{◌≡◌, ℕ, List, [], ◌∷◌, ◌++◌, Bool, true, false, cond, ◌||◌, ◌&&◌, eqb, ltb, refl, ap, map, position, Global, ◌+◌, ◌<◌, ◌≤◌, length, Some, None, ◌∙◌, sym, not, arith}
+use Rattle.std.proofs.Common.{◌≡◌, ℕ, List, [], ◌∷◌, ◌++◌, Bool, true, false, cond, ◌||◌, ◌&&◌, eqb, ltb, refl, ap, map, position, Global, ◌+◌, ◌≤◌, length, Some, None, ◌∙◌, not, arith}
 use Rattle.std.proofs.lemmas.List.{length-map}
 use Rattle.std.proofs.lemmas.Bool.Decides.{nat_tests}
 use Rattle.std.specs.List.{list_any, prefix_len}

@@ -1,6 +1,6 @@
 -- Networks with a node, an arc or an origin more.
-use Rattle.std.proofs.Common.{◌≡◌, ◌≢◌, ℕ, ◌+◌, ◌<◌, ◌≤◌, List, [], ◌∷◌, ◌++◌, Bool, true, false, ◌||◌, ◌&&◌, eqb, Option, Some, None, length, map, filter, cond, refl, sym, ap, subst, ◌∙◌, arith, unwrap_or, ltb}
-use Rattle.std.proofs.lemmas.List.{length_push, map-append, length-map}
+use Rattle.std.proofs.Common.{◌≡◌, ◌≢◌, ℕ, ◌+◌, ◌<◌, ◌≤◌, List, [], ◌∷◌, ◌++◌, Bool, true, false, ◌||◌, ◌&&◌, eqb, Option, Some, None, length, map, filter, cond, refl, sym, ap, ◌∙◌, arith, unwrap_or, ltb}
+use Rattle.std.proofs.lemmas.List.{length_push, map-append}
 use Rattle.std.proofs.lemmas.Bool.Decides.{nat_tests}
 use Rattle.std.proofs.lemmas.Slice.Eq.{bytes_eq-Decides}
 use Rattle.std.specs.List.{list_any, AllByRecursion, position_or_len}
@@ -11,7 +11,7 @@ use Rattle.alg_model.specs.Expressions.{Expression, PureLabel, PureValue}
 use Rattle.alg_model.specs.Application.{IsLabel}
 use Rattle.alg_model.specs.Carriers.{carrier_of, In}
 use Rattle.alg_model.specs.Bounds.{AtMost, LabelAtMost}
-use Rattle.net_graph.specs.Nets.{PureArc, PureOrigin, PureNet, IsNet, IsArcOf, IsOriginOf, AreDistinct, AreNumbered, joins_same, stands_same, is_name, number_of, has_arc, has_origin, max_nodes, max_arcs, max_dests}
+use Rattle.net_graph.specs.Nets.{PureArc, PureOrigin, PureNet, IsArcOf, IsOriginOf, AreDistinct, AreNumbered, joins_same, stands_same, is_name, number_of, has_arc, has_origin, max_nodes, max_arcs, max_dests}
 use Rattle.net_graph.specs.Lines.{with_node, with_arc, with_origin, with_origin_of}
 use Rattle.net_graph.specs.Parts.{IsKnown, arc_pair, origin_pair}
 use Rattle.net_graph.specs.Dests.{dests_with, dest_number}

@@ -1,7 +1,7 @@
 -- What the lines of a network file add to a network.
 use Rattle.std.specs.Prelude.{ℕ, List, [], ◌∷◌, ◌++◌, Option, Some, None, length}
 use Rattle.alg_model.specs.Expressions.{Expression, PureLabel, PureValue}
-use Rattle.net_graph.specs.Nets.{PureArc, PureOrigin, PureNet, number_of}
+use Rattle.net_graph.specs.Nets.{PureNet, number_of}
 
 -- the network of no line
 abbrev pub empty_net : Expression → PureNet

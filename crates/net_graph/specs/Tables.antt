@@ -4,10 +4,9 @@ use Rattle.std.specs.Prelude.{◌≡◌, ℕ, ◌+◌, ◌<◌, ◌≤◌, ◌^�
 use Rattle.std.specs.List.{list_any, AllByRecursion}
 use Rattle.alg_model.specs.Expressions.{PureCarrier, PureValue}
 use Rattle.alg_model.specs.Carriers.{carrier_of, In, IsPreferred}
-use Rattle.alg_model.specs.Application.{App}
 use Rattle.alg_model.specs.Bounds.{AtMost}
 use Rattle.alg_model.specs.Properties.{PureProperty, Has}
-use Rattle.net_graph.specs.Nets.{PureArc, PureNet, label_between, origin_value}
+use Rattle.net_graph.specs.Nets.{PureArc, PureNet, origin_value}
 use Rattle.net_graph.specs.Routes.{PureRoute, Better}
 use Rattle.net_graph.specs.Walks.{Walk, Weight, along}
 

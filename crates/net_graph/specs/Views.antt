@@ -1,5 +1,5 @@
 -- What arcs, origins, routes and rows of the program stand for.
-use Rattle.std.specs.Prelude.{ℕ, List, map, option_map}
+use Rattle.std.specs.Prelude.{List, map, option_map}
 use Rattle.alg_model.specs.Views.{pure_value, pure_label}
 use Rattle.net_graph.specs.declared.parts.Arc.{Arc}
 use Rattle.net_graph.specs.declared.parts.Origin.{Origin}

@@ -1,6 +1,6 @@
 -- Walks and their weights (Sobrinho 2005; Griffin and Sobrinho 2005).
-use Rattle.std.specs.Prelude.{◌≡◌, ℕ, List, [], ◌∷◌, true, Option, Some, None, option_and_then}
-use Rattle.alg_model.specs.Expressions.{PureValue, PureLabel}
+use Rattle.std.specs.Prelude.{◌≡◌, ℕ, List, [], ◌∷◌, true, Option, None, option_and_then}
+use Rattle.alg_model.specs.Expressions.{PureValue}
 use Rattle.alg_model.specs.Application.{App}
 use Rattle.net_graph.specs.Nets.{PureNet, has_arc, has_origin, label_between, origin_value}
 

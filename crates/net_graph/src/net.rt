@@ -10,7 +10,8 @@ use meta_base::{ArcId, DestId, NodeId};
 use std::marker::Model;
 
 /// A network: an algebra, nodes, destinations, arcs and origins. Contracts see the lists of these, and
-/// each network meets its rules. No call takes memory.
+/// each network meets its rules. No call takes memory, and every id that a call is given is below the
+/// count of its kind.
 #[derive(Drop)]
 pub struct Net {
     known: Known,

@@ -1,5 +1,4 @@
 use Rattle.std.proofs.Common.{◌∙◌, length}
-use Rattle.net_graph.specs.Parts.{net_from}
 use Rattle.net_graph.proofs.GroupLemmas.{items_at-stand}
 use Rattle.net_graph.proofs.FiledLemmas.{heads_in, tails_in, dests_in, filed_known, filed_net}
 use Rattle.net_graph.proofs.draft.NetDraft.finish.Goals as goal
