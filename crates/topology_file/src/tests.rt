@@ -36,18 +36,27 @@ fn bad_line(alloc: Global, text: &[u8]) -> Result<u32, Fail> {
 const NETWORK: &[u8] =
     b"# three nodes\r\nnode a b\tc.1_X-\r\n\n \t \nlink a b : 3 # of the fastest\r\n\tlink b a: 9\nlink\tb c.1_X-:007\t\norigin x at b : 0\norigin y at a : 4294967295\norigin x at c.1_X- :12";
 
+fn network(alloc: Global) -> Result<Net, Fail> {
+    Ok(read(alloc, NETWORK)??)
+}
+
 #[test]
-fn reads_a_network(rt: HostRuntime) -> Result<(), Fail> {
-    let net = read(rt.alloc(), NETWORK)??;
-    assert_eq!(rt;
-        (net.node_count(), net.arc_count(), net.dest_count()),
-        (3, 3, 2)
-    );
+fn reads_nodes_and_arcs(rt: HostRuntime) -> Result<(), Fail> {
+    let net = network(rt.alloc())?;
+    assert_eq!(rt; net.node_count(), 3);
     assert_eq!(rt; net.node_named(b"c.1_X-"), Some(NodeId(2)));
-    assert_eq!(rt; net.dest_named(b"y"), Some(DestId(1)));
+    assert_eq!(rt; net.arc_count(), 3);
     let arc = net.arc(ArcId(2));
     let Label::Number(label) = arc.label;
     assert_eq!(rt; (arc.tail, arc.head, label), (NodeId(1), NodeId(2), 7));
+    Ok(())
+}
+
+#[test]
+fn reads_origins(rt: HostRuntime) -> Result<(), Fail> {
+    let net = network(rt.alloc())?;
+    assert_eq!(rt; net.dest_count(), 2);
+    assert_eq!(rt; net.dest_named(b"y"), Some(DestId(1)));
     let [first, second] = net.origins_of(DestId(0)) else {
         return Err("not two origins".into());
     };
@@ -81,11 +90,23 @@ fn wrong_rows(alloc: Global, rows: &[u8]) -> Result<u32, Fail> {
     Ok(wrong)
 }
 
+fn rows_of_forms() -> &'static [u8] {
+    FORMS
+}
+
+fn rows_of_links() -> &'static [u8] {
+    LINKS
+}
+
+fn rows_of_origins() -> &'static [u8] {
+    ORIGINS
+}
+
 #[test]
 fn refuses_the_first_bad_line(rt: HostRuntime) -> Result<(), Fail> {
-    assert_eq!(rt; wrong_rows(rt.alloc(), FORMS)?, 0);
-    assert_eq!(rt; wrong_rows(rt.alloc(), LINKS)?, 0);
-    assert_eq!(rt; wrong_rows(rt.alloc(), ORIGINS)?, 0);
+    assert_eq!(rt; wrong_rows(rt.alloc(), rows_of_forms())?, 0);
+    assert_eq!(rt; wrong_rows(rt.alloc(), rows_of_links())?, 0);
+    assert_eq!(rt; wrong_rows(rt.alloc(), rows_of_origins())?, 0);
     Ok(())
 }
 
@@ -99,74 +120,99 @@ fn counts_the_bytes_of_a_line(rt: HostRuntime) -> Result<(), Fail> {
 }
 
 // The i-th name of two letters.
-fn name_of(i: u8, j: u8) -> [u8; 2]
-    requires first { i < 26 }
-    requires second { j < 26 }
+fn name_of(i: u16) -> [u8; 2]
+    requires { i < 676 }
 {
-    [b'a' + i, b'a' + j]
+    [b'a' + (i / 26) as u8, b'a' + (i % 26) as u8]
 }
 
-// A text of `count` nodes, each on its own line.
-fn nodes_text(alloc: Global, count: usize) -> Result<Vec<u8>, NoMemory> {
+fn push_node(text: &mut Vec<u8>, i: u16) -> Result<(), NoMemory>
+    requires { i < 676 }
+{
+    text.extend_from_slice(b"node ")?;
+    text.extend_from_slice(&name_of(i))?;
+    text.push(b'\n')?;
+    Ok(())
+}
+
+fn push_link(text: &mut Vec<u8>, i: u16, j: u16) -> Result<(), NoMemory>
+    requires listener { i < 676 }
+    requires speaker { j < 676 }
+{
+    text.extend_from_slice(b"link ")?;
+    text.extend_from_slice(&name_of(i))?;
+    text.push(b' ')?;
+    text.extend_from_slice(&name_of(j))?;
+    text.extend_from_slice(b" : 1\n")?;
+    Ok(())
+}
+
+fn push_origin(text: &mut Vec<u8>, i: u16) -> Result<(), NoMemory>
+    requires { i < 676 }
+{
+    text.extend_from_slice(b"origin ")?;
+    text.extend_from_slice(&name_of(i))?;
+    text.extend_from_slice(b" at aa : 0\n")?;
+    Ok(())
+}
+
+// So many nodes, each on a line of its own.
+fn nodes_text(alloc: Global, count: u16) -> Result<Vec<u8>, NoMemory>
+    requires { count < 676 }
+{
     let mut text = Vec::new(alloc);
-    let mut left = count;
-    for i in 0..26 {
-        for j in 0..26 {
-            if left > 0 {
-                text.extend_from_slice(b"node ")?;
-                text.extend_from_slice(&name_of(i, j))?;
-                text.push(b'\n')?;
-                left -= 1;
-            }
+    for i in 0..count {
+        push_node(&mut text, i)?;
+    }
+    Ok(text)
+}
+
+// One node, and so many destinations.
+fn origins_text(alloc: Global, count: u16) -> Result<Vec<u8>, NoMemory>
+    requires { count < 676 }
+{
+    let mut text = nodes_text(alloc, 1)?;
+    for i in 0..count {
+        push_origin(&mut text, i)?;
+    }
+    Ok(text)
+}
+
+// The arcs from one of so many nodes to all others.
+fn push_links(text: &mut Vec<u8>, i: u16, count: u16) -> Result<(), NoMemory>
+    requires listener { i < 676 }
+    requires speakers { count < 676 }
+{
+    for j in 0..count {
+        if i != j {
+            push_link(text, i, j)?;
         }
+    }
+    Ok(())
+}
+
+// So many nodes, and all arcs between them.
+fn links_text(alloc: Global, count: u16) -> Result<Vec<u8>, NoMemory>
+    requires { count < 676 }
+{
+    let mut text = nodes_text(alloc, count)?;
+    for i in 0..count {
+        push_links(&mut text, i, count)?;
     }
     Ok(text)
 }
 
 #[test]
-fn counts_nodes_arcs_and_destinations(rt: HostRuntime) -> Result<(), Fail> {
+fn counts_what_is_there(rt: HostRuntime) -> Result<(), Fail> {
     let text = nodes_text(rt.alloc(), 512)?;
     assert_eq!(rt; bad_line(rt.alloc(), &text)?, 0);
     let text = nodes_text(rt.alloc(), 513)?;
     assert_eq!(rt; bad_line(rt.alloc(), &text)?, 513);
-    // 64 destinations at one node, and then 65.
-    let mut text = nodes_text(rt.alloc(), 104)?;
-    for i in 0..3 {
-        for j in 0..26 {
-            if i < 2 || j < 13 {
-                text.extend_from_slice(b"origin ")?;
-                text.extend_from_slice(&name_of(i, j))?;
-                text.extend_from_slice(b" at aa : 0\n")?;
-            }
-        }
-    }
-    assert_eq!(rt; bad_line(rt.alloc(), &text)?, 104 + 65);
-    // 79 arcs from each of 104 nodes, so the 8,193rd is the 56th of the 104th.
-    let mut text = nodes_text(rt.alloc(), 104)?;
-    for i in 0..4 {
-        for j in 0..26 {
-            push_arcs(&mut text, &name_of(i, j))?;
-        }
-    }
-    assert_eq!(rt; bad_line(rt.alloc(), &text)?, 104 + 8193);
-    Ok(())
-}
-
-// Arcs from the node to the first 79 others.
-fn push_arcs(text: &mut Vec<u8>, tail: &[u8; 2]) -> Result<(), NoMemory> {
-    let mut left = 79;
-    for i in 0..4 {
-        for j in 0..26 {
-            let head = name_of(i, j);
-            if left > 0 && *tail != head {
-                text.extend_from_slice(b"link ")?;
-                text.extend_from_slice(tail)?;
-                text.push(b' ')?;
-                text.extend_from_slice(&head)?;
-                text.extend_from_slice(b" : 1\n")?;
-                left -= 1;
-            }
-        }
-    }
+    // The 65th destination, behind the line of the node.
+    let text = origins_text(rt.alloc(), 65)?;
+    assert_eq!(rt; bad_line(rt.alloc(), &text)?, 66);
+    // The 8,193rd of 92 * 91 = 8,372 arcs, behind the lines of 92 nodes.
+    let text = links_text(rt.alloc(), 92)?;
+    assert_eq!(rt; bad_line(rt.alloc(), &text)?, 8285);
     Ok(())
 }
