@@ -242,25 +242,122 @@ fn routes_are_found(rt: HostRuntime) -> Result<(), Fail> {
     Ok(())
 }
 
+// The line of the network file that is refused, or 0 where none is.
+fn bad_line(rt: &impl AllocGlobal, net: &[u8]) -> Result<u8, Fail> {
+    let outcome = run_on(rt, &["route", "f", "n"], b"main add(1..9);", net)?;
+    let line = outcome
+        .taken
+        .strip_prefix(b"network refused: N1 at line ".as_slice());
+    match line {
+        Some([digit, b'\n']) => Ok(digit.wrapping_sub(b'0')),
+        _ => Ok(0),
+    }
+}
+
 #[test]
-fn networks_are_refused(rt: HostRuntime) -> Result<(), Fail> {
+fn node_lines(rt: HostRuntime) -> Result<(), Fail> {
+    for (line, net) in [
+        (
+            0,
+            b"# node a\r\n\nnode a\tb-1 _.Z # c\r\n \t\nnode c".as_slice(),
+        ),
+        (1, b"node"),
+        (1, b"edge a b"),
+        (1, b"Node a"),
+        (2, b"node a\nboth a a : 1"),
+        (1, b"node a\0"),
+        (1, b"node a\rb"),
+        (1, b"node a\r\r"),
+        (1, b"node a\r# b"),
+        (1, b"node a/b"),
+        (0, b"node abcdefghijklmnopqrstuvwxyz012345"),
+        (1, b"node abcdefghijklmnopqrstuvwxyz0123456"),
+        (2, b"node a\nnode b a"),
+        (1, b"node a b a"),
+    ] {
+        assert_eq!(rt; bad_line(&rt, net)?, line);
+    }
+    Ok(())
+}
+
+#[test]
+fn link_lines(rt: HostRuntime) -> Result<(), Fail> {
+    for (line, net) in [
+        (0, b"node a b\nlink a b : 9\nlink b\ta:\t01 ".as_slice()),
+        (2, b"node a b\nlink a b 1"),
+        (2, b"node a b\nlink a : 1"),
+        (2, b"node a b\nlink a b b : 1"),
+        (2, b"node a b\nlink a b :"),
+        (2, b"node a b\nlink a b : 1 2"),
+        (2, b"node a b\nlink a b : +1"),
+        (2, b"node a b\nlink a b : 0"),
+        (2, b"node a b\nlink a b : 10"),
+        (2, b"node a b\nlink a c : 1"),
+        (2, b"node a b\nlink a a : 1"),
+        (4, b"node a b\nlink a b : 1\n\nlink a b : 2"),
+    ] {
+        assert_eq!(rt; bad_line(&rt, net)?, line);
+    }
+    Ok(())
+}
+
+#[test]
+fn origin_lines(rt: HostRuntime) -> Result<(), Fail> {
+    for (line, net) in [
+        (
+            0,
+            b"node a\norigin a at a : 4294967295\norigin b at a:0".as_slice(),
+        ),
+        (2, b"node a\norigin a at a 0"),
+        (2, b"node a\norigin a on a : 0"),
+        (2, b"node a\norigin a at : 0"),
+        (2, b"node a\norigin a at b : 0"),
+        (2, b"node a\norigin a at a : 4294967296"),
+        (2, b"node a\norigin a at a : q"),
+        (3, b"node a\norigin a at a : 0\norigin a at a : 1"),
+    ] {
+        assert_eq!(rt; bad_line(&rt, net)?, line);
+    }
+    Ok(())
+}
+
+#[test]
+fn long_lines(rt: HostRuntime) -> Result<(), Fail> {
+    let mut line = vec![in rt.alloc(); b' '; 4096]?;
+    assert_eq!(rt; bad_line(&rt, &line)?, 0);
+    line.push(b'\r')?;
+    assert_eq!(rt; bad_line(&rt, &line)?, 1);
+    Ok(())
+}
+
+// A network of so many nodes, one on a line.
+fn many_nodes(alloc: Global, count: u32) -> Result<Vec<u8>, Fail> {
+    let mut net = Vec::new(alloc);
+    for node in 0..count {
+        net.extend_from_slice(format!(in alloc; "node n{node}\n")?.as_bytes())?;
+    }
+    Ok(net)
+}
+
+#[test]
+fn there_are_at_most_512_nodes(rt: HostRuntime) -> Result<(), Fail> {
     let words = ["route", "f", "n"];
-    let outcome = run_on(&rt, &words, b"main add(1..10);", b"edge a b\n")?;
+    let net = many_nodes(rt.alloc(), 512)?;
+    let outcome = run_on(&rt, &words, b"main add(1..9);", &net)?;
+    assert_eq!(rt; outcome.taken.as_slice(), b"".as_slice());
+    let net = many_nodes(rt.alloc(), 513)?;
+    let outcome = run_on(&rt, &words, b"main add(1..9);", &net)?;
     assert_eq!(rt;
         outcome.taken.as_slice(),
-        b"network refused: N1 at line 1\n".as_slice()
+        b"network refused: N1 at line 513\n".as_slice()
     );
     assert_eq!(rt; outcome.status, 2);
-    let outcome = run_on(
-        &rt,
-        &words,
-        b"main add(1..10);",
-        b"node a b\nlink a b : 11\n",
-    )?;
-    assert_eq!(rt;
-        outcome.taken.as_slice(),
-        b"network refused: N1 at line 2\n".as_slice()
-    );
+    Ok(())
+}
+
+#[test]
+fn network_files_are_read_second(rt: HostRuntime) -> Result<(), Fail> {
+    let words = ["route", "f", "n"];
     let outcome = run_on(&rt, &words, b"main", b"edge a b\n")?;
     assert_eq!(rt;
         outcome.taken.as_slice(),
