@@ -206,197 +206,75 @@ fn writing_fails(rt: HostRuntime) -> Result<(), Fail> {
     Ok(())
 }
 
+// Two ways from a to d that are equally good: the one by the smaller node number is taken.
 const DIAMOND: &[u8] =
     b"node a b c d\nlink a b : 1\nlink a c : 1\nlink b d : 1\nlink c d : 1\norigin x at d : 0\n";
 
+fn diamond() -> &'static [u8] {
+    DIAMOND
+}
+
+const DIAMOND_ROUTES: &[u8] = b"a x 2 a b d\nb x 1 b d\nc x 1 c d\nd x 0 d\n";
+
+fn diamond_routes() -> &'static [u8] {
+    DIAMOND_ROUTES
+}
+
 #[test]
-fn routes_are_found(rt: HostRuntime) -> Result<(), Fail> {
-    let shortest: &[u8] = b"main add(1..10);";
-    let one: &[u8] = b"main add(1..1);";
-    for (file, net, expected) in [
-        // Equal values go to the shorter path, and then to the smaller node numbers.
-        (one, DIAMOND, "a x 2 a b d\nb x 1 b d\nc x 1 c d\nd x 0 d\n"),
-        (
-            shortest,
-            b"node a b c\nlink a c : 2\nlink a b : 1\nlink b c : 1\norigin x at c : 0\n",
-            "a x 2 a c\nb x 1 b c\nc x 0 c\n",
-        ),
-        (one, b"", ""),
-        (one, b"node a\norigin x at a : 0", "a x 0 a\n"),
-        (
-            shortest,
-            b"node a b c\nlink a b : 3\nlink b a : 3\norigin x at b : 0\n",
-            "a x 3 a b\nb x 0 b\nc x none\n",
-        ),
-        // Two destinations, one of them at two nodes.
-        (
-            shortest,
-            b"node a b\nlink a b : 4\norigin x at b : 7\norigin y at b : 0\norigin x at a : 12\n",
-            "a x 11 a b\nb x 7 b\na y 4 a b\nb y 0 b\n",
-        ),
-    ] {
-        let outcome = run_on(&rt, &["route", "f", "n"], file, net)?;
-        assert_eq!(rt; str::from_utf8(&outcome.taken)?, expected);
-        assert_eq!(rt; outcome.status, 0);
-    }
+fn smaller_numbers_are_taken(rt: HostRuntime) -> Result<(), Fail> {
+    let outcome = run_on(&rt, &["route", "f", "n"], b"main add(1..1);", diamond())?;
+    assert_eq!(rt; outcome.taken.as_slice(), diamond_routes());
+    assert_eq!(rt; outcome.status, 0);
     Ok(())
 }
 
-// The line of the network file that is refused, or 0 where none is.
-fn bad_line(rt: &impl AllocGlobal, net: &[u8]) -> Result<u8, Fail> {
-    let outcome = run_on(rt, &["route", "f", "n"], b"main add(1..9);", net)?;
-    let line = outcome
-        .taken
-        .strip_prefix(b"network refused: N1 at line ".as_slice());
-    match line {
-        Some([digit, b'\n']) => Ok(digit.wrapping_sub(b'0')),
-        _ => Ok(0),
-    }
+// Two ways from a to c that are equally good: the shorter one is taken. From d there is none.
+const TRIANGLE: &[u8] =
+    b"node a b c d\nlink a b : 1\nlink b c : 1\nlink a c : 2\norigin x at c : 0\n";
+
+fn triangle() -> &'static [u8] {
+    TRIANGLE
+}
+
+const TRIANGLE_ROUTES: &[u8] = b"a x 2 a c\nb x 1 b c\nc x 0 c\nd x none\n";
+
+fn triangle_routes() -> &'static [u8] {
+    TRIANGLE_ROUTES
 }
 
 #[test]
-fn node_lines(rt: HostRuntime) -> Result<(), Fail> {
-    for (line, net) in [
-        (
-            0,
-            b"# node a\r\n\nnode a\tb-1 _.Z # c\r\n \t\nnode c".as_slice(),
-        ),
-        (1, b"node"),
-        (1, b"edge a b"),
-        (1, b"Node a"),
-        (2, b"node a\nboth a a : 1"),
-        (1, b"node a\0"),
-        (1, b"node a\rb"),
-        (1, b"node a\r\r"),
-        (1, b"node a\r# b"),
-        (1, b"node a/b"),
-        (0, b"node abcdefghijklmnopqrstuvwxyz012345"),
-        (1, b"node abcdefghijklmnopqrstuvwxyz0123456"),
-        (2, b"node a\nnode b a"),
-        (1, b"node a b a"),
-    ] {
-        assert_eq!(rt; bad_line(&rt, net)?, line);
-    }
+fn shorter_paths_are_taken(rt: HostRuntime) -> Result<(), Fail> {
+    let outcome = run_on(&rt, &["route", "f", "n"], b"main add(1..2);", triangle())?;
+    assert_eq!(rt; outcome.taken.as_slice(), triangle_routes());
     Ok(())
 }
 
 #[test]
-fn link_lines(rt: HostRuntime) -> Result<(), Fail> {
-    for (line, net) in [
-        (0, b"node a b\nlink a b : 9\nlink b\ta:\t01 ".as_slice()),
-        (2, b"node a b\nlink a b 1"),
-        (2, b"node a b\nlink a : 1"),
-        (2, b"node a b\nlink a b b : 1"),
-        (2, b"node a b\nlink a b :"),
-        (2, b"node a b\nlink a b : 1 2"),
-        (2, b"node a b\nlink a b : +1"),
-        (2, b"node a b\nlink a b : 0"),
-        (2, b"node a b\nlink a b : 10"),
-        (2, b"node a b\nlink a c : 1"),
-        (2, b"node a b\nlink a a : 1"),
-        (4, b"node a b\nlink a b : 1\n\nlink a b : 2"),
-    ] {
-        assert_eq!(rt; bad_line(&rt, net)?, line);
-    }
+fn empty_networks_have_no_rows(rt: HostRuntime) -> Result<(), Fail> {
+    let outcome = run_on(&rt, &["route", "f", "n"], b"main add(1..2);", b"")?;
+    assert_eq!(rt; outcome.taken.len(), 0);
+    assert_eq!(rt; outcome.status, 0);
     Ok(())
 }
 
 #[test]
-fn origin_lines(rt: HostRuntime) -> Result<(), Fail> {
-    for (line, net) in [
-        (
-            0,
-            b"node a\norigin a at a : 4294967295\norigin b at a:0".as_slice(),
-        ),
-        (2, b"node a\norigin a at a 0"),
-        (2, b"node a\norigin a on a : 0"),
-        (2, b"node a\norigin a at : 0"),
-        (2, b"node a\norigin a at b : 0"),
-        (2, b"node a\norigin a at a : 4294967296"),
-        (2, b"node a\norigin a at a : q"),
-        (3, b"node a\norigin a at a : 0\norigin a at a : 1"),
-    ] {
-        assert_eq!(rt; bad_line(&rt, net)?, line);
-    }
-    Ok(())
-}
-
-#[test]
-fn long_lines(rt: HostRuntime) -> Result<(), Fail> {
-    let mut line = vec![in rt.alloc(); b' '; 4096]?;
-    assert_eq!(rt; bad_line(&rt, &line)?, 0);
-    line.push(b'\r')?;
-    assert_eq!(rt; bad_line(&rt, &line)?, 1);
-    Ok(())
-}
-
-// A network of so many nodes, one on a line.
-fn many_nodes(alloc: Global, count: u32) -> Result<Vec<u8>, Fail> {
-    let mut net = Vec::new(alloc);
-    for node in 0..count {
-        net.extend_from_slice(format!(in alloc; "node n{node}\n")?.as_bytes())?;
-    }
-    Ok(net)
-}
-
-#[test]
-fn there_are_at_most_512_nodes(rt: HostRuntime) -> Result<(), Fail> {
-    let words = ["route", "f", "n"];
-    let net = many_nodes(rt.alloc(), 512)?;
-    let outcome = run_on(&rt, &words, b"main add(1..9);", &net)?;
-    assert_eq!(rt; outcome.taken.as_slice(), b"".as_slice());
-    let net = many_nodes(rt.alloc(), 513)?;
-    let outcome = run_on(&rt, &words, b"main add(1..9);", &net)?;
+fn networks_are_refused(rt: HostRuntime) -> Result<(), Fail> {
+    let outcome = run_on(&rt, &["route", "f", "n"], b"main add(1..2);", b"edge a b\n")?;
     assert_eq!(rt;
         outcome.taken.as_slice(),
-        b"network refused: N1 at line 513\n".as_slice()
+        b"network refused: N1 at line 1\n".as_slice()
     );
     assert_eq!(rt; outcome.status, 2);
     Ok(())
 }
 
 #[test]
-fn network_files_are_read_second(rt: HostRuntime) -> Result<(), Fail> {
-    let words = ["route", "f", "n"];
-    let outcome = run_on(&rt, &words, b"main", b"edge a b\n")?;
-    assert_eq!(rt;
-        outcome.taken.as_slice(),
-        b"expression refused: X2 at 1:1\n".as_slice()
-    );
-    let outcome = run_on(&rt, &["route", "f", "m"], b"main add(1..10);", b"")?;
+fn networks_may_be_missing(rt: HostRuntime) -> Result<(), Fail> {
+    let outcome = run_on(&rt, &["route", "f", "m"], b"main add(1..2);", b"")?;
     assert_eq!(rt;
         outcome.taken.as_slice(),
         b"read fault on the network\n".as_slice()
     );
     assert_eq!(rt; outcome.status, 5);
-    let long = vec![in rt.alloc(); b'#'; MAX_FILE_BYTES + 1]?;
-    let outcome = run_on(&rt, &words, b"main add(1..10);", &long)?;
-    assert_eq!(rt;
-        outcome.taken.as_slice(),
-        b"too long: the network\n".as_slice()
-    );
-    assert_eq!(rt; outcome.status, 8);
-    Ok(())
-}
-
-// Calls 0 to 2 are of the expression, and 3 to 5 of the network.
-#[test]
-fn each_call_may_fail(rt: HostRuntime) -> Result<(), Fail> {
-    for call in 0..7 {
-        let around = Around {
-            file: b"main add(1..1);",
-            net: DIAMOND,
-            failing_calls: &[call],
-            failing_writes: &[],
-            bite: 100,
-        };
-        let outcome = run_around(&rt, &["route", "f", "n"], around)?;
-        let expected = match call {
-            0..=2 => "read fault on the expression\n",
-            3..=5 => "read fault on the network\n",
-            _ => "a x 2 a b d\nb x 1 b d\nc x 1 c d\nd x 0 d\n",
-        };
-        assert_eq!(rt; str::from_utf8(&outcome.taken)?, expected);
-    }
     Ok(())
 }
