@@ -1,0 +1,405 @@
+use super::*;
+use meta_base::{
+    List, MAX_FILE_BYTES, MemFile, MemShelf, MemSink, NoMemory, OpenGate, Shelf, Sink, Text,
+};
+use std::alloc::Global;
+use std::str;
+use std::test::Fail;
+
+// What a run over memory came to: its status, and the bytes that were taken.
+#[derive(Drop)]
+struct Outcome {
+    status: u8,
+    taken: Vec<u8>,
+}
+
+// What stands around a run: the bytes of the expression file `f` and of the network file `n`, the
+// calls of the shelf and of the sink that fail, and how much the sink takes at a time.
+#[derive(Clone, Copy)]
+struct Around<'a> {
+    file: &'a [u8],
+    net: &'a [u8],
+    failing_calls: &'a [u64],
+    failing_writes: &'a [u64],
+    bite: usize,
+}
+
+fn list_of<T: Copy>(alloc: Global, items: &[T]) -> Result<List<T>, NoMemory> {
+    Ok(List::from_vec(Vec::from_slice(alloc, items)?))
+}
+
+// The status of a run. It promises nothing of what was taken, so tests are quick to prove.
+fn status_of_run<S: Shelf, K: Sink>(
+    rt: &impl AllocGlobal,
+    words: &[Text],
+    shelf: &mut S,
+    out: &mut K,
+) -> u8 {
+    let ended = run_meta(rt, words, shelf, out, &OpenGate);
+    status(&ended.answer)
+}
+
+// A run of these words.
+fn run_around(rt: &impl AllocGlobal, words: &[&str], around: Around) -> Result<Outcome, Fail> {
+    let alloc = rt.alloc();
+    let mut files = List::new(alloc);
+    files.push(MemFile {
+        name: Text::copy(alloc, "f")?,
+        bytes: list_of(alloc, around.file)?,
+    })?;
+    files.push(MemFile {
+        name: Text::copy(alloc, "n")?,
+        bytes: list_of(alloc, around.net)?,
+    })?;
+    let mut shelf = MemShelf::new(files, list_of(alloc, around.failing_calls)?);
+    let failing = list_of(alloc, around.failing_writes)?;
+    let mut out = MemSink::new(alloc, 1000, around.bite.max(1), failing)?;
+    let mut texts = Vec::new(alloc);
+    for word in words {
+        texts.push(Text::copy(alloc, *word)?)?;
+    }
+    let status = status_of_run(rt, &texts, &mut shelf, &mut out);
+    Ok(Outcome {
+        status,
+        taken: out.taken().to_vec(alloc)?,
+    })
+}
+
+// A run of these words without a fault.
+fn run(rt: &impl AllocGlobal, words: &[&str], file: &[u8]) -> Result<Outcome, Fail> {
+    run_on(rt, words, file, b"")
+}
+
+// The same with a network.
+fn run_on(rt: &impl AllocGlobal, words: &[&str], file: &[u8], net: &[u8]) -> Result<Outcome, Fail> {
+    run_around(
+        rt,
+        words,
+        Around {
+            file,
+            net,
+            failing_calls: &[],
+            failing_writes: &[],
+            bite: 100,
+        },
+    )
+}
+
+const ALL_HOLD: &[u8] = b"monotone yes\nstrict yes\nisotone yes\ncancellative yes\ntotal yes\n";
+
+#[test]
+fn all_five_hold(rt: HostRuntime) -> Result<(), Fail> {
+    for file in [
+        b"main add(1..10);".as_slice(),
+        b"\tmain\r\nadd (0001 ..4294967295 ) ;\n",
+    ] {
+        let outcome = run(&rt, &["check", "f"], file)?;
+        assert_eq!(rt; outcome.taken.as_slice(), ALL_HOLD);
+        assert_eq!(rt; outcome.status, 0);
+    }
+    Ok(())
+}
+
+// Any value shows that adding 0 isn't strict.
+#[test]
+fn strict_fails_on_zero(rt: HostRuntime) -> Result<(), Fail> {
+    let outcome = run(&rt, &["check", "f"], b"main add(0..10);")?;
+    let text = str::from_utf8(&outcome.taken)?;
+    let rest = text
+        .strip_prefix("monotone yes\nstrict no: 0 on ")
+        .ok_or("strict isn't denied")?;
+    let value = rest
+        .strip_suffix("\nisotone yes\ncancellative yes\ntotal yes\n")
+        .ok_or("another property is denied")?;
+    let (value, image) = value.split_once(" gives ").ok_or("no image")?;
+    assert_eq!(rt; value.parse::<u64>()?, image.parse::<u64>()?);
+    assert_eq!(rt; outcome.status, 0);
+    Ok(())
+}
+
+#[test]
+fn words_are_refused(rt: HostRuntime) -> Result<(), Fail> {
+    let none: &[&str] = &[];
+    for words in [
+        none,
+        &["walk", "f"],
+        &["check"],
+        &["check", "f", "n"],
+        &["route", "f"],
+        &["route", "f", "n", "n"],
+    ] {
+        let outcome = run(&rt, words, b"main add(1..10);")?;
+        assert_eq!(rt; outcome.taken.as_slice(), b"words refused: C2\n".as_slice());
+        assert_eq!(rt; outcome.status, 1);
+    }
+    Ok(())
+}
+
+#[test]
+fn expressions_are_refused(rt: HostRuntime) -> Result<(), Fail> {
+    for file in [
+        b"".as_slice(),
+        b"main add(5..4);",
+        b"main add(1..4294967296);",
+        b"main add(1..10); # all",
+        b"main add(1..10)\0;",
+        b"main add(1. .10);",
+        b"main add(1..10);;",
+        b"let a = add(1..10); main a;",
+    ] {
+        let outcome = run(&rt, &["check", "f"], file)?;
+        assert_eq!(rt;
+            outcome.taken.as_slice(),
+            b"expression refused: X2 at 1:1\n".as_slice()
+        );
+        assert_eq!(rt; outcome.status, 2);
+    }
+    Ok(())
+}
+
+#[test]
+fn long_files(rt: HostRuntime) -> Result<(), Fail> {
+    let mut file = vec![in rt.alloc(); b'#'; MAX_FILE_BYTES]?;
+    let outcome = run(&rt, &["check", "f"], &file)?;
+    assert_eq!(rt;
+        outcome.taken.as_slice(),
+        b"expression refused: X2 at 1:1\n".as_slice()
+    );
+    file.push(b'#')?;
+    let outcome = run(&rt, &["check", "f"], &file)?;
+    assert_eq!(rt;
+        outcome.taken.as_slice(),
+        b"too long: the expression\n".as_slice()
+    );
+    assert_eq!(rt; outcome.status, 8);
+    Ok(())
+}
+
+// The file is begun by call 0, read whole by call 1, and found to end by call 2.
+#[test]
+fn reading_fails(rt: HostRuntime) -> Result<(), Fail> {
+    let mut outcomes = Vec::new(rt.alloc());
+    outcomes.push(run(&rt, &["check", "g"], b"main add(1..10);")?)?;
+    for call in 0..3 {
+        let around = Around {
+            file: b"main add(1..10);",
+            net: b"",
+            failing_calls: &[call],
+            failing_writes: &[],
+            bite: 100,
+        };
+        outcomes.push(run_around(&rt, &["check", "f"], around)?)?;
+    }
+    for outcome in &outcomes {
+        assert_eq!(rt;
+            outcome.taken.as_slice(),
+            b"read fault on the expression\n".as_slice()
+        );
+        assert_eq!(rt; outcome.status, 5);
+    }
+    Ok(())
+}
+
+// Each write offers a line or the rest of one, of which the sink takes five bytes.
+#[test]
+fn writing_fails(rt: HostRuntime) -> Result<(), Fail> {
+    let lengths = [0, 5, 10, 13, 18, 23, 24, 29, 34, 36, 41, 46, 51, 53, 58];
+    for (write, length) in lengths.iter().enumerate() {
+        let around = Around {
+            file: b"main add(1..10);",
+            net: b"",
+            failing_calls: &[],
+            failing_writes: &[write as u64],
+            bite: 5,
+        };
+        let outcome = run_around(&rt, &["check", "f"], around)?;
+        assert_eq!(rt; Some(outcome.taken.as_slice()), ALL_HOLD.get(..*length));
+        assert_eq!(rt; outcome.status, 6);
+    }
+    Ok(())
+}
+
+// Two ways from a to d that are equally good: the one by the smaller node number is taken.
+const DIAMOND: &[u8] =
+    b"node a b c d\nlink a b : 1\nlink a c : 1\nlink b d : 1\nlink c d : 1\norigin x at d : 0\n";
+
+fn diamond() -> &'static [u8] {
+    DIAMOND
+}
+
+const DIAMOND_ROUTES: &[u8] = b"a x 2 a b d\nb x 1 b d\nc x 1 c d\nd x 0 d\n";
+
+fn diamond_routes() -> &'static [u8] {
+    DIAMOND_ROUTES
+}
+
+#[test]
+fn smaller_numbers_are_taken(rt: HostRuntime) -> Result<(), Fail> {
+    let outcome = run_on(&rt, &["route", "f", "n"], b"main add(1..1);", diamond())?;
+    assert_eq!(rt; outcome.taken.as_slice(), diamond_routes());
+    assert_eq!(rt; outcome.status, 0);
+    Ok(())
+}
+
+// Two ways from a to c that are equally good: the shorter one is taken. From d there is none.
+const TRIANGLE: &[u8] =
+    b"node a b c d\nlink a b : 1\nlink b c : 1\nlink a c : 2\norigin x at c : 0\n";
+
+fn triangle() -> &'static [u8] {
+    TRIANGLE
+}
+
+const TRIANGLE_ROUTES: &[u8] = b"a x 2 a c\nb x 1 b c\nc x 0 c\nd x none\n";
+
+fn triangle_routes() -> &'static [u8] {
+    TRIANGLE_ROUTES
+}
+
+#[test]
+fn shorter_paths_are_taken(rt: HostRuntime) -> Result<(), Fail> {
+    let outcome = run_on(&rt, &["route", "f", "n"], b"main add(1..2);", triangle())?;
+    assert_eq!(rt; outcome.taken.as_slice(), triangle_routes());
+    Ok(())
+}
+
+#[test]
+fn empty_networks_have_no_rows(rt: HostRuntime) -> Result<(), Fail> {
+    let outcome = run_on(&rt, &["route", "f", "n"], b"main add(1..2);", b"")?;
+    assert_eq!(rt; outcome.taken.len(), 0);
+    assert_eq!(rt; outcome.status, 0);
+    Ok(())
+}
+
+#[test]
+fn networks_are_refused(rt: HostRuntime) -> Result<(), Fail> {
+    let outcome = run_on(&rt, &["route", "f", "n"], b"main add(1..2);", b"edge a b\n")?;
+    assert_eq!(rt;
+        outcome.taken.as_slice(),
+        b"network refused: N1 at line 1\n".as_slice()
+    );
+    assert_eq!(rt; outcome.status, 2);
+    Ok(())
+}
+
+#[test]
+fn networks_may_be_missing(rt: HostRuntime) -> Result<(), Fail> {
+    let outcome = run_on(&rt, &["route", "f", "m"], b"main add(1..2);", b"")?;
+    assert_eq!(rt;
+        outcome.taken.as_slice(),
+        b"read fault on the network\n".as_slice()
+    );
+    assert_eq!(rt; outcome.status, 5);
+    Ok(())
+}
+
+// The line of the network file that is refused, or 0 where none is.
+fn bad_line(rt: &impl AllocGlobal, net: &[u8]) -> Result<u8, Fail> {
+    let outcome = run_on(rt, &["route", "f", "n"], b"main add(1..9);", net)?;
+    let line = outcome
+        .taken
+        .strip_prefix(b"network refused: N1 at line ".as_slice());
+    match line {
+        Some([digit, b'\n']) => Ok(digit.wrapping_sub(b'0')),
+        _ => Ok(0),
+    }
+}
+
+#[test]
+fn node_lines(rt: HostRuntime) -> Result<(), Fail> {
+    for (line, net) in [
+        (
+            0,
+            b"# node a\r\n\nnode a\tb-1 _.Z # c\r\n \t\nnode c".as_slice(),
+        ),
+        (1, b"node"),
+        (1, b"edge a b"),
+        (1, b"Node a"),
+        (2, b"node a\nboth a a : 1"),
+        (1, b"node a\0"),
+        (1, b"node a\rb"),
+        (1, b"node a\r\r"),
+        (1, b"node a\r# b"),
+        (1, b"node a/b"),
+        (0, b"node abcdefghijklmnopqrstuvwxyz012345"),
+        (1, b"node abcdefghijklmnopqrstuvwxyz0123456"),
+        (2, b"node a\nnode b a"),
+        (1, b"node a b a"),
+    ] {
+        assert_eq!(rt; bad_line(&rt, net)?, line);
+    }
+    Ok(())
+}
+
+#[test]
+fn link_lines(rt: HostRuntime) -> Result<(), Fail> {
+    for (line, net) in [
+        (0, b"node a b\nlink a b : 9\nlink b\ta:\t01 ".as_slice()),
+        (2, b"node a b\nlink a b 1"),
+        (2, b"node a b\nlink a : 1"),
+        (2, b"node a b\nlink a b b : 1"),
+        (2, b"node a b\nlink a b :"),
+        (2, b"node a b\nlink a b : 1 2"),
+        (2, b"node a b\nlink a b : +1"),
+        (2, b"node a b\nlink a b : 0"),
+        (2, b"node a b\nlink a b : 10"),
+        (2, b"node a b\nlink a c : 1"),
+        (2, b"node a b\nlink a a : 1"),
+        (4, b"node a b\nlink a b : 1\n\nlink a b : 2"),
+    ] {
+        assert_eq!(rt; bad_line(&rt, net)?, line);
+    }
+    Ok(())
+}
+
+#[test]
+fn origin_lines(rt: HostRuntime) -> Result<(), Fail> {
+    for (line, net) in [
+        (
+            0,
+            b"node a\norigin a at a : 4294967295\norigin b at a:0".as_slice(),
+        ),
+        (2, b"node a\norigin a at a 0"),
+        (2, b"node a\norigin a on a : 0"),
+        (2, b"node a\norigin a at : 0"),
+        (2, b"node a\norigin a at b : 0"),
+        (2, b"node a\norigin a at a : 4294967296"),
+        (2, b"node a\norigin a at a : q"),
+        (3, b"node a\norigin a at a : 0\norigin a at a : 1"),
+    ] {
+        assert_eq!(rt; bad_line(&rt, net)?, line);
+    }
+    Ok(())
+}
+
+#[test]
+fn long_lines(rt: HostRuntime) -> Result<(), Fail> {
+    let mut line = vec![in rt.alloc(); b' '; 4096]?;
+    assert_eq!(rt; bad_line(&rt, &line)?, 0);
+    line.push(b'\r')?;
+    assert_eq!(rt; bad_line(&rt, &line)?, 1);
+    Ok(())
+}
+
+#[test]
+fn network_files_are_read_second(rt: HostRuntime) -> Result<(), Fail> {
+    let words = ["route", "f", "n"];
+    let outcome = run_on(&rt, &words, b"main", b"edge a b\n")?;
+    assert_eq!(rt;
+        outcome.taken.as_slice(),
+        b"expression refused: X2 at 1:1\n".as_slice()
+    );
+    let outcome = run_on(&rt, &["route", "f", "m"], b"main add(1..10);", b"")?;
+    assert_eq!(rt;
+        outcome.taken.as_slice(),
+        b"read fault on the network\n".as_slice()
+    );
+    assert_eq!(rt; outcome.status, 5);
+    let long = vec![in rt.alloc(); b'#'; MAX_FILE_BYTES + 1]?;
+    let outcome = run_on(&rt, &words, b"main add(1..10);", &long)?;
+    assert_eq!(rt;
+        outcome.taken.as_slice(),
+        b"too long: the network\n".as_slice()
+    );
+    assert_eq!(rt; outcome.status, 8);
+    Ok(())
+}
