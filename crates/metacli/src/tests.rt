@@ -403,3 +403,78 @@ fn network_files_are_read_second(rt: HostRuntime) -> Result<(), Fail> {
     assert_eq!(rt; outcome.status, 8);
     Ok(())
 }
+
+// 512 nodes, named by two letters, on 16 lines.
+fn most_nodes(alloc: Global) -> Result<Vec<u8>, Fail> {
+    let mut net = Vec::new(alloc);
+    for first in b"abcdefghijklmnop" {
+        net.extend_from_slice(b"node")?;
+        for second in b"abcdefghijklmnopqrstuvwxyz012345" {
+            net.extend_from_slice(&[b' ', *first, *second])?;
+        }
+        net.push(b'\n')?;
+    }
+    Ok(net)
+}
+
+// Arcs from 16 of these nodes to 32 others, a line each.
+fn add_arcs(net: &mut Vec<u8>, first: u8) -> Result<(), Fail> {
+    for second in b"abcdefghijklmnop" {
+        for third in b"ab" {
+            for fourth in b"qrstuvwxyz012345" {
+                net.extend_from_slice(b"link ")?;
+                net.extend_from_slice(&[first, *second, b' ', *third, *fourth])?;
+                net.extend_from_slice(b" : 1\n")?;
+            }
+        }
+    }
+    Ok(())
+}
+
+// What `route` writes on this network.
+fn routes_on(rt: &impl AllocGlobal, net: &[u8]) -> Result<Vec<u8>, Fail> {
+    let outcome = run_on(rt, &["route", "f", "n"], b"main add(1..9);", net)?;
+    Ok(outcome.taken)
+}
+
+#[test]
+fn nodes_and_arcs_have_a_limit(rt: HostRuntime) -> Result<(), Fail> {
+    let mut net = most_nodes(rt.alloc())?;
+    assert_eq!(rt; routes_on(&rt, &net)?.as_slice(), b"".as_slice());
+    net.extend_from_slice(b"node z")?;
+    assert_eq!(rt;
+        routes_on(&rt, &net)?.as_slice(),
+        b"network refused: N1 at line 17\n".as_slice()
+    );
+    let mut net = most_nodes(rt.alloc())?;
+    for first in b"abcdefghijklmnop" {
+        add_arcs(&mut net, *first)?;
+    }
+    assert_eq!(rt; routes_on(&rt, &net)?.as_slice(), b"".as_slice());
+    net.extend_from_slice(b"link aa ab : 1")?;
+    assert_eq!(rt;
+        routes_on(&rt, &net)?.as_slice(),
+        b"network refused: N1 at line 8209\n".as_slice()
+    );
+    Ok(())
+}
+
+#[test]
+fn destinations_have_a_limit(rt: HostRuntime) -> Result<(), Fail> {
+    let mut net = Vec::from_slice(rt.alloc(), b"node a\n".as_slice())?;
+    for first in b"ab" {
+        for second in b"abcdefghijklmnopqrstuvwxyz012345" {
+            net.extend_from_slice(b"origin ")?;
+            net.extend_from_slice(&[*first, *second])?;
+            net.extend_from_slice(b" at a : 0\n")?;
+        }
+    }
+    let outcome = run_on(&rt, &["route", "f", "n"], b"main add(1..9);", &net)?;
+    assert_eq!(rt; outcome.status, 0);
+    net.extend_from_slice(b"origin z at a : 0")?;
+    assert_eq!(rt;
+        routes_on(&rt, &net)?.as_slice(),
+        b"network refused: N1 at line 66\n".as_slice()
+    );
+    Ok(())
+}
