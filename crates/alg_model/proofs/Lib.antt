@@ -1,1 +1,2 @@
-pub mod Refuted
+mod Refuted
+mod Nodes

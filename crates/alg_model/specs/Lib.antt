@@ -1,12 +1,13 @@
 pub mod Expressions
+pub mod Codes
 pub mod Carriers
 pub mod Preorder
 pub mod Application
 pub mod Views
 pub mod Bounds
 pub mod Formation
+pub mod Scoped
 pub mod Properties
 pub mod Verdicts
 pub mod Instances
 pub mod Texts
-pub mod Laws

@@ -1,21 +1,42 @@
-ghost use Rattle.std.specs.Prelude.{◌≡◌, Some, None, IfOk, MatchResult};
+ghost use Rattle.std.specs.Prelude.{◌≡◌, IfOk, IfErr};
 ghost use Rattle.alg_model.specs.Views.{expression_of};
-ghost use Rattle.alg_model.specs.Formation.{first_broken};
+ghost use Rattle.alg_model.specs.Formation.{IsFormed, IsFirstBroken};
 ghost use Rattle.alg_model.specs.Bounds.{ExpressionAtMost};
 ghost use Rattle.meta_base.specs.declared.limits.TheConstants.{MAX_NUMBER};
 
 use crate::Tree;
-use meta_base::NoMemory;
-use std::alloc::Global;
+use crate::formation::{meets_carriers, meets_names, meets_ranges, room_behind};
 use std::marker::Model;
 use thiserror::Error;
 
-/// The first formation rule that a tree breaks.
+/// The most nodes that the tree of an algebra may have.
+pub const MAX_TREE_NODES: usize = 256;
+
+/// The most values that a table may have, and the most rows.
+pub const MAX_TABLE_NAMES: usize = 16;
+
+/// The most symbols of sequences without a repeat.
+pub const MAX_SIMPLE_SYMBOLS: u64 = 1024;
+
+/// The most numbers of sets: they are the bits of a word.
+pub const MAX_MARKS: u64 = 64;
+
+/// The first formation rule that a tree breaks, in this order.
 #[derive(Clone, Copy, Debug, PartialEq, Eq, Error)]
 pub enum Shape {
-    /// A low number is above its high number.
-    #[error("a range is empty")]
+    /// A low number is above its high number or a high one above its top, there are too few or too
+    /// many symbols or numbers, or the sizes, ranks or images of a table don't fit one another.
+    #[error("a number is out of its range")]
     Range,
+    /// The two sides of a `plus` have different carriers.
+    #[error("the carriers of a plus differ")]
+    Carriers,
+    /// The tree has more than [`MAX_TREE_NODES`] nodes.
+    #[error("the expression is too large")]
+    Size,
+    /// A table's name is `none` or no word, or is there twice among the values or among the rows.
+    #[error("a name of a table is no name, or there twice")]
+    Names,
 }
 
 /// An algebra: a tree that meets the formation rules, and none of whose numbers is above
@@ -26,15 +47,14 @@ pub struct Alg {
 }
 
 impl Model for Alg {
-    ghost use Rattle.std.specs.Prelude.{◌≡◌, None};
-    ghost use Rattle.alg_model.specs.Expressions.{Expression, coded_expression};
+    ghost use Rattle.alg_model.specs.Expressions.{Expression};
+    ghost use Rattle.alg_model.specs.Codes.{coded_expression};
+    ghost use Rattle.alg_model.specs.Views.{expression_of};
+    ghost use Rattle.alg_model.specs.Formation.{IsFormed};
 
     ghost Value = { Expression };
 
     ghost coded = { coded_expression };
-
-    ghost use Rattle.alg_model.specs.Views.{expression_of};
-    ghost use Rattle.alg_model.specs.Formation.{IsFormed};
 
     ghost view = { λ a. expression_of a.tree };
 
@@ -42,47 +62,24 @@ impl Model for Alg {
 }
 
 impl Alg {
-    ghost use Rattle.alg_model.specs.Formation.{IsFormed};
-
     /// The algebra of a tree whose numbers are at most [`meta_base::MAX_NUMBER`], or the first
     /// formation rule that the tree breaks. It takes no memory.
     pub fn checked(tree: Tree) -> Result<Alg, Shape>
         requires { ExpressionAtMost MAX_NUMBER (expression_of tree) }
         ensures algebra { IfOk result (λ alg. alg ≡ expression_of tree) }
-        ensures rule { MatchResult result (λ _. first_broken (expression_of tree) ≡ None) (λ shape. first_broken (expression_of tree) ≡ Some shape) }
+        ensures formed { IfOk result (λ _. IsFormed (expression_of tree)) }
+        ensures broken { IfErr result (IsFirstBroken (expression_of tree)) }
     {
-        match broken(&tree) {
-            None => Ok(Alg { tree }),
-            Some(shape) => Err(shape),
+        if !meets_ranges(&tree) {
+            Err(Shape::Range)
+        } else if !meets_carriers(&tree) {
+            Err(Shape::Carriers)
+        } else if room_behind(&tree, MAX_TREE_NODES).is_none() {
+            Err(Shape::Size)
+        } else if !meets_names(&tree) {
+            Err(Shape::Names)
+        } else {
+            Ok(Alg { tree })
         }
-    }
-
-    /// An algebra with a tree equal to `part`, which meets the formation rules, as each part of an
-    /// algebra's tree does. Given the algebra's own tree it copies the whole.
-    pub fn copy_part(&self, alloc: Global, part: &Tree) -> Result<Alg, NoMemory>
-        requires { IsFormed (expression_of part.now) }
-        ensures { IfOk result (λ alg. alg ≡ expression_of part.now) }
-    {
-        Ok(Alg {
-            tree: part.copy(alloc)?,
-        })
-    }
-
-    /// Lends the tree.
-    pub fn tree(&self) -> &Tree
-        ensures tree { expression_of result.now ≡ self.now }
-        ensures formed { IsFormed self.now }
-    {
-        &self.tree
-    }
-}
-
-// The first formation rule that the tree breaks.
-fn broken(tree: &Tree) -> Option<Shape>
-    ensures { result ≡ first_broken (expression_of tree.now) }
-{
-    match tree {
-        Tree::Add { low, high } if low > high => Some(Shape::Range),
-        Tree::Add { .. } => None,
     }
 }

@@ -5,6 +5,7 @@ ghost use Rattle.alg_model.specs.Expressions.{Expression, PureCarrier, PureLabel
 ghost use Rattle.alg_model.specs.Formation.{IsFormed};
 ghost use Rattle.alg_model.specs.Preorder.{IsTotalPreorder};
 ghost use Rattle.alg_model.specs.Properties.{Has};
+ghost use Rattle.alg_model.specs.Scoped.{IsUnscoped};
 ghost use Rattle.alg_model.specs.Verdicts.{PureInstance, Violates};
 
 /// An instance that violates a property shows that its label lacks it, so no label is both said to
@@ -25,4 +26,11 @@ pub fn preference_is_total_preorder()
 pub fn images_are_values()
     ensures { (a : Expression) (l : PureLabel) (v w : PureValue) → IsFormed a → IsLabel a l →
         In (carrier_of a) v → App a l v ≡ Some w → In (carrier_of a) w }
+{}
+
+/// A scoped product has the values of the function union of two lexical products, and its labels are
+/// theirs under other names (Gurney and Griffin 2007).
+#[tactic(auto, using(crate::specs::Laws::scoped_is_a_union))]
+pub fn scoped_is_a_union_of_lexical_products()
+    ensures { (a b : Expression) → IsUnscoped a b }
 {}

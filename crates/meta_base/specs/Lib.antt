@@ -4,3 +4,4 @@ pub mod Sink
 pub mod MemFiles
 pub mod MemShelves
 pub mod MemSinks
+pub mod Bytes

@@ -5,6 +5,7 @@
 
 ghost use Rattle.std.specs.Prelude.{◌≤◌};
 
+pub mod bytes;
 mod calls;
 mod errors;
 mod gate;

@@ -4,7 +4,7 @@ use Rattle.std.specs.List.{list_all}
 use Rattle.std.proofs.lemmas.List.{at_drop_more}
 use Rattle.std.proofs.lemmas.Bool.Decides.{nat_tests}
 use Rattle.std.proofs.lemmas.Bool.{eqb-true}
-use Rattle.raml_lex.specs.Bytes.{is_line_feed, is_word_byte, number_from, front, is_digit}
+use Rattle.meta_base.specs.Bytes.{is_line_feed, is_word_byte, number_from, front, is_digit}
 use Rattle.raml_lex.specs.Views.{IsWithin}
 use Rattle.raml_lex.specs.Numbers.{at_most}
 

@@ -2,7 +2,7 @@
 use Rattle.std.proofs.Common.{◌≡◌, inl, inr, ℕ, ◌+◌, ◌<◌, ◌==◌, Bool, true, false, not, cond, List, [], ◌∷◌, ◌++◌, length, get_or, take, drop, Some, None, refl, ap, sym, ◌∙◌, arith}
 use Rattle.std.proofs.lemmas.List.{append_assoc, at_drop_more, drop_more, take_more}
 use Rattle.std.proofs.lemmas.Bool.Decides.{nat_tests}
-use Rattle.raml_lex.specs.Bytes.{is_line_feed, is_space}
+use Rattle.meta_base.specs.Bytes.{is_line_feed, is_space}
 use Rattle.raml_lex.specs.Gaps.{gap_of, behind_gap, gap_step, IsGap}
 
 -- a text is its gap and what comes behind it

@@ -4,7 +4,7 @@ use Rattle.std.specs.List.{list_all, suffix_len, prefix_len}
 use Rattle.std.proofs.lemmas.List.{reverse-append, append_assoc, append-nil, take_more}
 use Rattle.std.proofs.lemmas.List.Sums.{suffix_len-le-length, count_by-le-length, sum_by-append}
 use Rattle.meta_base.specs.declared.ids.Place.{Place}
-use Rattle.raml_lex.specs.Bytes.{is_line_feed}
+use Rattle.meta_base.specs.Bytes.{is_line_feed}
 use Rattle.raml_lex.specs.Places.{place_after, moved, moved_over}
 
 abbrev record_of : ℕ → ℕ → Place

@@ -2,7 +2,7 @@
 -- ends its line, or to the end of the text, and may hold any bytes. The first argument says whether a
 -- comment is open.
 use Rattle.std.specs.Prelude.{◌≡◌, ◌⊎◌, ℕ, List, [], ◌∷◌, Bool, true, false, not, ◌==◌, IsTrue, Option, Some, None, if◌then◌else◌}
-use Rattle.raml_lex.specs.Bytes.{is_space, is_line_feed}
+use Rattle.meta_base.specs.Bytes.{is_space, is_line_feed}
 
 -- the spaces and comments at the front
 abbrev pub gap_of : Bool → List ℕ → List ℕ

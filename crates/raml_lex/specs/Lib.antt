@@ -1,4 +1,3 @@
-pub mod Bytes
 pub mod Gaps
 pub mod Numbers
 pub mod Places

@@ -1,6 +1,6 @@
 -- Numbers that are read from digits.
 use Rattle.std.specs.Prelude.{◌≡◌, ℕ, ◌<◌, ◌≤◌, List, take, drop, length, nat_le, Option, Some, None, if◌then◌else◌}
-use Rattle.raml_lex.specs.Bytes.{is_digit, front, behind, number_from}
+use Rattle.meta_base.specs.Bytes.{is_digit, front, behind, number_from}
 
 -- the number, if it is at most the greatest
 abbrev pub at_most : ℕ → ℕ → Option ℕ

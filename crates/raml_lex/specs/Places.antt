@@ -2,7 +2,7 @@
 use Rattle.std.specs.Prelude.{ℕ, ◌+◌, List, [], ◌∷◌, not, count_by, if◌then◌else◌}
 use Rattle.std.specs.List.{suffix_len}
 use Rattle.meta_base.specs.declared.ids.Place.{Place}
-use Rattle.raml_lex.specs.Bytes.{is_line_feed}
+use Rattle.meta_base.specs.Bytes.{is_line_feed}
 
 -- the place behind these bytes: one line more than they have line feeds, one column more than the bytes
 -- since the last of those

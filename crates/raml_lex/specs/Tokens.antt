@@ -2,7 +2,7 @@
 use Rattle.std.specs.Prelude.{◌≡◌, ℕ, List, [], ◌∷◌, false, ◌==◌, nat_le, if◌then◌else◌}
 use Rattle.raml_lex.specs.declared.token.LexKind.{LexKind}
 use Rattle.raml_lex.specs.declared.token.LexKind.TheVariants.{BadByte, NumberTooLarge}
-use Rattle.raml_lex.specs.Bytes.{is_digit, is_letter, is_word_byte, front, behind, number_from}
+use Rattle.meta_base.specs.Bytes.{is_digit, is_letter, is_word_byte, front, behind, number_from}
 use Rattle.raml_lex.specs.Gaps.{behind_gap}
 
 -- a token: a word with its bytes, a number with its value, or a mark

@@ -1,7 +1,7 @@
 -- Tokens of the program, without where they lie in memory.
 use Rattle.std.specs.Prelude.{ℕ, List, [], take, drop, ◌<◌, ◌≤◌, length, ◌≡◌, true, not}
 use Rattle.std.specs.List.{list_all}
-use Rattle.raml_lex.specs.Bytes.{is_line_feed}
+use Rattle.meta_base.specs.Bytes.{is_line_feed}
 use Rattle.raml_lex.specs.Tokens.{Tok, word, number, left_paren, right_paren, left_brace, right_brace, comma, semicolon, colon, dots, equals, less, arrow, Step, end, bad, token}
 use Rattle.raml_lex.specs.declared.token.TokenKind.{TokenKind}
 use Rattle.raml_lex.specs.declared.token.TokenKind.TheVariants as k

@@ -1,31 +1,9 @@
-// Kinds of bytes, and the longest fronts of one kind.
+// The longest fronts of one kind of bytes.
 ghost use Rattle.std.specs.Prelude.{◌≡◌, ◌+◌, ◌-◌, ◌*◌, ◌<◌, ◌≤◌, take, drop, length, nat_le, Some, None, if◌then◌else◌};
-ghost use Rattle.raml_lex.specs.Bytes.{is_space, is_digit, is_letter, is_word_byte, front, behind};
+ghost use Rattle.meta_base.specs.Bytes.{is_digit, is_word_byte, front, behind};
 ghost use Rattle.raml_lex.specs.Numbers.{SpellsAtMost, at_most};
 
-pub fn is_space(byte: u8) -> bool
-    ensures { result ≡ is_space byte }
-{
-    matches!(byte, b' ' | b'\t' | b'\n' | b'\r')
-}
-
-pub fn is_digit(byte: u8) -> bool
-    ensures { result ≡ is_digit byte }
-{
-    byte.is_ascii_digit()
-}
-
-pub fn is_letter(byte: u8) -> bool
-    ensures { result ≡ is_letter byte }
-{
-    byte.is_ascii_alphabetic() || byte == b'_'
-}
-
-fn is_word_byte(byte: u8) -> bool
-    ensures { result ≡ is_word_byte byte }
-{
-    is_letter(byte) || is_digit(byte)
-}
+use meta_base::bytes::{is_digit, is_word_byte};
 
 // How many bytes of a word stand at the front.
 pub fn word_len(text: &[u8]) -> usize

@@ -3,7 +3,8 @@ ghost use Rattle.std.specs.Prelude.{◌≡◌};
 ghost use Rattle.raml_lex.specs.Tokens.{token_at};
 ghost use Rattle.raml_lex.specs.Views.{step_for, Fits};
 
-use crate::bytes::{is_digit, is_letter, number_at_front, word_len};
+use crate::bytes::{number_at_front, word_len};
+use meta_base::bytes::{is_digit, is_letter};
 use crate::{LexKind, TokenKind};
 
 // What stands at the front: nothing, a fault, or a token with the number of its bytes.

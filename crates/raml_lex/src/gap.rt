@@ -4,7 +4,7 @@ ghost use Rattle.raml_lex.specs.Gaps.{gap_step, gap_of, behind_gap};
 ghost use Rattle.raml_lex.specs.Sources.{IsSource};
 ghost use Rattle.raml_lex.specs.Places.{moved_over};
 
-use crate::bytes::is_space;
+use meta_base::bytes::is_space;
 use crate::place::moved_by;
 use meta_base::Place;
 

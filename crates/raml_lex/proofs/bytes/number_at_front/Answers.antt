@@ -1,5 +1,5 @@
 use Rattle.std.proofs.Common.{◌≡◌, ◌+◌, ◌-◌, ◌*◌, ◌∙◌, sym, get_or, drop, true, arith, rules}
-use Rattle.raml_lex.specs.Bytes.{is_digit, front}
+use Rattle.meta_base.specs.Bytes.{is_digit, front}
 use Rattle.raml_lex.proofs.Fronts.{number_from_more, number_from_le, at_most_none}
 use Rattle.raml_lex.proofs.bytes.number_at_front.Goals as goal
 

@@ -1,5 +1,5 @@
 use Rattle.std.proofs.Common.{◌≡◌, ◌++◌, ◌≤◌, take, drop}
-use Rattle.raml_lex.specs.Bytes.{is_digit, front, behind, number_from}
+use Rattle.meta_base.specs.Bytes.{is_digit, front, behind, number_from}
 use Rattle.raml_lex.proofs.bytes.number_at_front.Given as goal
 
 -- the digits so far spell the number

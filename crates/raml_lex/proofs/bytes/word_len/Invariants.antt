@@ -1,5 +1,5 @@
 use Rattle.std.proofs.Common.{◌≡◌, ◌++◌, take, drop}
-use Rattle.raml_lex.specs.Bytes.{is_word_byte, front, behind}
+use Rattle.meta_base.specs.Bytes.{is_word_byte, front, behind}
 use Rattle.raml_lex.proofs.bytes.word_len.Given as goal
 
 -- the bytes so far are those of the word

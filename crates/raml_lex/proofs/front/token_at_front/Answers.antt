@@ -1,5 +1,5 @@
 use Rattle.std.proofs.Common.{arith, rules}
-use Rattle.raml_lex.specs.Bytes.{is_digit, is_word_byte}
+use Rattle.meta_base.specs.Bytes.{is_digit, is_word_byte}
 use Rattle.raml_lex.proofs.Fronts.{front_within, word_byte_in_line, digit_in_line}
 use Rattle.raml_lex.proofs.front.token_at_front.Goals as goal
 

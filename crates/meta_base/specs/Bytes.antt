@@ -1,5 +1,6 @@
 -- Kinds of bytes, and fronts of one kind.
-use Rattle.std.specs.Prelude.{ℕ, ◌+◌, ◌*◌, ◌-◌, List, [], ◌∷◌, Bool, ◌||◌, ◌&&◌, ◌==◌, nat_le, if◌then◌else◌}
+use Rattle.std.specs.Prelude.{ℕ, ◌+◌, ◌*◌, ◌-◌, List, [], ◌∷◌, Bool, false, ◌||◌, ◌&&◌, ◌==◌, nat_le, if◌then◌else◌}
+use Rattle.std.specs.List.{list_all}
 
 -- what ends a line
 abbrev pub is_line_feed : ℕ → Bool
@@ -35,3 +36,8 @@ behind p (c ∷ cs) = if p c then behind p cs else c ∷ cs
 abbrev pub number_from : ℕ → List ℕ → ℕ
 number_from n [] = n
 number_from n (c ∷ cs) = number_from (10 * n + (c - 48)) cs
+
+-- a letter or `_`, and then letters, digits and `_`
+abbrev pub is_word : List ℕ → Bool
+is_word [] = false
+is_word (c ∷ cs) = is_letter c && list_all is_word_byte cs
