@@ -6,6 +6,8 @@ ghost use Rattle.meta_base.specs.declared.limits.TheConstants.{MAX_NUMBER};
 
 use crate::Tree;
 use crate::formation::{meets_carriers, meets_names, meets_ranges, room_behind};
+use meta_base::NoMemory;
+use std::alloc::Global;
 use std::marker::Model;
 use thiserror::Error;
 
@@ -81,5 +83,24 @@ impl Alg {
         } else {
             Ok(Alg { tree })
         }
+    }
+
+    /// An algebra with a tree equal to `part`, which meets the formation rules, as each part of an
+    /// algebra's tree does. Given the algebra's own tree it copies the whole.
+    pub fn copy_part(&self, alloc: Global, part: &Tree) -> Result<Alg, NoMemory>
+        requires { IsFormed (expression_of part.now) }
+        ensures { IfOk result (λ alg. alg ≡ expression_of part.now) }
+    {
+        Ok(Alg {
+            tree: part.copy(alloc)?,
+        })
+    }
+
+    /// Lends the tree.
+    pub fn tree(&self) -> &Tree
+        ensures tree { expression_of result.now ≡ self.now }
+        ensures formed { IsFormed self.now }
+    {
+        &self.tree
     }
 }

@@ -1,12 +1,16 @@
-ghost use Rattle.std.specs.Prelude.{◌≡◌, ◌≤◌, ◌^◌, ◌+◌, ℕ, IfOk, IfSome, option_map};
+ghost use Rattle.std.specs.Prelude.{◌≡◌, ◌≤◌, ◌<◌, ◌==◌, ◌^◌, ◌+◌, ◌++◌, [], ◌∷◌, ℕ, Some, IfOk, IfSome, option_map};
+ghost use Rattle.std.specs.List.{list_any};
 ghost use Rattle.meta_base.specs.declared.limits.TheConstants.{MAX_NUMBER};
-ghost use Rattle.alg_model.specs.Views.{pure_value, pure_label};
+ghost use Rattle.alg_model.specs.Expressions.{number, number_label, pair, first, second};
+ghost use Rattle.alg_model.specs.Views.{expression_of, pure_value, pure_label};
 ghost use Rattle.alg_model.specs.Carriers.{carrier_of, In};
-ghost use Rattle.alg_model.specs.Application.{IsLabel, App};
+ghost use Rattle.alg_model.specs.Application.{IsLabel, App, has_mark, image_of};
 ghost use Rattle.alg_model.specs.Bounds.{AtMost, LabelAtMost};
+ghost use Rattle.alg_model.specs.Formation.{MeetsRanges, MeetsCarriers};
 
-use crate::{Alg, Label, Tree, Value};
-use meta_base::NoMemory;
+use crate::copying::copy_list;
+use crate::{Alg, Amount, Label, TableSpec, Tree, Value};
+use meta_base::{List, NoMemory};
 use std::alloc::Global;
 
 /// What the label makes of the value: a value, or `None` where it prohibits it.
@@ -15,7 +19,7 @@ use std::alloc::Global;
 /// [`meta_base::MAX_NUMBER`] and none of the value above 2^62; no number of the result is above the
 /// greatest of the value plus [`meta_base::MAX_NUMBER`].
 pub fn apply(
-    _alloc: Global,
+    alloc: Global,
     alg: &Alg,
     label: &Label,
     value: &Value,
@@ -28,7 +32,186 @@ pub fn apply(
     ensures bound { (n : ℕ) → AtMost n (pure_value value.now) →
         IfOk result (λ image. IfSome image (λ v. AtMost (n + MAX_NUMBER) (pure_value v))) }
 {
-    match (alg.tree(), label, value) {
-        (Tree::Add { .. }, Label::Number(n), Value::Number(m)) => Ok(Some(Value::Number(m + n))),
+    image(alloc, alg.tree(), label, value)
+}
+
+// What the label makes of the value in the tree's algebra.
+fn image(
+    alloc: Global,
+    tree: &Tree,
+    label: &Label,
+    value: &Value,
+) -> Result<Option<Value>, NoMemory>
+    requires ranges { MeetsRanges (expression_of tree.now) }
+    requires carriers { MeetsCarriers (expression_of tree.now) }
+    requires label { IsLabel (expression_of tree.now) (pure_label label.now) }
+    requires value { In (carrier_of (expression_of tree.now)) (pure_value value.now) }
+    requires small_label { LabelAtMost MAX_NUMBER (pure_label label.now) }
+    requires small_value { AtMost (2 ^ 62) (pure_value value.now) }
+    ensures { IfOk result (λ image. option_map pure_value image ≡ App (expression_of tree.now) (pure_label label.now) (pure_value value.now)) }
+{
+    match tree {
+        Tree::Add { .. }
+        | Tree::Cap { .. }
+        | Tree::Worst { .. }
+        | Tree::Width { .. }
+        | Tree::Pref { .. } => match (label, value) {
+            (Label::Number(n), Value::Number(m)) => {
+                Ok(number_image(tree, *n, *m).map(Value::Number))
+            }
+            _ => Ok(None),
+        },
+        Tree::Orig { .. } | Tree::Right(_) => match label {
+            Label::Keep => Ok(Some(value.copy(alloc)?)),
+            _ => Ok(None),
+        },
+        Tree::Seq { .. } => match (label, value) {
+            (Label::Symbol(n), Value::Symbols(ns)) => {
+                Ok(Some(Value::Symbols(appended(alloc, ns, *n)?)))
+            }
+            _ => Ok(None),
+        },
+        Tree::SimSeq { .. } => match (label, value) {
+            (Label::Symbol(n), Value::Symbols(ns)) if !has_symbol(ns, *n) => {
+                Ok(Some(Value::Symbols(appended(alloc, ns, *n)?)))
+            }
+            _ => Ok(None),
+        },
+        Tree::Tags { .. } => match (label, value) {
+            (Label::Keep, Value::Marks(m)) => Ok(Some(Value::Marks(*m))),
+            (Label::Mark(k), Value::Marks(m)) => Ok(Some(Value::Marks(m | 1 << *k))),
+            (Label::Unmark(k), Value::Marks(m)) => {
+                Ok(Some(Value::Marks(m & (u64::MAX - (1 << *k)))))
+            }
+            _ => Ok(None),
+        },
+        Tree::Guard { .. } => match (label, value) {
+            (Label::Need(k), Value::Marks(m)) if is_marked(*m, *k) => Ok(Some(Value::Marks(*m))),
+            (Label::Bar(k), Value::Marks(m)) if !is_marked(*m, *k) => Ok(Some(Value::Marks(*m))),
+            _ => Ok(None),
+        },
+        Tree::Gate => match label {
+            Label::Allow => Ok(Some(Value::Unit)),
+            _ => Ok(None),
+        },
+        Tree::Table(table) => match (label, value) {
+            (Label::Row(r), Value::Name(k)) => Ok(image_in(table, *r, *k).map(Value::Name)),
+            _ => Ok(None),
+        },
+        Tree::Lex(a, b) => match (label, value) {
+            (Label::Pair(l, m), Value::Pair(u, v)) => match image(alloc, a, l, u)? {
+                Some(u) => match image(alloc, b, m, v)? {
+                    Some(v) => Ok(Some(paired(alloc, u, v)?)),
+                    None => Ok(None),
+                },
+                None => Ok(None),
+            },
+            _ => Ok(None),
+        },
+        Tree::Scoped(a, b) => match (label, value) {
+            (Label::Outer(l, w), Value::Pair(u, _)) => match image(alloc, a, l, u)? {
+                Some(u) => Ok(Some(paired(alloc, u, w.copy(alloc)?)?)),
+                None => Ok(None),
+            },
+            (Label::Inner(m), Value::Pair(u, v)) => match image(alloc, b, m, v)? {
+                Some(v) => Ok(Some(paired(alloc, u.copy(alloc)?, v)?)),
+                None => Ok(None),
+            },
+            _ => Ok(None),
+        },
+        Tree::Union(a, b) => match (label, value) {
+            (Label::First(l), Value::First(u)) => in_first(alloc, image(alloc, a, l, u)?),
+            (Label::Second(m), Value::Second(v)) => in_second(alloc, image(alloc, b, m, v)?),
+            _ => Ok(None),
+        },
+        Tree::Sum(a, b) => match (label, value) {
+            (Label::Both(l, _), Value::First(u)) => in_first(alloc, image(alloc, a, l, u)?),
+            (Label::Both(_, m), Value::Second(v)) => in_second(alloc, image(alloc, b, m, v)?),
+            _ => Ok(None),
+        },
+        Tree::Plus(a, b) => match label {
+            Label::First(l) => image(alloc, a, l, value),
+            Label::Second(m) => image(alloc, b, m, value),
+            _ => Ok(None),
+        },
+        Tree::Left(_) => match label {
+            Label::Const(v) => Ok(Some(v.copy(alloc)?)),
+            _ => Ok(None),
+        },
+    }
+}
+
+// What the label n makes of the number m, where numbers are values and labels.
+fn number_image(tree: &Tree, n: u64, m: Amount) -> Option<Amount>
+    requires label { n ≤ MAX_NUMBER }
+    requires value { m ≤ 2 ^ 62 }
+    ensures { option_map number result ≡ App (expression_of tree.now) (number_label n) (number m) }
+{
+    match tree {
+        Tree::Add { .. } => Some(m + n),
+        Tree::Cap { top, .. } if m + n <= *top => Some(m + n),
+        Tree::Worst { .. } => Some(m.max(n)),
+        Tree::Width { .. } => Some(m.min(n)),
+        Tree::Pref { .. } => Some(n),
+        _ => None,
+    }
+}
+
+// The symbols, with one more at the end.
+fn appended(alloc: Global, ns: &List<u64>, n: u64) -> Result<List<u64>, NoMemory>
+    ensures { IfOk result (λ symbols. symbols ≡ ns.now ++ n ∷ []) }
+{
+    let mut symbols = copy_list(alloc, ns)?;
+    symbols.push(n)?;
+    Ok(symbols)
+}
+
+// Whether the symbol is one of them.
+fn has_symbol(ns: &List<u64>, n: u64) -> bool
+    ensures { result ≡ list_any (λ m. m == n) ns.now }
+{
+    ns.as_slice().contains(&n)
+}
+
+// Whether the number is in the set.
+fn is_marked(marks: u64, k: u8) -> bool
+    requires { k < 64 }
+    ensures { result ≡ has_mark marks k }
+{
+    (marks >> k) & 1 == 1
+}
+
+// The place of the image that the row of a table gives the value at that place, if there is one.
+fn image_in(table: &TableSpec, row: u8, place: u8) -> Option<u8>
+    ensures { result ≡ image_of table.now row place }
+{
+    let row = table.rows.as_slice().get(usize::from(row))?;
+    *row.images.as_slice().get(usize::from(place))?
+}
+
+// The pair of two values.
+fn paired(alloc: Global, u: Value, v: Value) -> Result<Value, NoMemory>
+    ensures { IfOk result (λ value. pure_value value ≡ pair (pure_value u) (pure_value v)) }
+{
+    Ok(Value::Pair(Box::new(alloc, u)?, Box::new(alloc, v)?))
+}
+
+// The value as one of the first side.
+fn in_first(alloc: Global, value: Option<Value>) -> Result<Option<Value>, NoMemory>
+    ensures { IfOk result (λ image. option_map pure_value image ≡ option_map first (option_map pure_value value)) }
+{
+    match value {
+        Some(u) => Ok(Some(Value::First(Box::new(alloc, u)?))),
+        None => Ok(None),
+    }
+}
+
+// The value as one of the second side.
+fn in_second(alloc: Global, value: Option<Value>) -> Result<Option<Value>, NoMemory>
+    ensures { IfOk result (λ image. option_map pure_value image ≡ option_map second (option_map pure_value value)) }
+{
+    match value {
+        Some(v) => Ok(Some(Value::Second(Box::new(alloc, v)?))),
+        None => Ok(None),
     }
 }

@@ -2,42 +2,174 @@
 ghost use Rattle.std.specs.Prelude.{◌≡◌, IfOk};
 ghost use Rattle.alg_model.specs.Views.{expression_of, pure_value, pure_label};
 
-use crate::{Label, Tree, Value};
-use meta_base::NoMemory;
+use crate::{Label, TableRow, TableSpec, Tree, Value};
+use meta_base::{List, NoMemory, Text};
 use std::alloc::Global;
+
+// An equal list.
+pub fn copy_list<T: Copy>(alloc: Global, list: &List<T>) -> Result<List<T>, NoMemory>
+    ensures { IfOk result (λ copied. copied ≡ list.now) }
+{
+    Ok(List::from_vec(Vec::from_slice(alloc, list.as_slice())?))
+}
 
 impl Value {
     /// An equal value.
-    pub fn copy(&self, _alloc: Global) -> Result<Value, NoMemory>
+    pub fn copy(&self, alloc: Global) -> Result<Value, NoMemory>
         ensures { IfOk result (λ copied. pure_value copied ≡ pure_value self.now) }
     {
-        match self {
-            Value::Number(n) => Ok(Value::Number(*n)),
-        }
+        Ok(match self {
+            Value::Number(n) => Value::Number(*n),
+            Value::Symbols(ns) => Value::Symbols(copy_list(alloc, ns)?),
+            Value::Marks(m) => Value::Marks(*m),
+            Value::Unit => Value::Unit,
+            Value::Name(k) => Value::Name(*k),
+            Value::Pair(u, v) => Value::Pair(
+                Box::new(alloc, u.copy(alloc)?)?,
+                Box::new(alloc, v.copy(alloc)?)?,
+            ),
+            Value::First(u) => Value::First(Box::new(alloc, u.copy(alloc)?)?),
+            Value::Second(v) => Value::Second(Box::new(alloc, v.copy(alloc)?)?),
+        })
     }
 }
 
 impl Label {
     /// An equal label.
-    pub fn copy(&self, _alloc: Global) -> Result<Label, NoMemory>
+    pub fn copy(&self, alloc: Global) -> Result<Label, NoMemory>
         ensures { IfOk result (λ copied. pure_label copied ≡ pure_label self.now) }
     {
-        match self {
-            Label::Number(n) => Ok(Label::Number(*n)),
-        }
+        Ok(match self {
+            Label::Number(n) => Label::Number(*n),
+            Label::Keep => Label::Keep,
+            Label::Symbol(n) => Label::Symbol(*n),
+            Label::Mark(k) => Label::Mark(*k),
+            Label::Unmark(k) => Label::Unmark(*k),
+            Label::Need(k) => Label::Need(*k),
+            Label::Bar(k) => Label::Bar(*k),
+            Label::Allow => Label::Allow,
+            Label::Deny => Label::Deny,
+            Label::Row(r) => Label::Row(*r),
+            Label::Pair(l, m) => Label::Pair(
+                Box::new(alloc, l.copy(alloc)?)?,
+                Box::new(alloc, m.copy(alloc)?)?,
+            ),
+            Label::Both(l, m) => Label::Both(
+                Box::new(alloc, l.copy(alloc)?)?,
+                Box::new(alloc, m.copy(alloc)?)?,
+            ),
+            Label::First(l) => Label::First(Box::new(alloc, l.copy(alloc)?)?),
+            Label::Second(m) => Label::Second(Box::new(alloc, m.copy(alloc)?)?),
+            Label::Const(v) => Label::Const(v.copy(alloc)?),
+            Label::Outer(l, v) => {
+                Label::Outer(Box::new(alloc, l.copy(alloc)?)?, v.copy(alloc)?)
+            }
+            Label::Inner(m) => Label::Inner(Box::new(alloc, m.copy(alloc)?)?),
+        })
+    }
+}
+
+// Equal texts.
+fn copy_texts(alloc: Global, texts: &List<Text>) -> Result<List<Text>, NoMemory>
+    ensures { IfOk result (λ copied. copied ≡ texts.now) }
+{
+    let mut copied = List::new(alloc);
+    for text in texts.as_slice() {
+        copied.push(Text::copy(alloc, text.as_str())?)?;
+    }
+    Ok(copied)
+}
+
+impl TableRow {
+    // An equal row.
+    fn copy(&self, alloc: Global) -> Result<TableRow, NoMemory>
+        ensures { IfOk result (λ copied. copied ≡ self.now) }
+    {
+        Ok(TableRow {
+            name: Text::copy(alloc, self.name.as_str())?,
+            images: copy_list(alloc, &self.images)?,
+        })
+    }
+}
+
+fn copy_rows(alloc: Global, rows: &List<TableRow>) -> Result<List<TableRow>, NoMemory>
+    ensures { IfOk result (λ copied. copied ≡ rows.now) }
+{
+    let mut copied = List::new(alloc);
+    for row in rows.as_slice() {
+        copied.push(row.copy(alloc)?)?;
+    }
+    Ok(copied)
+}
+
+impl TableSpec {
+    // An equal table.
+    fn copy(&self, alloc: Global) -> Result<TableSpec, NoMemory>
+        ensures { IfOk result (λ copied. copied ≡ self.now) }
+    {
+        Ok(TableSpec {
+            names: copy_texts(alloc, &self.names)?,
+            ranks: copy_list(alloc, &self.ranks)?,
+            rows: copy_rows(alloc, &self.rows)?,
+        })
     }
 }
 
 impl Tree {
     // An equal tree.
-    pub(crate) fn copy(&self, _alloc: Global) -> Result<Tree, NoMemory>
+    pub(crate) fn copy(&self, alloc: Global) -> Result<Tree, NoMemory>
         ensures { IfOk result (λ copied. expression_of copied ≡ expression_of self.now) }
     {
-        match self {
-            Tree::Add { low, high } => Ok(Tree::Add {
+        Ok(match self {
+            Tree::Lex(a, b) => Tree::Lex(
+                Box::new(alloc, a.copy(alloc)?)?,
+                Box::new(alloc, b.copy(alloc)?)?,
+            ),
+            Tree::Scoped(a, b) => Tree::Scoped(
+                Box::new(alloc, a.copy(alloc)?)?,
+                Box::new(alloc, b.copy(alloc)?)?,
+            ),
+            Tree::Union(a, b) => Tree::Union(
+                Box::new(alloc, a.copy(alloc)?)?,
+                Box::new(alloc, b.copy(alloc)?)?,
+            ),
+            Tree::Sum(a, b) => Tree::Sum(
+                Box::new(alloc, a.copy(alloc)?)?,
+                Box::new(alloc, b.copy(alloc)?)?,
+            ),
+            Tree::Plus(a, b) => Tree::Plus(
+                Box::new(alloc, a.copy(alloc)?)?,
+                Box::new(alloc, b.copy(alloc)?)?,
+            ),
+            Tree::Left(a) => Tree::Left(Box::new(alloc, a.copy(alloc)?)?),
+            Tree::Right(a) => Tree::Right(Box::new(alloc, a.copy(alloc)?)?),
+            Tree::Table(table) => Tree::Table(table.copy(alloc)?),
+            Tree::Add { low, high } => Tree::Add {
                 low: *low,
                 high: *high,
-            }),
-        }
+            },
+            Tree::Cap { top, low, high } => Tree::Cap {
+                top: *top,
+                low: *low,
+                high: *high,
+            },
+            Tree::Worst { top, low, high } => Tree::Worst {
+                top: *top,
+                low: *low,
+                high: *high,
+            },
+            Tree::Width { top, low, high } => Tree::Width {
+                top: *top,
+                low: *low,
+                high: *high,
+            },
+            Tree::Pref { top } => Tree::Pref { top: *top },
+            Tree::Orig { top } => Tree::Orig { top: *top },
+            Tree::Seq { symbols } => Tree::Seq { symbols: *symbols },
+            Tree::SimSeq { symbols } => Tree::SimSeq { symbols: *symbols },
+            Tree::Tags { count } => Tree::Tags { count: *count },
+            Tree::Guard { count } => Tree::Guard { count: *count },
+            Tree::Gate => Tree::Gate,
+        })
     }
 }

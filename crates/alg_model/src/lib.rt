@@ -5,9 +5,16 @@
 #![tactic(auto)]
 
 mod alg;
+mod algebra;
+mod application;
 mod carrier;
+mod copying;
 mod formation;
+mod preference;
 mod tree;
 
 pub use alg::{Alg, MAX_MARKS, MAX_SIMPLE_SYMBOLS, MAX_TABLE_NAMES, MAX_TREE_NODES, Shape};
+pub use algebra::{Algebra, TreeAlgebra};
+pub use application::apply;
+pub use preference::order;
 pub use tree::{Amount, Carrier, Label, TableRow, TableSpec, Tree, Value};

@@ -1,5 +1,5 @@
-ghost use Rattle.std.specs.Prelude.{◌≡◌};
-ghost use Rattle.alg_model.specs.Views.{pure_value};
+ghost use Rattle.std.specs.Prelude.{◌≡◌, slice_index};
+ghost use Rattle.alg_model.specs.Views.{expression_of, pure_value};
 ghost use Rattle.alg_model.specs.Carriers.{carrier_of, In, Order};
 
 use crate::{Alg, Tree, Value};
@@ -12,7 +12,46 @@ pub fn order(alg: &Alg, u: &Value, v: &Value) -> Ordering
     requires second { In (carrier_of alg.now) (pure_value v.now) }
     ensures { result ≡ Order (carrier_of alg.now) (pure_value u.now) (pure_value v.now) }
 {
-    match (alg.tree(), u, v) {
-        (Tree::Add { .. }, Value::Number(m), Value::Number(n)) => m.cmp(n),
+    compare(alg.tree(), u, v)
+}
+
+// Which of two values of the tree's algebra is preferred.
+fn compare(tree: &Tree, u: &Value, v: &Value) -> Ordering
+    requires first { In (carrier_of (expression_of tree.now)) (pure_value u.now) }
+    requires second { In (carrier_of (expression_of tree.now)) (pure_value v.now) }
+    ensures { result ≡ Order (carrier_of (expression_of tree.now)) (pure_value u.now) (pure_value v.now) }
+{
+    match (tree, u, v) {
+        (
+            Tree::Add { .. } | Tree::Cap { .. } | Tree::Worst { .. } | Tree::Orig { .. },
+            Value::Number(m),
+            Value::Number(n),
+        ) => m.cmp(n),
+        (Tree::Width { .. } | Tree::Pref { .. }, Value::Number(m), Value::Number(n)) => n.cmp(m),
+        (Tree::Seq { .. } | Tree::SimSeq { .. }, Value::Symbols(ms), Value::Symbols(ns)) => {
+            ms.as_slice().len().cmp(&ns.as_slice().len())
+        }
+        (Tree::Table(table), Value::Name(j), Value::Name(k)) => {
+            let ranks = table.ranks.as_slice();
+            rank(ranks, *j).cmp(&rank(ranks, *k))
+        }
+        (Tree::Lex(a, b) | Tree::Scoped(a, b), Value::Pair(u1, u2), Value::Pair(v1, v2)) => {
+            compare(a, u1, v1).then(compare(b, u2, v2))
+        }
+        (Tree::Union(a, _) | Tree::Sum(a, _), Value::First(u), Value::First(v)) => compare(a, u, v),
+        (Tree::Union(_, b) | Tree::Sum(_, b), Value::Second(u), Value::Second(v)) => {
+            compare(b, u, v)
+        }
+        (Tree::Union(_, _) | Tree::Sum(_, _), Value::First(_), _) => Ordering::Less,
+        (Tree::Union(_, _) | Tree::Sum(_, _), _, _) => Ordering::Greater,
+        (Tree::Plus(a, _) | Tree::Left(a) | Tree::Right(a), _, _) => compare(a, u, v),
+        _ => Ordering::Equal,
     }
+}
+
+// The rank of the value at that place of a table. A table of an algebra has one for each place.
+fn rank(ranks: &[u8], place: u8) -> u8
+    ensures { result ≡ slice_index ranks.now place }
+{
+    ranks.get(usize::from(place)).copied().unwrap_or(0)
 }
