@@ -1,15 +1,16 @@
 -- What holds of preference, application and bounds in every algebra. Lemmas, so that proofs of other
 -- crates may cite them.
-use Rattle.std.proofs.Common.{◌≡◌, ℕ, ◌+◌, ◌≤◌, Some, arith}
+use Rattle.std.proofs.Common.{◌≡◌, Some, arith}
 use Rattle.std.proofs.lemmas.Bool.Decides.{nat_tests}
 use Rattle.std.specs.Ordering.{nat_cmp, ordering_reverse}
 use Rattle.std.specs.declared.cmp.Ordering.TheVariants.{Less, Equal}
 use Rattle.alg_model.specs.Expressions.{Expression, add, PureCarrier, whole, PureLabel, number_label, PureValue, number}
 use Rattle.alg_model.specs.Carriers.{carrier_of, In, Order}
 use Rattle.alg_model.specs.Application.{App, IsLabel}
-use Rattle.alg_model.specs.Bounds.{AtMost, LabelAtMost}
 use Rattle.alg_model.specs.Formation.{IsFormed}
 use Rattle.alg_model.specs.Preorder.{IsTotalPreorder}
+-- a bound on a value's numbers may be raised, and the bound on the numbers of images
+pub use Rattle.alg_model.specs.BoundLaws.{at_most_more, images_at_most}
 
 flipped : (u v : PureValue) → Order whole v u ≡ ordering_reverse (Order whole u v)
 flipped (number m) (number n) = grind (arith, nat_tests)
@@ -31,13 +32,3 @@ total_preorder whole = record {
 -- what a label makes of a value of the carrier is in the carrier
 pub images_in : (a : Expression) (l : PureLabel) (v w : PureValue) → IsFormed a → IsLabel a l → In (carrier_of a) v → App a l v ≡ Some w → In (carrier_of a) w
 images_in (add low high) (number_label n) (number m) (number k) f i j e = tt
-
--- a bound on a value's numbers may be raised
-pub at_most_more : (m n : ℕ) (v : PureValue) → m ≤ n → AtMost m v → AtMost n v
-at_most_more m n (number k) h i = omega arith
-
--- what a label adds to the greatest number of a value is at most the greatest number of a text
-pub images_at_most : (a : Expression) (l : PureLabel) (v w : PureValue) (m n : ℕ) → IsLabel a l → LabelAtMost n l → AtMost m v → App a l v ≡ Some w → AtMost (m + n) w
-images_at_most (add low high) (number_label k) (number i) (number j) m n is small at e =
-    let f : i + k ≡ j = cc in
-    omega arith

@@ -11,3 +11,6 @@ pub mod Properties
 pub mod Verdicts
 pub mod Instances
 pub mod Texts
+pub mod Images
+pub mod BoundLaws
+pub mod Laws
