@@ -111,18 +111,18 @@ table_bound t _ v w m n is small at e = absurd is
 lex_bound : (a b : Expression) → IsBounded a → IsBounded b → IsBounded (lex a b)
 lex_bound a b first_law second_law (pair_label l k) (pair u v) w m n is small at e =
     image_both (AtMost (m + n)) (App a l u) (App b k v) w e (λ x y p q.
-      (first_law l u x m n is.0 small.0 at.0 p, second_law k v y m n is.1 small.1 at.1 q))
+    (first_law l u x m n is.0 small.0 at.0 p, second_law k v y m n is.1 small.1 at.1 q))
 lex_bound a b first_law second_law (pair_label l k) _ w m n is small at e = absurd (cc)
 lex_bound a b first_law second_law _ v w m n is small at e = absurd is
 
 scoped_bound : (a b : Expression) → IsBounded a → IsBounded b → IsBounded (scoped a b)
 scoped_bound a b first_law second_law (outer l s) (pair u v) w m n is small at e =
     image_both (AtMost (m + n)) (App a l u) (Some s) w e (λ x y p q.
-      (first_law l u x m n is.0 small.0 at.0 p, image_same (AtMost (m + n)) s y q (at_most_more n (m + n) s (omega arith) small.1)))
+    (first_law l u x m n is.0 small.0 at.0 p, image_same (AtMost (m + n)) s y q (at_most_more n (m + n) s (omega arith) small.1)))
 scoped_bound a b first_law second_law (outer l s) _ w m n is small at e = absurd (cc)
 scoped_bound a b first_law second_law (inner k) (pair u v) w m n is small at e =
     image_both (AtMost (m + n)) (Some u) (App b k v) w e (λ x y p q.
-      (kept_bound u x m n at.0 p, second_law k v y m n is small at.1 q))
+    (kept_bound u x m n at.0 p, second_law k v y m n is small at.1 q))
 scoped_bound a b first_law second_law (inner k) _ w m n is small at e = absurd (cc)
 scoped_bound a b first_law second_law _ v w m n is small at e = absurd is
 

@@ -13,4 +13,7 @@ pub mod Instances
 pub mod Texts
 pub mod Images
 pub mod BoundLaws
+pub mod PreferenceLaws
+pub mod ImageLaws
+pub mod PartLaws
 pub mod Laws

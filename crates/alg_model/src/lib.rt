@@ -7,7 +7,12 @@
 mod alg;
 mod carrier;
 mod formation;
+mod laws;
 mod tree;
 
 pub use alg::{Alg, MAX_MARKS, MAX_SIMPLE_SYMBOLS, MAX_TABLE_NAMES, MAX_TREE_NODES, Shape};
+pub use laws::{
+    images_are_bounded, images_are_values, preference_is_total_preorder,
+    scoped_is_a_union_of_lexical_products, violations_refute,
+};
 pub use tree::{Amount, Carrier, Label, TableRow, TableSpec, Tree, Value};
