@@ -11,3 +11,9 @@ pub mod Properties
 pub mod Verdicts
 pub mod Instances
 pub mod Texts
+pub mod Images
+pub mod BoundLaws
+pub mod PreferenceLaws
+pub mod ImageLaws
+pub mod PartLaws
+pub mod Laws

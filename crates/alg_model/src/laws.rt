@@ -1,5 +1,6 @@
-ghost use Rattle.std.specs.Prelude.{◌≡◌, Some};
+ghost use Rattle.std.specs.Prelude.{◌≡◌, ℕ, ◌+◌, Some};
 ghost use Rattle.alg_model.specs.Application.{IsLabel, App};
+ghost use Rattle.alg_model.specs.Bounds.{AtMost, LabelAtMost};
 ghost use Rattle.alg_model.specs.Carriers.{carrier_of, In};
 ghost use Rattle.alg_model.specs.Expressions.{Expression, PureCarrier, PureLabel, PureValue};
 ghost use Rattle.alg_model.specs.Formation.{IsFormed};
@@ -26,6 +27,14 @@ pub fn preference_is_total_preorder()
 pub fn images_are_values()
     ensures { (a : Expression) (l : PureLabel) (v w : PureValue) → IsFormed a → IsLabel a l →
         In (carrier_of a) v → App a l v ≡ Some w → In (carrier_of a) w }
+{}
+
+/// No number of what a label makes of a value is above the greatest number of the value and the
+/// greatest of the label together, so a hop adds at most the greatest number of a text.
+#[tactic(auto, using(crate::specs::Laws::images_at_most))]
+pub fn images_are_bounded()
+    ensures { (a : Expression) (l : PureLabel) (v w : PureValue) (m n : ℕ) → IsLabel a l → LabelAtMost n l →
+        AtMost m v → App a l v ≡ Some w → AtMost (m + n) w }
 {}
 
 /// A scoped product has the values of the function union of two lexical products, and its labels are
