@@ -1,2 +1,3 @@
 mod Refuted
 mod Nodes
+mod Texts

@@ -52,8 +52,15 @@ fn are_same_texts(ts: &[Text], us: &[Text]) -> bool
     ensures { (result ≡ true) ↔ (ts.now ≡ us.now) }
 {
     match (ts, us) {
-        ([t, ts @ ..], [u, us @ ..]) => t.as_str() == u.as_str() && are_same_texts(ts, us),
+        ([t, ts @ ..], [u, us @ ..]) => is_same_text(t, u) && are_same_texts(ts, us),
         ([], []) => true,
         _ => false,
     }
+}
+
+#[tactic(auto, using(crate::proofs::Texts::same_text))]
+fn is_same_text(t: &Text, u: &Text) -> bool
+    ensures { (result ≡ true) ↔ (t.now ≡ u.now) }
+{
+    t.as_str() == u.as_str()
 }
