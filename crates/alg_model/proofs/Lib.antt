@@ -1,3 +1,4 @@
 mod Refuted
 mod Nodes
 mod Texts
+mod Members

@@ -82,4 +82,12 @@ impl Alg {
             Ok(Alg { tree })
         }
     }
+
+    /// Lends the tree.
+    pub fn tree(&self) -> &Tree
+        ensures tree { expression_of result.now ≡ self.now }
+        ensures formed { IsFormed self.now }
+    {
+        &self.tree
+    }
 }

@@ -10,4 +10,5 @@ mod formation;
 mod tree;
 
 pub use alg::{Alg, MAX_MARKS, MAX_SIMPLE_SYMBOLS, MAX_TABLE_NAMES, MAX_TREE_NODES, Shape};
+pub use carrier::{carrier_of, same_carrier};
 pub use tree::{Amount, Carrier, Label, TableRow, TableSpec, Tree, Value};
