@@ -1,2 +1,4 @@
 mod Refuted
 mod Nodes
+mod Texts
+mod Members

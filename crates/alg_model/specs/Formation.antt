@@ -7,6 +7,7 @@ use Rattle.meta_base.specs.Bytes.{is_word}
 use Rattle.alg_model.specs.declared.tree.TableSpec.{TableSpec}
 use Rattle.alg_model.specs.declared.tree.TableRow.{TableRow}
 use Rattle.alg_model.specs.Expressions.{Expression, add, cap, worst, width, pref, orig, seq, simseq, tags, guard, gate, table, lex, scoped, union, sum, plus, left, right}
+use Rattle.alg_model.specs.Expressions.{PureCarrier, whole, up_to, down_from, seqs, simseqs, sets, one, named, pairs, sides}
 use Rattle.alg_model.specs.Carriers.{carrier_of}
 use Rattle.alg_model.specs.Bounds.{ExpressionAtMost}
 use Rattle.alg_model.specs.declared.alg.TheConstants.{MAX_TREE_NODES, MAX_TABLE_NAMES, MAX_SIMPLE_SYMBOLS, MAX_MARKS}
@@ -127,3 +128,14 @@ IsFirstBroken a Range = ¬ MeetsRanges a
 IsFirstBroken a Carriers = MeetsRanges a × ¬ MeetsCarriers a
 IsFirstBroken a Size = MeetsRanges a × MeetsCarriers a × (MAX_TREE_NODES < node_count a)
 IsFirstBroken a Names = MeetsRanges a × MeetsCarriers a × (node_count a ≤ MAX_TREE_NODES) × ¬ MeetsNames a
+
+-- the carrier is that of an algebra
+abbrev pub IsCarrier : PureCarrier → Type 0
+IsCarrier c = (a : Expression) × IsFormed a × (carrier_of a ≡ c)
+
+-- each named carrier in it has a name
+abbrev pub HasNames : PureCarrier → Type 0
+HasNames (named names ranks) = 0 < length names
+HasNames (pairs c d) = HasNames c × HasNames d
+HasNames (sides c d) = HasNames c × HasNames d
+HasNames _ = Unit {0}

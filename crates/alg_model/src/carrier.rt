@@ -1,10 +1,107 @@
 // The carriers of algebras.
-ghost use Rattle.std.specs.Prelude.{◌≡◌, ◌↔◌, true};
-ghost use Rattle.alg_model.specs.Views.{expression_of};
-ghost use Rattle.alg_model.specs.Carriers.{carrier_of};
+ghost use Rattle.std.specs.Prelude.{◌≡◌, ◌↔◌, true, IfOk};
+ghost use Rattle.meta_base.specs.declared.limits.TheConstants.{MAX_NUMBER};
+ghost use Rattle.alg_model.specs.Views.{expression_of, pure_carrier, pure_value};
+ghost use Rattle.alg_model.specs.Carriers.{carrier_of, In};
+ghost use Rattle.alg_model.specs.Formation.{IsCarrier, HasNames};
+ghost use Rattle.alg_model.specs.Bounds.{AtMost};
+ghost use Rattle.alg_model.specs.Expressions.{named};
 
-use crate::{TableSpec, Tree};
-use meta_base::Text;
+use crate::{Alg, Carrier, TableSpec, Tree, Value};
+use meta_base::{List, NoMemory, Text};
+use std::alloc::Global;
+
+/// Whether two algebras have the same carrier: the same values in the same order of preference. It
+/// takes no memory.
+pub fn same_carrier(a: &Alg, b: &Alg) -> bool
+    ensures { (result ≡ true) ↔ (carrier_of a.now ≡ carrier_of b.now) }
+{
+    have_same_carrier(a.tree(), b.tree())
+}
+
+/// The carrier of an algebra. It is refused for want of memory alone.
+pub fn carrier_of(alloc: Global, alg: &Alg) -> Result<Carrier, NoMemory>
+    ensures { IfOk result (λ c. pure_carrier c ≡ carrier_of alg.now) }
+{
+    tree_carrier(alloc, alg.tree())
+}
+
+pub(crate) fn tree_carrier(alloc: Global, tree: &Tree) -> Result<Carrier, NoMemory>
+    ensures { IfOk result (λ c. pure_carrier c ≡ carrier_of (expression_of tree.now)) }
+{
+    match tree {
+        Tree::Add { .. } => Ok(Carrier::Whole),
+        Tree::Cap { top, .. } | Tree::Worst { top, .. } | Tree::Orig { top } => {
+            Ok(Carrier::UpTo(*top))
+        }
+        Tree::Width { top, .. } | Tree::Pref { top } => Ok(Carrier::DownFrom(*top)),
+        Tree::Seq { symbols } => Ok(Carrier::Seqs(*symbols)),
+        Tree::SimSeq { symbols } => Ok(Carrier::SimSeqs(*symbols)),
+        Tree::Tags { count } | Tree::Guard { count } => Ok(Carrier::Sets(*count)),
+        Tree::Gate => Ok(Carrier::One),
+        Tree::Table(table) => table_carrier(alloc, table),
+        Tree::Lex(a, b) | Tree::Scoped(a, b) => Ok(Carrier::Pair(
+            Box::new(alloc, tree_carrier(alloc, a)?)?,
+            Box::new(alloc, tree_carrier(alloc, b)?)?,
+        )),
+        Tree::Union(a, b) | Tree::Sum(a, b) => Ok(Carrier::Side(
+            Box::new(alloc, tree_carrier(alloc, a)?)?,
+            Box::new(alloc, tree_carrier(alloc, b)?)?,
+        )),
+        Tree::Plus(a, _) | Tree::Left(a) | Tree::Right(a) => tree_carrier(alloc, a),
+    }
+}
+
+fn table_carrier(alloc: Global, table: &TableSpec) -> Result<Carrier, NoMemory>
+    ensures { IfOk result (λ c. pure_carrier c ≡ named table.now.names table.now.ranks) }
+{
+    let names = copy_texts(alloc, table.names.as_slice())?;
+    let ranks = Vec::from_slice(alloc, table.ranks.as_slice())?;
+    Ok(Carrier::Named(names, List::from_vec(ranks)))
+}
+
+fn copy_texts(alloc: Global, texts: &[Text]) -> Result<List<Text>, NoMemory>
+    ensures { IfOk result (λ copied. copied ≡ texts.now) }
+{
+    let mut copied = List::new(alloc);
+    for text in texts {
+        copied.push(Text::copy(alloc, text.as_str())?)?;
+    }
+    Ok(copied)
+}
+
+impl Carrier {
+    /// Some value of the carrier of an algebra, whose numbers are small. It is refused for want of
+    /// memory alone.
+    #[tactic(auto, using(crate::proofs::Members::algebra_has_names))]
+    pub fn member(&self, alloc: Global) -> Result<Value, NoMemory>
+        requires { IsCarrier (pure_carrier self.now) }
+        ensures member { IfOk result (λ v. In (pure_carrier self.now) (pure_value v)) }
+        ensures small { IfOk result (λ v. AtMost MAX_NUMBER (pure_value v)) }
+    {
+        self.any_member(alloc)
+    }
+
+    // Its condition, unlike that of `member`, holds of the parts of a carrier too.
+    fn any_member(&self, alloc: Global) -> Result<Value, NoMemory>
+        requires { HasNames (pure_carrier self.now) }
+        ensures member { IfOk result (λ v. In (pure_carrier self.now) (pure_value v)) }
+        ensures small { IfOk result (λ v. AtMost MAX_NUMBER (pure_value v)) }
+    {
+        match self {
+            Carrier::Whole | Carrier::UpTo(_) | Carrier::DownFrom(_) => Ok(Value::Number(0)),
+            Carrier::Seqs(_) | Carrier::SimSeqs(_) => Ok(Value::Symbols(List::new(alloc))),
+            Carrier::Sets(_) => Ok(Value::Marks(0)),
+            Carrier::One => Ok(Value::Unit),
+            Carrier::Named(_, _) => Ok(Value::Name(0)),
+            Carrier::Pair(c, d) => Ok(Value::Pair(
+                Box::new(alloc, c.any_member(alloc)?)?,
+                Box::new(alloc, d.any_member(alloc)?)?,
+            )),
+            Carrier::Side(c, _) => Ok(Value::First(Box::new(alloc, c.any_member(alloc)?)?)),
+        }
+    }
+}
 
 pub fn have_same_carrier(a: &Tree, b: &Tree) -> bool
     ensures { (result ≡ true) ↔ (carrier_of (expression_of a.now) ≡ carrier_of (expression_of b.now)) }
@@ -52,8 +149,15 @@ fn are_same_texts(ts: &[Text], us: &[Text]) -> bool
     ensures { (result ≡ true) ↔ (ts.now ≡ us.now) }
 {
     match (ts, us) {
-        ([t, ts @ ..], [u, us @ ..]) => t.as_str() == u.as_str() && are_same_texts(ts, us),
+        ([t, ts @ ..], [u, us @ ..]) => is_same_text(t, u) && are_same_texts(ts, us),
         ([], []) => true,
         _ => false,
     }
+}
+
+#[tactic(auto, using(crate::proofs::Texts::same_text))]
+fn is_same_text(t: &Text, u: &Text) -> bool
+    ensures { (result ≡ true) ↔ (t.now ≡ u.now) }
+{
+    t.as_str() == u.as_str()
 }
