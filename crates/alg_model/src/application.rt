@@ -29,6 +29,7 @@ pub fn apply(
     requires small_label { LabelAtMost MAX_NUMBER (pure_label label.now) }
     requires small_value { AtMost (2 ^ 62) (pure_value value.now) }
     ensures image { IfOk result (λ image. option_map pure_value image ≡ App alg.now (pure_label label.now) (pure_value value.now)) }
+    ensures value { IfOk result (λ image. IfSome image (λ v. In (carrier_of alg.now) (pure_value v))) }
     ensures bound { (n : ℕ) → AtMost n (pure_value value.now) →
         IfOk result (λ image. IfSome image (λ v. AtMost (n + MAX_NUMBER) (pure_value v))) }
 {
