@@ -61,9 +61,7 @@ impl Label {
             Label::First(l) => Label::First(Box::new(alloc, l.copy(alloc)?)?),
             Label::Second(m) => Label::Second(Box::new(alloc, m.copy(alloc)?)?),
             Label::Const(v) => Label::Const(v.copy(alloc)?),
-            Label::Outer(l, v) => {
-                Label::Outer(Box::new(alloc, l.copy(alloc)?)?, v.copy(alloc)?)
-            }
+            Label::Outer(l, v) => { Label::Outer(Box::new(alloc, l.copy(alloc)?)?, v.copy(alloc)?) }
             Label::Inner(m) => Label::Inner(Box::new(alloc, m.copy(alloc)?)?),
         })
     }

@@ -20,7 +20,7 @@ returns-clause-value c =
     let label = pure_label c.args.label.now in
     let value = pure_value c.args.value.now in
     IfOk-weaker c.image.result _ _ (λ image e. image_is (App alg label value) (In (carrier_of alg)) image e
-        (λ v f. images_in alg label value v c.tree.ensures.formed c.requires.label c.requires.value f)) (search rules)
+    (λ v f. images_in alg label value v c.tree.ensures.formed c.requires.label c.requires.value f)) (search rules)
 
 pub returns-clause-bound : goal.returns-clause-bound
 returns-clause-bound c n small =
@@ -28,4 +28,4 @@ returns-clause-bound c n small =
     let label = pure_label c.args.label.now in
     let value = pure_value c.args.value.now in
     IfOk-weaker c.image.result _ _ (λ image e. image_is (App alg label value) (AtMost (n + MAX_NUMBER)) image e
-        (λ v f. images_at_most alg label value v n MAX_NUMBER c.requires.label c.requires.small_label small f)) (search rules)
+    (λ v f. images_at_most alg label value v n MAX_NUMBER c.requires.label c.requires.small_label small f)) (search rules)
