@@ -125,14 +125,9 @@ pub fn have_same_carrier(a: &Tree, b: &Tree) -> bool
             Tree::Tags { count: n } | Tree::Guard { count: n },
         ) => k == n,
         (Tree::Table(t), Tree::Table(u)) => have_same_values(t, u),
-        (
-            Tree::Lex(a, b) | Tree::Scoped(a, b),
-            Tree::Lex(c, d) | Tree::Scoped(c, d),
-        )
-        | (
-            Tree::Union(a, b) | Tree::Sum(a, b),
-            Tree::Union(c, d) | Tree::Sum(c, d),
-        ) => have_same_carrier(a, c) && have_same_carrier(b, d),
+        (Tree::Lex(a, b) | Tree::Scoped(a, b), Tree::Lex(c, d) | Tree::Scoped(c, d))
+        | (Tree::Union(a, b) | Tree::Sum(a, b), Tree::Union(c, d) | Tree::Sum(c, d)) =>
+            have_same_carrier(a, c) && have_same_carrier(b, d),
         _ => false,
     }
 }

@@ -7,8 +7,10 @@
 mod alg;
 mod carrier;
 mod formation;
+mod membership;
 mod tree;
 
 pub use alg::{Alg, MAX_MARKS, MAX_SIMPLE_SYMBOLS, MAX_TABLE_NAMES, MAX_TREE_NODES, Shape};
 pub use carrier::{carrier_of, same_carrier};
+pub use membership::{label_in, value_in};
 pub use tree::{Amount, Carrier, Label, TableRow, TableSpec, Tree, Value};
