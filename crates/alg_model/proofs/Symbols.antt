@@ -1,5 +1,5 @@
 -- Sequences of symbols.
-use Rattle.std.proofs.Common.{◌≡◌, ◌≢◌, ℕ, zero, suc, ◌+◌, ◌<◌, ◌≤◌, List, [], ◌∷◌, ◌++◌, length, get_or, take, drop, set, true, false, Bool, not, ◌&&◌, ◌||◌, ◌==◌, arith, refl, rules, sym, ◌∙◌, ap, get_or-set_same, get_or-set_other}
+use Rattle.std.proofs.Common.{◌≡◌, ◌≢◌, ℕ, zero, suc, ◌+◌, ◌<◌, ◌≤◌, List, [], ◌∷◌, ◌++◌, length, get_or, take, drop, set, true, false, Bool, not, ◌&&◌, ◌||◌, ◌==◌, arith, refl, ◌∙◌, ap, get_or-set_same, get_or-set_other}
 use Rattle.std.specs.Prelude.{nat_lt}
 use Rattle.std.specs.List.{AllByRecursion, list_all, list_any, IsDistinct}
 use Rattle.std.proofs.lemmas.Bool.Decides.{nat_tests}
@@ -8,6 +8,7 @@ use Rattle.std.proofs.lemmas.List.Folds.{list_any-append}
 use Rattle.std.proofs.lemmas.Map.Steps.{length-le_from_distinct_below}
 use Rattle.alg_model.specs.Carriers.{distinct}
 
+-- all are below the bound
 abbrev pub Below : ℕ → List ℕ → Type 0
 Below bound ns = AllByRecursion (λ n. n < bound) ns
 
@@ -29,15 +30,13 @@ test_below bound (n ∷ ns) h =
 pub below_by_test : (bound : ℕ) (ns : List ℕ) → (list_all (λ n. nat_lt n bound) ns ≡ true → Below bound ns) × (Below bound ns → list_all (λ n. nat_lt n bound) ns ≡ true)
 below_by_test bound ns = (below_test bound ns, test_below bound ns)
 
-pub below_more : (low high : ℕ) → low ≤ high → (ns : List ℕ) → Below low ns → Below high ns
-below_more low high h [] b = tt
-below_more low high h (n ∷ ns) b = let p : n < low = b.0 in (omega arith, below_more low high h ns b.1)
-
+-- a symbol of them is below their bound
 pub below_at : (bound : ℕ) (ns : List ℕ) (i : ℕ) → Below bound ns → i < length ns → get_or ns i 0 < bound
 below_at bound [] i b h = absurd (omega arith)
 below_at bound (n ∷ ns) zero b h = b.0
 below_at bound (n ∷ ns) (suc i) b h = below_at bound ns i b.1 (omega arith)
 
+-- so is one that a test finds among them
 below_any : (bound : ℕ) (ns : List ℕ) → Below bound ns → (q : ℕ) → list_any (λ m. q == m) ns ≡ true → q < bound
 below_any bound [] b q h = absurd (cc)
 below_any bound (n ∷ ns) b q h = by (q == n) refl (below_any bound ns b.1 q)

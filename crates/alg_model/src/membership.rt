@@ -91,6 +91,7 @@ pub(crate) fn is_label(tree: &Tree, label: &Label) -> bool
     }
 }
 
+// Whether all symbols are below the bound.
 fn are_below(bound: u64, ns: &[u64]) -> bool
     ensures { (result ≡ true) ↔ AllByRecursion (λ n. n < bound) ns.now }
 {
@@ -108,10 +109,11 @@ fn is_simple(bound: u64, ns: &[u64]) -> bool
     requires { bound ≤ MAX_SIMPLE_SYMBOLS }
     ensures { (result ≡ true) ↔ (AllByRecursion (λ n. n < bound) ns.now × (distinct ns.now ≡ true)) }
 {
-    // Longer ones have a repeat: so however long the input, the second part goes over few.
+    // Longer ones have a repeat or a symbol above: so the rest goes over few, however many come.
     ns.len() as u64 <= bound && are_below(bound, ns) && are_distinct_symbols(ns)
 }
 
+// Whether no symbol is there twice, in one pass: a table says which were seen.
 fn are_distinct_symbols(ns: &[u64]) -> bool
     requires { AllByRecursion (λ n. n < MAX_SIMPLE_SYMBOLS) ns.now }
     ensures { result ≡ distinct ns.now }
@@ -127,10 +129,11 @@ fn are_distinct_symbols(ns: &[u64]) -> bool
     true
 }
 
-#[tactic(auto, using(crate::proofs::Sets::any_word, crate::proofs::Sets::none_above))]
+// Whether all numbers of a set are below the count.
+#[tactic(auto, using(crate::proofs::Sets::none_above))]
 fn is_set_below(count: u64, marks: u64) -> bool
     ensures { (result ≡ true) ↔ (marks < 2 ^ count) }
 {
-    // A shift by all the bits of a word isn't one.
+    // A shift by all the bits of a word would be no shift.
     count >= MAX_MARKS || marks >> count == 0
 }

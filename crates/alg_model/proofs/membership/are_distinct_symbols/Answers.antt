@@ -1,5 +1,4 @@
-use Rattle.std.proofs.Common.{◌≡◌, ◌<◌, ◌+◌, ◌==◌, get_or, true, false, sym, refl, length, take, ap, ◌∙◌, arith, length-set}
-use Rattle.std.specs.List.{list_any}
+use Rattle.std.proofs.Common.{◌<◌, get_or, true, false, sym, refl, length, ◌∙◌, arith, length-set}
 use Rattle.std.proofs.lemmas.List.{get_or-replicate}
 use Rattle.alg_model.proofs.Symbols.{repeated, distinct_more, seen_more, below_at}
 use Rattle.alg_model.proofs.membership.are_distinct_symbols.Goals as goal

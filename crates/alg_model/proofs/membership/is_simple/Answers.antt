@@ -1,4 +1,4 @@
-use Rattle.std.proofs.Common.{◌≡◌, ◌≤◌, ◌∙◌, sym, length, arith}
+use Rattle.std.proofs.Common.{◌∙◌, arith}
 use Rattle.alg_model.proofs.Symbols.{few_when_distinct}
 use Rattle.alg_model.proofs.membership.is_simple.Goals as goal
 use Rattle.alg_model.proofs.membership.is_simple.Goals.{then-ns-bound, else-ns-bound}
