@@ -4,7 +4,7 @@ use Rattle.std.proofs.lemmas.Bool.Decides.{nat_tests}
 use Rattle.alg_model.specs.declared.tree.TableSpec.{TableSpec}
 use Rattle.alg_model.specs.Expressions.{Expression, PureCarrier, add, cap, worst, width, pref, orig, seq, simseq, tags, guard, gate, table, lex, scoped, union, sum, plus, left, right}
 use Rattle.alg_model.specs.Carriers.{carrier_of}
-use Rattle.alg_model.specs.Formation.{MeetsRanges, IsFormed, IsCarrier, HasNames, is_table}
+use Rattle.alg_model.specs.Formation.{MeetsRanges, IsCarrier, HasNames, is_table}
 
 -- a table has a name
 some_name : (t : TableSpec) → is_table t ≡ true → 0 < length t.names

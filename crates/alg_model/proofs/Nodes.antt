@@ -1,6 +1,6 @@
 -- The nodes of a tree.
-use Rattle.std.proofs.Common.{ℕ, ◌<◌, arith}
-use Rattle.alg_model.specs.Expressions.{Expression, add, cap, worst, width, pref, orig, seq, simseq, tags, guard, gate, table, lex, scoped, union, sum, plus, left, right}
+use Rattle.std.proofs.Common.{◌<◌, arith}
+use Rattle.alg_model.specs.Expressions.{Expression, lex, scoped, union, sum, plus, left, right}
 use Rattle.alg_model.specs.Formation.{node_count}
 
 -- a tree has a node

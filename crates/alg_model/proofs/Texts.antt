@@ -1,5 +1,5 @@
 -- Texts as lists of bytes.
-use Rattle.std.proofs.Common.{◌≡◌, ℕ, List, true, rules}
+use Rattle.std.proofs.Common.{◌≡◌, ℕ, List, true}
 use Rattle.std.specs.Str.{bytes_eq}
 use Rattle.std.proofs.lemmas.Slice.Eq.{bytes_eq-Decides}
 

@@ -7,7 +7,7 @@ use Rattle.meta_base.specs.Bytes.{is_word}
 use Rattle.alg_model.specs.declared.tree.TableSpec.{TableSpec}
 use Rattle.alg_model.specs.declared.tree.TableRow.{TableRow}
 use Rattle.alg_model.specs.Expressions.{Expression, add, cap, worst, width, pref, orig, seq, simseq, tags, guard, gate, table, lex, scoped, union, sum, plus, left, right}
-use Rattle.alg_model.specs.Expressions.{PureCarrier, whole, up_to, down_from, seqs, simseqs, sets, one, named, pairs, sides}
+use Rattle.alg_model.specs.Expressions.{PureCarrier, named, pairs, sides}
 use Rattle.alg_model.specs.Carriers.{carrier_of}
 use Rattle.alg_model.specs.Bounds.{ExpressionAtMost}
 use Rattle.alg_model.specs.declared.alg.TheConstants.{MAX_TREE_NODES, MAX_TABLE_NAMES, MAX_SIMPLE_SYMBOLS, MAX_MARKS}

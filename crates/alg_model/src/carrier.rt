@@ -26,6 +26,7 @@ pub fn carrier_of(alloc: Global, alg: &Alg) -> Result<Carrier, NoMemory>
     tree_carrier(alloc, alg.tree())
 }
 
+// The carrier of a tree's expression.
 pub(crate) fn tree_carrier(alloc: Global, tree: &Tree) -> Result<Carrier, NoMemory>
     ensures { IfOk result (λ c. pure_carrier c ≡ carrier_of (expression_of tree.now)) }
 {
@@ -103,6 +104,7 @@ impl Carrier {
     }
 }
 
+// Whether two trees have the same carrier.
 pub fn have_same_carrier(a: &Tree, b: &Tree) -> bool
     ensures { (result ≡ true) ↔ (carrier_of (expression_of a.now) ≡ carrier_of (expression_of b.now)) }
 {
@@ -140,6 +142,7 @@ fn have_same_values(t: &TableSpec, u: &TableSpec) -> bool
         && t.ranks.as_slice() == u.ranks.as_slice()
 }
 
+// Whether there are the same texts in the same order.
 fn are_same_texts(ts: &[Text], us: &[Text]) -> bool
     ensures { (result ≡ true) ↔ (ts.now ≡ us.now) }
 {

@@ -11,6 +11,7 @@ mod carrier;
 mod copying;
 mod formation;
 mod laws;
+mod membership;
 mod preference;
 #[cfg(test)]
 mod tests;
@@ -24,5 +25,6 @@ pub use laws::{
     images_are_bounded, images_are_values, preference_is_total_preorder,
     scoped_is_a_union_of_lexical_products, violations_refute,
 };
+pub use membership::{label_in, value_in};
 pub use preference::order;
 pub use tree::{Amount, Carrier, Label, TableRow, TableSpec, Tree, Value};
