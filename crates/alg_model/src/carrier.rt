@@ -104,7 +104,7 @@ impl Carrier {
     }
 }
 
-// Whether two trees have the same carrier.
+/// The same of two trees, which need not meet the formation rules.
 pub fn have_same_carrier(a: &Tree, b: &Tree) -> bool
     ensures { (result ≡ true) ↔ (carrier_of (expression_of a.now) ≡ carrier_of (expression_of b.now)) }
 {

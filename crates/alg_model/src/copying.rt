@@ -114,8 +114,8 @@ impl TableSpec {
 }
 
 impl Tree {
-    // An equal tree.
-    pub(crate) fn copy(&self, alloc: Global) -> Result<Tree, NoMemory>
+    /// An equal tree.
+    pub fn copy(&self, alloc: Global) -> Result<Tree, NoMemory>
         ensures { IfOk result (λ copied. expression_of copied ≡ expression_of self.now) }
     {
         Ok(match self {

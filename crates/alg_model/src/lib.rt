@@ -20,7 +20,7 @@ mod tree;
 pub use alg::{Alg, MAX_MARKS, MAX_SIMPLE_SYMBOLS, MAX_TABLE_NAMES, MAX_TREE_NODES, Shape};
 pub use algebra::{Algebra, TreeAlgebra};
 pub use application::apply;
-pub use carrier::{carrier_of, same_carrier};
+pub use carrier::{carrier_of, have_same_carrier, same_carrier};
 pub use laws::{
     images_are_bounded, images_are_values, preference_is_total_preorder,
     scoped_is_a_union_of_lexical_products, violations_refute,

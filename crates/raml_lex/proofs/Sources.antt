@@ -39,6 +39,7 @@ Ended-at s a b greatest fault none t d e =
     record {
       no_fault = none;
       step = ap (token_at greatest) empty;
+      all = all;
       gap = rw (all, empty) at (gap_is_gap false (drop a s));
       after = rw (t, e, all) refl;
     }

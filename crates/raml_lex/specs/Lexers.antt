@@ -43,6 +43,7 @@ pub record Found (old : Lexer) (t : Token) (new : Lexer) : Type 0 where
 pub record Ended (old new : Lexer) : Type 0 where
   pub no_fault : old.fault ≡ None
   pub step : step_of old.greatest old.rest ≡ end
+  pub all : gap_of false old.rest ≡ old.rest
   pub gap : IsGap false old.rest []
   pub after : new ≡ record old { before = old.before ++ old.rest; rest = [] }
 
