@@ -1,7 +1,8 @@
 -- How networks are stored as values of a model: a record as the tuple of its fields.
 use Rattle.std.specs.Prelude.{ℕ, List, refl}
 use Rattle.std.specs.Coded.{Coded, code_by, coded×, coded_list, coded_ℕ}
-use Rattle.alg_model.specs.Expressions.{Expression, coded_expression, PureLabel, coded_label, PureValue, coded_value}
+use Rattle.alg_model.specs.Expressions.{Expression, PureLabel, PureValue}
+use Rattle.alg_model.specs.Codes.{coded_expression, coded_label, coded_value}
 use Rattle.net_graph.specs.Nets.{PureArc, PureOrigin, PureNet}
 
 abbrev pub coded_arc : Coded PureArc

@@ -5,3 +5,4 @@ use Rattle.raml_syntax.specs.ExprText.{AddText, ExprText}
 
 pub no_algebra : (text : List ℕ) → ((low high : ℕ) → AddText text low high → ⊥) → (a : Expression) → ExprText text a → ⊥
 no_algebra text lacks (add low high) t = lacks low high t
+no_algebra text lacks _ t = absurd t

@@ -22,3 +22,5 @@ same_algebra text (add low high) (add m n) h k =
     let lows : low ≡ m = cc in
     let highs : high ≡ n = cc in
     cc
+same_algebra text (add low high) _ h k = absurd k
+same_algebra text _ b h k = absurd h

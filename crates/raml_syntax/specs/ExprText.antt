@@ -21,6 +21,7 @@ pub record AddText (text : List ℕ) (low high : ℕ) : Type 0 where
 -- the text means the algebra
 abbrev pub ExprText : List ℕ → Expression → Type 0
 ExprText text (add low high) = AddText text low high
+ExprText text _ = ⊥
 
 -- the text means no algebra, and this is its fault
 pub record IsExprFault (text : List ℕ) (f : ExprFault) : Type 0 where
