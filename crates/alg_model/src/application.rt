@@ -15,9 +15,9 @@ use std::alloc::Global;
 
 /// What the label makes of the value: a value, or `None` where it prohibits it.
 ///
-/// The label and the value are the algebra's. No number of the label is above
+/// The label and the value are the algebra's, and so is the result. No number of the label is above
 /// [`meta_base::MAX_NUMBER`] and none of the value above 2^62; no number of the result is above the
-/// greatest of the value plus [`meta_base::MAX_NUMBER`].
+/// greatest of the value plus [`meta_base::MAX_NUMBER`]. It is refused for want of memory alone.
 pub fn apply(
     alloc: Global,
     alg: &Alg,
@@ -36,7 +36,8 @@ pub fn apply(
     image(alloc, alg.tree(), label, value)
 }
 
-// What the label makes of the value in the tree's algebra.
+// What the label makes of the value in the tree's algebra. The rule on ranges keeps numbers of sets
+// below 64, and that on carriers makes the value one of both sides of a `plus`.
 fn image(
     alloc: Global,
     tree: &Tree,

@@ -7,6 +7,7 @@ ghost use Rattle.alg_model.specs.Formation.{IsCarrier, HasNames};
 ghost use Rattle.alg_model.specs.Bounds.{AtMost};
 ghost use Rattle.alg_model.specs.Expressions.{named};
 
+use crate::copying::{copy_list, copy_texts};
 use crate::{Alg, Carrier, TableSpec, Tree, Value};
 use meta_base::{List, NoMemory, Text};
 use std::alloc::Global;
@@ -56,19 +57,10 @@ pub(crate) fn tree_carrier(alloc: Global, tree: &Tree) -> Result<Carrier, NoMemo
 fn table_carrier(alloc: Global, table: &TableSpec) -> Result<Carrier, NoMemory>
     ensures { IfOk result (λ c. pure_carrier c ≡ named table.now.names table.now.ranks) }
 {
-    let names = copy_texts(alloc, table.names.as_slice())?;
-    let ranks = Vec::from_slice(alloc, table.ranks.as_slice())?;
-    Ok(Carrier::Named(names, List::from_vec(ranks)))
-}
-
-fn copy_texts(alloc: Global, texts: &[Text]) -> Result<List<Text>, NoMemory>
-    ensures { IfOk result (λ copied. copied ≡ texts.now) }
-{
-    let mut copied = List::new(alloc);
-    for text in texts {
-        copied.push(Text::copy(alloc, text.as_str())?)?;
-    }
-    Ok(copied)
+    Ok(Carrier::Named(
+        copy_texts(alloc, &table.names)?,
+        copy_list(alloc, &table.ranks)?,
+    ))
 }
 
 impl Carrier {

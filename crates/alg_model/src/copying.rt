@@ -15,6 +15,7 @@ pub fn copy_list<T: Copy>(alloc: Global, list: &List<T>) -> Result<List<T>, NoMe
 
 impl Value {
     /// An equal value.
+    #[cycle(copy_value)]
     pub fn copy(&self, alloc: Global) -> Result<Value, NoMemory>
         ensures { IfOk result (λ copied. pure_value copied ≡ pure_value self.now) }
     {
@@ -25,17 +26,25 @@ impl Value {
             Value::Unit => Value::Unit,
             Value::Name(k) => Value::Name(*k),
             Value::Pair(u, v) => Value::Pair(
-                Box::new(alloc, u.copy(alloc)?)?,
-                Box::new(alloc, v.copy(alloc)?)?,
+                copy_boxed_value(alloc, u)?,
+                copy_boxed_value(alloc, v)?,
             ),
-            Value::First(u) => Value::First(Box::new(alloc, u.copy(alloc)?)?),
-            Value::Second(v) => Value::Second(Box::new(alloc, v.copy(alloc)?)?),
+            Value::First(u) => Value::First(copy_boxed_value(alloc, u)?),
+            Value::Second(v) => Value::Second(copy_boxed_value(alloc, v)?),
         })
     }
 }
 
+#[cycle(copy_value)]
+fn copy_boxed_value(alloc: Global, value: &Box<Value>) -> Result<Box<Value>, NoMemory>
+    ensures { IfOk result (λ copied. pure_value copied.value ≡ pure_value value.now.value) }
+{
+    Ok(Box::new(alloc, value.copy(alloc)?)?)
+}
+
 impl Label {
     /// An equal label.
+    #[cycle(copy_label)]
     pub fn copy(&self, alloc: Global) -> Result<Label, NoMemory>
         ensures { IfOk result (λ copied. pure_label copied ≡ pure_label self.now) }
     {
@@ -51,24 +60,31 @@ impl Label {
             Label::Deny => Label::Deny,
             Label::Row(r) => Label::Row(*r),
             Label::Pair(l, m) => Label::Pair(
-                Box::new(alloc, l.copy(alloc)?)?,
-                Box::new(alloc, m.copy(alloc)?)?,
+                copy_boxed_label(alloc, l)?,
+                copy_boxed_label(alloc, m)?,
             ),
             Label::Both(l, m) => Label::Both(
-                Box::new(alloc, l.copy(alloc)?)?,
-                Box::new(alloc, m.copy(alloc)?)?,
+                copy_boxed_label(alloc, l)?,
+                copy_boxed_label(alloc, m)?,
             ),
-            Label::First(l) => Label::First(Box::new(alloc, l.copy(alloc)?)?),
-            Label::Second(m) => Label::Second(Box::new(alloc, m.copy(alloc)?)?),
+            Label::First(l) => Label::First(copy_boxed_label(alloc, l)?),
+            Label::Second(m) => Label::Second(copy_boxed_label(alloc, m)?),
             Label::Const(v) => Label::Const(v.copy(alloc)?),
-            Label::Outer(l, v) => { Label::Outer(Box::new(alloc, l.copy(alloc)?)?, v.copy(alloc)?) }
-            Label::Inner(m) => Label::Inner(Box::new(alloc, m.copy(alloc)?)?),
+            Label::Outer(l, v) => { Label::Outer(copy_boxed_label(alloc, l)?, v.copy(alloc)?) }
+            Label::Inner(m) => Label::Inner(copy_boxed_label(alloc, m)?),
         })
     }
 }
 
+#[cycle(copy_label)]
+fn copy_boxed_label(alloc: Global, label: &Box<Label>) -> Result<Box<Label>, NoMemory>
+    ensures { IfOk result (λ copied. pure_label copied.value ≡ pure_label label.now.value) }
+{
+    Ok(Box::new(alloc, label.copy(alloc)?)?)
+}
+
 // Equal texts.
-fn copy_texts(alloc: Global, texts: &List<Text>) -> Result<List<Text>, NoMemory>
+pub fn copy_texts(alloc: Global, texts: &List<Text>) -> Result<List<Text>, NoMemory>
     ensures { IfOk result (λ copied. copied ≡ texts.now) }
 {
     let mut copied = List::new(alloc);
@@ -115,32 +131,24 @@ impl TableSpec {
 
 impl Tree {
     /// An equal tree.
+    #[cycle(copy_tree)]
     pub fn copy(&self, alloc: Global) -> Result<Tree, NoMemory>
         ensures { IfOk result (λ copied. expression_of copied ≡ expression_of self.now) }
     {
         Ok(match self {
-            Tree::Lex(a, b) => Tree::Lex(
-                Box::new(alloc, a.copy(alloc)?)?,
-                Box::new(alloc, b.copy(alloc)?)?,
-            ),
+            Tree::Lex(a, b) => Tree::Lex(copy_boxed_tree(alloc, a)?, copy_boxed_tree(alloc, b)?),
             Tree::Scoped(a, b) => Tree::Scoped(
-                Box::new(alloc, a.copy(alloc)?)?,
-                Box::new(alloc, b.copy(alloc)?)?,
+                copy_boxed_tree(alloc, a)?,
+                copy_boxed_tree(alloc, b)?,
             ),
             Tree::Union(a, b) => Tree::Union(
-                Box::new(alloc, a.copy(alloc)?)?,
-                Box::new(alloc, b.copy(alloc)?)?,
+                copy_boxed_tree(alloc, a)?,
+                copy_boxed_tree(alloc, b)?,
             ),
-            Tree::Sum(a, b) => Tree::Sum(
-                Box::new(alloc, a.copy(alloc)?)?,
-                Box::new(alloc, b.copy(alloc)?)?,
-            ),
-            Tree::Plus(a, b) => Tree::Plus(
-                Box::new(alloc, a.copy(alloc)?)?,
-                Box::new(alloc, b.copy(alloc)?)?,
-            ),
-            Tree::Left(a) => Tree::Left(Box::new(alloc, a.copy(alloc)?)?),
-            Tree::Right(a) => Tree::Right(Box::new(alloc, a.copy(alloc)?)?),
+            Tree::Sum(a, b) => Tree::Sum(copy_boxed_tree(alloc, a)?, copy_boxed_tree(alloc, b)?),
+            Tree::Plus(a, b) => Tree::Plus(copy_boxed_tree(alloc, a)?, copy_boxed_tree(alloc, b)?),
+            Tree::Left(a) => Tree::Left(copy_boxed_tree(alloc, a)?),
+            Tree::Right(a) => Tree::Right(copy_boxed_tree(alloc, a)?),
             Tree::Table(table) => Tree::Table(table.copy(alloc)?),
             Tree::Add { low, high } => Tree::Add {
                 low: *low,
@@ -170,4 +178,11 @@ impl Tree {
             Tree::Gate => Tree::Gate,
         })
     }
+}
+
+#[cycle(copy_tree)]
+fn copy_boxed_tree(alloc: Global, tree: &Box<Tree>) -> Result<Box<Tree>, NoMemory>
+    ensures { IfOk result (λ copied. expression_of copied.value ≡ expression_of tree.now.value) }
+{
+    Ok(Box::new(alloc, tree.copy(alloc)?)?)
 }

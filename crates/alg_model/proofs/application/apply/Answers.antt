@@ -1,4 +1,4 @@
-use Rattle.std.proofs.Common.{ℕ, ◌≡◌, ◌+◌, IfSome, Some, None, Option, option_map, rules}
+use Rattle.std.proofs.Common.{◌≡◌, ◌+◌, IfSome, Some, None, Option, option_map, rules}
 use Rattle.std.proofs.lemmas.Result.{IfOk-weaker}
 use Rattle.meta_base.specs.declared.limits.TheConstants.{MAX_NUMBER}
 use Rattle.alg_model.specs.declared.tree.Value.{Value}
