@@ -10,3 +10,4 @@ pub mod Steps
 pub mod Listeners
 pub mod Fixing
 pub mod Rows
+pub mod Origins

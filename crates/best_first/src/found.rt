@@ -6,6 +6,7 @@ ghost use Rattle.alg_model.specs.Carriers.{carrier_of};
 ghost use Rattle.alg_model.specs.Application.{App, IsLabel};
 ghost use Rattle.alg_model.specs.Bounds.{AtMost, LabelAtMost};
 ghost use Rattle.alg_model.specs.Views.{pure_label};
+ghost use Rattle.net_graph.specs.Nets.{IsNet};
 ghost use Rattle.best_first.specs.Found.{numbers, route_of, routes_of, found_at, AreSigs, IsBestOf, better_of, own_offer as own_offer_of};
 
 use crate::offer::{Offer, is_better};
@@ -30,6 +31,7 @@ fn own_offer<A: Algebra>(
     node: NodeId,
 ) -> Result<Option<Offer<A::Sig>>, NoMemory>
     requires algebra { A.expression algebra.now ≡ net.now.alg }
+    requires net { IsNet net.now }
     requires dest { dest.0 < length net.now.dests }
     ensures sig { IfOk result (λ offer. IfSome offer (λ o. A.is_sig algebra.now o.value)) }
     ensures offer { IfOk result (λ offer. option_map (route_of (A.sig_value algebra.now)) offer ≡ own_offer_of net.now dest.0 node.0) }

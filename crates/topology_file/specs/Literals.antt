@@ -19,10 +19,10 @@ number_of_words (word ∷ other ∷ words) = None
 abbrev pub number_in : List ℕ → Option ℕ
 number_in literal = number_of_words (words_of literal)
 
--- the label of that number, if the algebra has it
+-- the label of that number, if the algebra has it; only additive algebras have literals yet
 abbrev pub label_for : Expression → Option ℕ → Option PureLabel
 label_for (add low high) (Some n) = if nat_le low n && nat_le n high then Some (number_label n) else None
-label_for (add low high) None = None
+label_for _ _ = None
 
 -- the label that a text spells
 abbrev pub label_of : Expression → List ℕ → Option PureLabel
@@ -31,6 +31,7 @@ label_of alg literal = label_for alg (number_in literal)
 -- the value of that number: each number is in the carrier
 abbrev pub value_for : Expression → Option ℕ → Option PureValue
 value_for (add low high) n = option_map number n
+value_for _ n = None
 
 -- the value that a text spells
 abbrev pub value_spelled : Expression → List ℕ → Option PureValue

@@ -59,6 +59,7 @@ pub fn label_in(alg: &Alg, literal: &[u8]) -> Option<Label>
                 None
             }
         }
+        _ => None,
     }
 }
 
@@ -71,5 +72,6 @@ pub fn value_in(alg: &Alg, literal: &[u8]) -> Option<Value>
     let number = number_in(literal);
     match alg.tree() {
         Tree::Add { .. } => Some(Value::Number(number?)),
+        _ => None,
     }
 }
