@@ -7,7 +7,8 @@ use Rattle.net_graph.specs.Tables.{PureRow}
 use Rattle.net_graph.specs.Views.{pure_row}
 use Rattle.topology_file.specs.NetText.{NetText, IsNetFault, HasOneOutcome}
 use Rattle.alg_model.specs.Expressions.{Expression}
-use Rattle.raml_syntax.specs.ExprText.{ExprText, IsExprFault}
+use Rattle.raml_syntax.specs.declared.expression.ExprFault.{ExprFault}
+use Rattle.metacli.specs.Served.{ServedText, ServedFault}
 use Rattle.metacli.specs.Reading.{Holds, HasNoAlgebra, IsExpressionAs, HasNoNetwork, IsNetworkAs}
 use Rattle.metacli.specs.Outcome.{IsCheckedAs, IsCheckedBy, IsChecked, IsRoutedAs, IsRoutedTo, IsRoutedAfter, EndedBy, word_at}
 use Rattle.metacli.specs.Complete.{IsTold, IsCheckComplete, IsRouteComplete, CompleteBy}
@@ -25,6 +26,13 @@ told m name bytes P h t =
     let e : h.0 ≡ bytes = cc (h.2 t.tells) in
     subst P e h.1
 
+-- the laws of texts
+pub record Laws : Type 0 where
+  pub algebra : (text : List ℕ) (a b : Expression) → ServedText text a → ServedText text b → a ≡ b
+  pub fault : (text : List ℕ) (f g : ExprFault) → ServedFault text f → ServedFault text g → f ≡ g
+  pub apart : (text : List ℕ) (a : Expression) (f : ExprFault) → ServedText text a → ¬ ServedFault text f
+  pub network : (text : List ℕ) (a : Expression) → HasOneOutcome text a
+
 done_or_memory : (a : Expression) (e : Ended) (d : Answer) → IsCheckedAs a e d → (d ≡ Done) ⊎ (d ≡ NoMemory)
 done_or_memory a e Done h = inl refl
 done_or_memory a e NoMemory h = inr refl
@@ -35,29 +43,29 @@ done_or_memory a e (ReadFault w) h = absurd h
 done_or_memory a e WriteFault h = absurd h
 done_or_memory a e (TooLong w) h = absurd h
 
-check_complete : (name bytes : List ℕ) (old new : Moment) (e : Ended) (r : Result Expression Answer)
+check_complete : Laws → (name bytes : List ℕ) (old new : Moment) (e : Ended) (r : Result Expression Answer)
     → IsExpressionAs name old r new → IsCheckedBy e r → IsTold old name bytes → ¬ HasRisen old.faults new.faults → IsCheckComplete bytes e
-check_complete name bytes old new e (Ok a) h ends t lacks = record {
+check_complete laws name bytes old new e (Ok a) h ends t lacks = record {
   good = λ b x. done_or_memory a e e.decided ends.1;
-  bad = λ f x. absurd (x.refused a (told old name bytes (λ b. ExprText b a) h.1 t));
+  bad = λ f x. absurd (laws.apart bytes a f (told old name bytes (λ b. ServedText b a) h.1 t) x);
 }
-check_complete name bytes old new e (Err (BadExpr g)) h ends t lacks =
-    let x = told old name bytes (λ b. IsExprFault b g) h.1 t in record {
-      good = λ a y. absurd (x.refused a y);
-      bad = λ f y. inl (ends.2 ∙ ap BadExpr (x.fault ∙ sym y.fault));
+check_complete laws name bytes old new e (Err (BadExpr g)) h ends t lacks =
+    let x = told old name bytes (λ b. ServedFault b g) h.1 t in record {
+      good = λ a y. absurd (laws.apart bytes a g y x);
+      bad = λ f y. inl (ends.2 ∙ ap BadExpr (laws.fault bytes g f x y));
     }
-check_complete name bytes old new e (Err (ReadFault w)) h ends t lacks =
+check_complete laws name bytes old new e (Err (ReadFault w)) h ends t lacks =
     absurd (⊎_elim lacks (λ absent. let n = absent.1 in let f = t.file in cc) h.1)
-check_complete name bytes old new e (Err (TooLong w)) h ends t lacks =
+check_complete laws name bytes old new e (Err (TooLong w)) h ends t lacks =
     let x = h.2 t.tells in
     let f = t.file in
     let same : x.0 ≡ bytes = cc x.1 in
     absurd (omega (arith, x.2, ap length same, t.short))
-check_complete name bytes old new e (Err NoMemory) h ends t lacks = record { good = λ a x. inr ends.2; bad = λ f x. inr ends.2 }
-check_complete name bytes old new e (Err (BadNet f)) h ends t lacks = absurd h
-check_complete name bytes old new e (Err Done) h ends t lacks = absurd h
-check_complete name bytes old new e (Err (BadWords f)) h ends t lacks = absurd h
-check_complete name bytes old new e (Err WriteFault) h ends t lacks = absurd h
+check_complete laws name bytes old new e (Err NoMemory) h ends t lacks = record { good = λ a x. inr ends.2; bad = λ f x. inr ends.2 }
+check_complete laws name bytes old new e (Err (BadNet f)) h ends t lacks = absurd h
+check_complete laws name bytes old new e (Err Done) h ends t lacks = absurd h
+check_complete laws name bytes old new e (Err (BadWords f)) h ends t lacks = absurd h
+check_complete laws name bytes old new e (Err WriteFault) h ends t lacks = absurd h
 
 -- where nothing rose before, nothing rose in all
 risen_later : (a b c : ℕ) → a ≤ b → HasRisen b c → HasRisen a c
@@ -77,41 +85,36 @@ routed_or_memory net rows (ReadFault w) h = absurd h
 routed_or_memory net rows WriteFault h = absurd h
 routed_or_memory net rows (TooLong w) h = absurd h
 
--- the laws of texts
-pub record Laws : Type 0 where
-  pub algebra : (text : List ℕ) (a b : Expression) → ExprText text a → ExprText text b → a ≡ b
-  pub network : (text : List ℕ) (a : Expression) → HasOneOutcome text a
-
 -- without an algebra
-unread_complete : (bytes net_bytes name : List ℕ) (old new : Moment) (e : Ended) (answer : Answer) → HasNoAlgebra name old new answer → e.decided ≡ answer
+unread_complete : Laws → (bytes net_bytes name : List ℕ) (old new : Moment) (e : Ended) (answer : Answer) → HasNoAlgebra name old new answer → e.decided ≡ answer
     → IsTold old name bytes → ¬ HasRisen old.faults new.faults → IsRouteComplete bytes net_bytes e
-unread_complete bytes net_bytes name old new e (BadExpr g) h q t lacks =
-    let x = told old name bytes (λ b. IsExprFault b g) h.1 t in record {
-      good = λ a n y z. absurd (x.refused a y);
-      bad_net = λ a f y z. absurd (x.refused a y);
-      bad = λ f y. inl (q ∙ ap BadExpr (x.fault ∙ sym y.fault));
+unread_complete laws bytes net_bytes name old new e (BadExpr g) h q t lacks =
+    let x = told old name bytes (λ b. ServedFault b g) h.1 t in record {
+      good = λ a n y z. absurd (laws.apart bytes a g y x);
+      bad_net = λ a f y z. absurd (laws.apart bytes a g y x);
+      bad = λ f y. inl (q ∙ ap BadExpr (laws.fault bytes g f x y));
     }
-unread_complete bytes net_bytes name old new e (ReadFault w) h q t lacks =
+unread_complete laws bytes net_bytes name old new e (ReadFault w) h q t lacks =
     absurd (⊎_elim lacks (λ absent. let n = absent.1 in let f = t.file in cc) h.1)
-unread_complete bytes net_bytes name old new e (TooLong w) h q t lacks =
+unread_complete laws bytes net_bytes name old new e (TooLong w) h q t lacks =
     let x = h.2 t.tells in
     let f = t.file in
     let same : x.0 ≡ bytes = cc x.1 in
     absurd (omega (arith, x.2, ap length same, t.short))
-unread_complete bytes net_bytes name old new e NoMemory h q t lacks = record { good = λ a n y z. inr q; bad_net = λ a f y z. inr q; bad = λ f y. inr q }
-unread_complete bytes net_bytes name old new e (BadNet f) h q t lacks = absurd h
-unread_complete bytes net_bytes name old new e Done h q t lacks = absurd h
-unread_complete bytes net_bytes name old new e (BadWords f) h q t lacks = absurd h
-unread_complete bytes net_bytes name old new e WriteFault h q t lacks = absurd h
+unread_complete laws bytes net_bytes name old new e NoMemory h q t lacks = record { good = λ a n y z. inr q; bad_net = λ a f y z. inr q; bad = λ f y. inr q }
+unread_complete laws bytes net_bytes name old new e (BadNet f) h q t lacks = absurd h
+unread_complete laws bytes net_bytes name old new e Done h q t lacks = absurd h
+unread_complete laws bytes net_bytes name old new e (BadWords f) h q t lacks = absurd h
+unread_complete laws bytes net_bytes name old new e WriteFault h q t lacks = absurd h
 
 -- with an algebra, which the expression file means, and without a network
-unlinked_complete : Laws → (bytes net_bytes name : List ℕ) (a : Expression) (old new : Moment) (e : Ended) (answer : Answer) → ExprText bytes a
+unlinked_complete : Laws → (bytes net_bytes name : List ℕ) (a : Expression) (old new : Moment) (e : Ended) (answer : Answer) → ServedText bytes a
     → HasNoNetwork a name old new answer → e.decided ≡ answer → IsTold old name net_bytes → ¬ HasRisen old.faults new.faults → IsRouteComplete bytes net_bytes e
 unlinked_complete laws bytes net_bytes name a old new e (BadNet g) m h q t lacks =
     let x = told old name net_bytes (λ b. IsNetFault b a g) h.1 t in record {
       good = λ b n y z. absurd ((laws.network net_bytes a).not_both n g (subst (λ c. NetText net_bytes c n) (laws.algebra bytes b a y m) z) x);
       bad_net = λ b f y z. inl (q ∙ ap BadNet ((laws.network net_bytes a).one_fault g f x (subst (λ c. IsNetFault net_bytes c f) (laws.algebra bytes b a y m) z)));
-      bad = λ f y. absurd (y.refused a m);
+      bad = λ f y. absurd (laws.apart bytes a f m y);
     }
 unlinked_complete laws bytes net_bytes name a old new e (ReadFault w) m h q t lacks =
     absurd (⊎_elim lacks (λ absent. let n = absent.1 in let f = t.file in cc) h.1)
@@ -127,7 +130,7 @@ unlinked_complete laws bytes net_bytes name a old new e Done m h q t lacks = abs
 unlinked_complete laws bytes net_bytes name a old new e (BadWords f) m h q t lacks = absurd h
 unlinked_complete laws bytes net_bytes name a old new e WriteFault m h q t lacks = absurd h
 
-over_complete : Laws → (bytes net_bytes name : List ℕ) (a : Expression) (old new : Moment) (e : Ended) (r : Result PureNet Answer) → ExprText bytes a
+over_complete : Laws → (bytes net_bytes name : List ℕ) (a : Expression) (old new : Moment) (e : Ended) (r : Result PureNet Answer) → ServedText bytes a
     → IsNetworkAs a name old r new → IsRoutedTo r e.net (map pure_row e.rows) e.decided → IsTold old name net_bytes → ¬ HasRisen old.faults new.faults → IsRouteComplete bytes net_bytes e
 over_complete laws bytes net_bytes name a old new e (Ok net) m h ends t lacks =
     let d = routed_or_memory net (map pure_row e.rows) e.decided ends.1 in record {
@@ -135,7 +138,7 @@ over_complete laws bytes net_bytes name a old new e (Ok net) m h ends t lacks =
       bad_net = λ b f y z.
           let x = told old name net_bytes (λ b. NetText b a net) h.1 t in
           absurd ((laws.network net_bytes a).not_both net f x (subst (λ c. IsNetFault net_bytes c f) (laws.algebra bytes b a y m) z));
-      bad = λ f y. absurd (y.refused a m);
+      bad = λ f y. absurd (laws.apart bytes a f m y);
     }
 over_complete laws bytes net_bytes name a old new e (Err answer) m h ends t lacks =
     unlinked_complete laws bytes net_bytes name a old new e answer m h ends.2 t lacks
@@ -143,15 +146,15 @@ over_complete laws bytes net_bytes name a old new e (Err answer) m h ends t lack
 route_complete : Laws → (bytes net_bytes file net : List ℕ) (old between new : Moment) (e : Ended) (r : Result Expression Answer) → Keeps old between
     → IsExpressionAs file old r between → IsRoutedAfter net between new e r → IsTold old file bytes → IsTold old net net_bytes → ¬ HasRisen old.faults new.faults → IsRouteComplete bytes net_bytes e
 route_complete laws bytes net_bytes file net old between new e (Ok a) k h ends t u lacks =
-    over_complete laws bytes net_bytes net a between new e ends.1.network (told old file bytes (λ b. ExprText b a) h.1 t)
+    over_complete laws bytes net_bytes net a between new e ends.1.network (told old file bytes (λ b. ServedText b a) h.1 t)
     ends.1.reads.read ends.1.ends (told_later old between net net_bytes k u) (λ r. lacks (risen_later old.faults between.faults new.faults k.faults r))
 route_complete laws bytes net_bytes file net old between new e (Err answer) k h ends t u lacks =
-    unread_complete bytes net_bytes file old between e answer h ends.4 t (subst (λ (m : Moment). ¬ HasRisen old.faults m.faults) ends.0 lacks)
+    unread_complete laws bytes net_bytes file old between e answer h ends.4 t (subst (λ (m : Moment). ¬ HasRisen old.faults m.faults) ends.0 lacks)
 
 pub complete : Laws → (words : List (List ℕ)) (old new : Moment) (e : Ended) (r : Result Command WordsFault)
     → EndedBy words old new e r → CompleteBy words old new e r
 complete laws words old new e (Ok (Check file net)) h =
-    λ bytes t lacks. check_complete (word_at words file) bytes old new e h.1.expression h.1.reads.read h.1.ends t lacks
+    λ bytes t lacks. check_complete laws (word_at words file) bytes old new e h.1.expression h.1.reads.read h.1.ends t lacks
 complete laws words old new e (Ok (Route file net workers)) h =
     λ bytes net_bytes t u lacks. route_complete laws bytes net_bytes (word_at words file) (word_at words net) old h.1.between new e
     h.1.expression h.1.reads.keeps h.1.reads.read h.1.ends t u lacks

@@ -4,6 +4,7 @@ use Rattle.std.specs.List.{AllByRecursion}
 use Rattle.alg_model.specs.Expressions.{Expression, add, PureLabel}
 use Rattle.alg_model.specs.Application.{IsLabel}
 use Rattle.alg_model.specs.Properties.{PureProperty, monotone, isotone, Has}
+use Rattle.raml_syntax.specs.Plain.{IsPlainAdd}
 use Rattle.net_graph.specs.Nets.{PureArc, PureNet, IsNet, IsArcOf}
 use Rattle.net_graph.specs.Tables.{PureRow, NetHas, BestFirst, Optimal}
 use Rattle.net_graph.specs.RowTexts.{IsRowOf}
@@ -16,17 +17,19 @@ on_arcs : (p : PureProperty) (a : Expression) (nodes : ℕ) → ((l : PureLabel)
 on_arcs p a nodes all [] h = tt
 on_arcs p a nodes all (x ∷ arcs) h = (all x.label h.0.label_in, on_arcs p a nodes all arcs h.1)
 
-all_monotone : (a : Expression) (l : PureLabel) → IsLabel a l → Has monotone a l
-all_monotone (add low high) = add_monotone low high
+all_monotone : (a : Expression) → IsPlainAdd a → (l : PureLabel) → IsLabel a l → Has monotone a l
+all_monotone (add low high) p = add_monotone low high
+all_monotone _ p = absurd p
 
-all_isotone : (a : Expression) (l : PureLabel) → IsLabel a l → Has isotone a l
-all_isotone (add low high) = add_isotone low high
+all_isotone : (a : Expression) → IsPlainAdd a → (l : PureLabel) → IsLabel a l → Has isotone a l
+all_isotone (add low high) p = add_isotone low high
+all_isotone _ p = absurd p
 
-pub net_monotone : (net : PureNet) → IsNet net → NetHas monotone net
-net_monotone net n = on_arcs monotone net.alg (length net.nodes) (all_monotone net.alg) net.arcs n.arcs_in
+pub net_monotone : (net : PureNet) → IsPlainAdd net.alg → IsNet net → NetHas monotone net
+net_monotone net p n = on_arcs monotone net.alg (length net.nodes) (all_monotone net.alg p) net.arcs n.arcs_in
 
-pub net_isotone : (net : PureNet) → IsNet net → NetHas isotone net
-net_isotone net n = on_arcs isotone net.alg (length net.nodes) (all_isotone net.alg) net.arcs n.arcs_in
+pub net_isotone : (net : PureNet) → IsPlainAdd net.alg → IsNet net → NetHas isotone net
+net_isotone net p n = on_arcs isotone net.alg (length net.nodes) (all_isotone net.alg p) net.arcs n.arcs_in
 
 -- the rows are those of the first so many destinations
 pub record AreFound (net : PureNet) (count : ℕ) (rows : List PureRow) : Type 0 where

@@ -5,3 +5,5 @@ pub mod Found
 pub mod Names
 pub mod Printable
 pub mod Written
+pub mod Servings
+pub mod Checked

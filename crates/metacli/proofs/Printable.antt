@@ -1,19 +1,18 @@
 -- Verdicts that are exact and have small numbers can be printed.
 use Rattle.std.proofs.Common.{ℕ, ◌≤◌, ◌^◌, Option, Some, None, arith, lit≤}
-use Rattle.alg_model.specs.Expressions.{Expression, PureValue, number, PureLabel}
+use Rattle.alg_model.specs.Expressions.{Expression, PureValue, PureLabel}
 use Rattle.alg_model.specs.Bounds.{AtMost}
+use Rattle.alg_model.specs.Laws.{at_most_more}
 use Rattle.alg_model.specs.Properties as properties
 use Rattle.alg_model.specs.Properties.{PureProperty}
 use Rattle.alg_model.specs.Verdicts.{PureVerdict, holds, fails, PureVerdicts, IsExact, ExactFor}
 use Rattle.alg_model.specs.Instances.{SecondAtMost, VerdictAtMost, VerdictsAtMost}
+use Rattle.raml_syntax.specs.Plain.{IsPlainAdd}
 use Rattle.metacli.specs.Texts.{CanPrintVerdict, CanPrintVerdicts}
-
-AtMost-le : (m n : ℕ) → m ≤ n → (v : PureValue) → AtMost m v → AtMost n v
-AtMost-le m n h (number k) b = omega arith
 
 SecondAtMost-le : (m n : ℕ) → m ≤ n → (o : Option PureValue) → SecondAtMost m o → SecondAtMost n o
 SecondAtMost-le m n h None b = tt
-SecondAtMost-le m n h (Some v) b = AtMost-le m n h v b
+SecondAtMost-le m n h (Some v) b = at_most_more m n v h b
 
 printable_verdict : (p : PureProperty) (a : Expression) (S : PureLabel → Type 0) (v : PureVerdict)
     → IsExact p a S v → VerdictAtMost (2 ^ 33) v → CanPrintVerdict a v
@@ -22,16 +21,16 @@ printable_verdict p a S (fails x) e b = record {
   is_of = e.2.is_of;
   bound = record {
     label = b.label;
-    first = AtMost-le (2 ^ 33) (2 ^ 62) (lit≤ tt) x.first b.first;
+    first = at_most_more (2 ^ 33) (2 ^ 62) x.first (lit≤ tt) b.first;
     second = SecondAtMost-le (2 ^ 33) (2 ^ 62) (lit≤ tt) x.second b.second;
   };
 }
 
-pub printable : (a : Expression) (S : PureLabel → Type 0) (v : PureVerdicts) → ExactFor a S v → VerdictsAtMost (2 ^ 33) v → CanPrintVerdicts a v
-printable a S v e b = record {
+pub printable : (a : Expression) (S : PureLabel → Type 0) (v : PureVerdicts) → IsPlainAdd a → ExactFor a S v → VerdictsAtMost (2 ^ 33) v → IsPlainAdd a × CanPrintVerdicts a v
+printable a S v p e b = (p, record {
   monotone = printable_verdict properties.monotone a S v.monotone e.monotone b.monotone;
   strict = printable_verdict properties.strict a S v.strict e.strict b.strict;
   isotone = printable_verdict properties.isotone a S v.isotone e.isotone b.isotone;
   cancellative = printable_verdict properties.cancellative a S v.cancellative e.cancellative b.cancellative;
   total = printable_verdict properties.total a S v.total e.total b.total;
-}
+})

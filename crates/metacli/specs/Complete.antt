@@ -5,11 +5,11 @@ use Rattle.meta_base.specs.Count.{HasRisen}
 use Rattle.meta_base.specs.Shelf.{Moment}
 use Rattle.meta_base.specs.declared.limits.TheConstants.{MAX_FILE_BYTES}
 use Rattle.alg_model.specs.Expressions.{Expression}
-use Rattle.raml_syntax.specs.ExprText.{ExprText, IsExprFault}
 use Rattle.raml_syntax.specs.declared.expression.ExprFault.{ExprFault}
 use Rattle.net_graph.specs.Nets.{PureNet}
 use Rattle.topology_file.specs.NetText.{NetText, IsNetFault}
 use Rattle.topology_file.specs.declared.faults.NetFault.{NetFault}
+use Rattle.metacli.specs.Served.{ServedText, ServedFault}
 use Rattle.metacli.specs.Words.{Words}
 use Rattle.metacli.specs.Outcome.{word_at}
 use Rattle.metacli.specs.declared.words.Command.{Command}
@@ -29,16 +29,17 @@ pub record IsTold (m : Moment) (name bytes : List ℕ) : Type 0 where
   pub file : m.file name ≡ Some bytes
   pub short : length bytes ≤ MAX_FILE_BYTES
 
--- an expression file that is no algebra's text is refused with its fault, and another is checked
+-- an expression file that means no algebra, or one that isn't served, is refused with its fault, and
+-- another is checked
 pub record IsCheckComplete (bytes : List ℕ) (e : Ended) : Type 0 where
-  pub good : (a : Expression) → ExprText bytes a → IsUnlessMemory e Done
-  pub bad : (f : ExprFault) → IsExprFault bytes f → IsUnlessMemory e (BadExpr f)
+  pub good : (a : Expression) → ServedText bytes a → IsUnlessMemory e Done
+  pub bad : (f : ExprFault) → ServedFault bytes f → IsUnlessMemory e (BadExpr f)
 
 -- the same of two files, of which the expression file is judged first
 pub record IsRouteComplete (bytes net_bytes : List ℕ) (e : Ended) : Type 0 where
-  pub good : (a : Expression) (net : PureNet) → ExprText bytes a → NetText net_bytes a net → IsUnlessMemory e Done
-  pub bad_net : (a : Expression) (f : NetFault) → ExprText bytes a → IsNetFault net_bytes a f → IsUnlessMemory e (BadNet f)
-  pub bad : (f : ExprFault) → IsExprFault bytes f → IsUnlessMemory e (BadExpr f)
+  pub good : (a : Expression) (net : PureNet) → ServedText bytes a → NetText net_bytes a net → IsUnlessMemory e Done
+  pub bad_net : (a : Expression) (f : NetFault) → ServedText bytes a → IsNetFault net_bytes a f → IsUnlessMemory e (BadNet f)
+  pub bad : (f : ExprFault) → ServedFault bytes f → IsUnlessMemory e (BadExpr f)
 
 abbrev pub CompleteBy : List (List ℕ) → Moment → Moment → Ended → Result Command WordsFault → Type 0
 CompleteBy words old new e (Ok (Check file net)) = (bytes : List ℕ) → IsTold old (word_at words file) bytes → ¬ HasRisen old.faults new.faults → IsCheckComplete bytes e

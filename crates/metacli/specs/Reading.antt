@@ -6,9 +6,9 @@ use Rattle.meta_base.specs.declared.ids.Which.{Which}
 use Rattle.meta_base.specs.declared.ids.Which.TheVariants.{Expr, Network}
 use Rattle.meta_base.specs.declared.limits.TheConstants.{MAX_FILE_BYTES}
 use Rattle.alg_model.specs.Expressions.{Expression}
-use Rattle.raml_syntax.specs.ExprText.{ExprText, IsExprFault}
 use Rattle.net_graph.specs.Nets.{PureNet}
 use Rattle.topology_file.specs.NetText.{NetText, IsNetFault}
+use Rattle.metacli.specs.Served.{ServedText, ServedFault}
 use Rattle.metacli.specs.declared.ended.Answer.{Answer}
 use Rattle.metacli.specs.declared.ended.Answer.TheVariants.{BadExpr, BadNet, ReadFault, NoMemory, TooLong}
 
@@ -37,11 +37,11 @@ pub record Takes (which : Which) (name : List ℕ) (old : Moment) (result : Resu
 
 -- why there is no algebra
 abbrev pub HasNoAlgebra : List ℕ → Moment → Moment → Answer → Type 0
-HasNoAlgebra name old new (BadExpr f) = (new.ended ≡ true) × Holds old name (λ bytes. IsExprFault bytes f)
+HasNoAlgebra name old new (BadExpr f) = (new.ended ≡ true) × Holds old name (λ bytes. ServedFault bytes f)
 HasNoAlgebra name old new answer = IsUntaken Expr name old new answer
 
 abbrev pub IsExpressionAs : List ℕ → Moment → Result Expression Answer → Moment → Type 0
-IsExpressionAs name old (Ok a) new = (new.ended ≡ true) × Holds old name (λ bytes. ExprText bytes a)
+IsExpressionAs name old (Ok a) new = (new.ended ≡ true) × Holds old name (λ bytes. ServedText bytes a)
 IsExpressionAs name old (Err answer) new = HasNoAlgebra name old new answer
 
 -- what reading the expression file does: the algebra that all of its bytes mean, or a cause

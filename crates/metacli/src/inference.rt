@@ -4,6 +4,7 @@ ghost use Rattle.alg_model.specs.Application.{IsLabel};
 ghost use Rattle.alg_model.specs.Properties.{strict};
 ghost use Rattle.alg_model.specs.Verdicts.{ExactFor, IsExact};
 ghost use Rattle.alg_model.specs.Instances.{VerdictsAtMost, VerdictAtMost};
+ghost use Rattle.raml_syntax.specs.Plain.{IsPlainAdd};
 ghost use Rattle.metacli.specs.Views.{pure_verdict, pure_verdicts};
 
 use crate::{Instance, Property, Verdict, Verdicts};
@@ -11,14 +12,16 @@ use alg_model::{Alg, Label, Tree, Value};
 use meta_base::NoMemory;
 use std::alloc::Global;
 
-/// The exact verdicts on an algebra: a property holds of all its labels, or an instance shows that
-/// one of them lacks it. No number of an instance is above 2^33.
+/// The exact verdicts on an additive algebra: a property holds of all its labels, or an instance shows
+/// that one of them lacks it. No number of an instance is above 2^33.
 pub fn verdicts(_alloc: Global, alg: &Alg) -> Result<Verdicts, NoMemory>
+    requires { IsPlainAdd alg.now }
     ensures exact { IfOk result (λ verdicts. ExactFor alg.now (IsLabel alg.now) (pure_verdicts verdicts)) }
     ensures bound { IfOk result (λ verdicts. VerdictsAtMost (2 ^ 33) (pure_verdicts verdicts)) }
 {
     match alg.tree() {
         Tree::Add { low, high } => Ok(additive_verdicts(*low, *high)),
+        _ => unreachable!(),
     }
 }
 

@@ -1,5 +1,6 @@
 ghost use Rattle.std.specs.Prelude.{IfOk, map};
 ghost use Rattle.std.specs.List.{AllByRecursion};
+ghost use Rattle.raml_syntax.specs.Plain.{IsPlainAdd};
 ghost use Rattle.net_graph.specs.Views.{pure_row};
 ghost use Rattle.net_graph.specs.RowTexts.{IsRowOf};
 ghost use Rattle.metacli.specs.Outcome.{AreRoutesOn};
@@ -14,6 +15,7 @@ use std::alloc::Global;
 // that is made best first, which no walk beats, since labels of an additive algebra are monotone and
 // isotone.
 pub fn all_routes(alloc: Global, net: &Net) -> Result<List<RouteRow>, NoMemory>
+    requires { IsPlainAdd net.now.alg }
     ensures routes { IfOk result (λ rows. AreRoutesOn net.now (map pure_row rows)) }
     ensures rows { IfOk result (λ rows. AllByRecursion (IsRowOf net.now) (map pure_row rows)) }
 {

@@ -1,5 +1,6 @@
 ghost use Rattle.std.specs.Prelude.{◌≡◌, ◌≢◌, ◌<◌, ◌≤◌, length, map, [], Some, None, IfOk};
 ghost use Rattle.std.specs.List.{AllByRecursion};
+ghost use Rattle.raml_syntax.specs.Plain.{IsPlainAdd};
 ghost use Rattle.net_graph.specs.Views.{pure_row};
 ghost use Rattle.net_graph.specs.RowTexts.{IsRowOf};
 ghost use Rattle.metacli.specs.declared.ended.Answer.TheVariants.{Done, WriteFault};
@@ -13,12 +14,16 @@ use crate::text::{put_lines, refusal_line, row_line, verdict_lines};
 use crate::{Answer, Command, Ended, read_words, verdicts};
 use alg_model::Alg;
 use meta_base::{
-    Failed, Gate, List, MAX_FILE_BYTES, NoMemory, Shelf, Sink, TakeError, Text, Which, take_all,
+    Failed, Gate, List, MAX_FILE_BYTES, NoMemory, Place, Shelf, Sink, TakeError, Text, Which,
+    take_all,
 };
 use net_graph::{Net, RouteRow};
-use raml_syntax::{AlgError, one_text_one_algebra, read_alg};
+use raml_syntax::{
+    AlgError, ExprFault, ExprKind, is_plain_add, no_text_of_both, one_text_one_algebra,
+    one_text_one_fault, read_alg,
+};
 use std::alloc::Global;
-use topology_file::{NetError, one_text_one_network, read_net};
+use topology_file::{NetError, networks_keep_their_algebra, one_text_one_network, read_net};
 
 /// All that the program does: it reads what the words mean, reads the files that they name, decides,
 /// and writes what was decided.
@@ -38,6 +43,8 @@ pub fn run_meta<R: AllocGlobal, S: Shelf, K: Sink, G: Gate>(
     ensures written { Written (K.holds out.old) (TextOf result) (K.holds out.new) result.decided result.answer }
 {
     one_text_one_algebra();
+    one_text_one_fault();
+    no_text_of_both();
     one_text_one_network();
     let mut ended = decide(rt.alloc(), words, shelf);
     ended.answer = print(rt.alloc(), out, &ended);
@@ -82,7 +89,6 @@ fn refused(alloc: Global, command: Option<Command>, answer: Answer) -> Ended
 }
 
 // What `check` comes to on the expression file of the name at `file`.
-#[tactic(auto, using(crate::proofs::Printable::printable))]
 fn check<S: Shelf>(
     alloc: Global,
     words: &[Text],
@@ -150,6 +156,7 @@ fn route<S: Shelf>(
 
 // The network with its routes, and what was decided.
 fn routed(alloc: Global, network: Result<Net, Answer>) -> (Option<Net>, List<RouteRow>, Answer)
+    requires { IfOk network (λ net. IsPlainAdd net.alg) }
     ensures routed { IsRoutedTo network result.0 (map pure_row result.1) result.2 }
     ensures printable { CanPrintTo network result.0 (map pure_row result.1) result.2 }
 {
@@ -162,13 +169,21 @@ fn routed(alloc: Global, network: Result<Net, Answer>) -> (Option<Net>, List<Rou
     }
 }
 
+// How an algebra is refused that isn't served yet.
+const UNSERVED: ExprFault = ExprFault {
+    kind: ExprKind::Unexpected,
+    place: Place { line: 1, column: 1 },
+};
+
 // The algebra of the expression file of that name, or why there is none.
 fn read_expression<S: Shelf>(alloc: Global, shelf: &mut S, name: &str) -> Result<Alg, Answer>
-    ensures { ReadsExpression name.now (S.now_is shelf.old) result (S.now_is shelf.new) }
+    ensures reads { ReadsExpression name.now (S.now_is shelf.old) result (S.now_is shelf.new) }
+    ensures plain { IfOk result IsPlainAdd }
 {
     let bytes = take_file(alloc, shelf, name, Which::Expr)?;
     match read_alg(alloc, bytes.as_slice()) {
-        Ok(alg) => Ok(alg),
+        Ok(alg) if is_plain_add(&alg) => Ok(alg),
+        Ok(_) => Err(Answer::BadExpr(UNSERVED)),
         Err(AlgError::Bad(fault)) => Err(Answer::BadExpr(fault)),
         Err(AlgError::NoMemory) => Err(Answer::NoMemory),
     }
@@ -181,8 +196,10 @@ fn read_network<S: Shelf>(
     alg: &Alg,
     name: &str,
 ) -> Result<Net, Answer>
-    ensures { ReadsNetwork alg.now name.now (S.now_is shelf.old) result (S.now_is shelf.new) }
+    ensures reads { ReadsNetwork alg.now name.now (S.now_is shelf.old) result (S.now_is shelf.new) }
+    ensures alg { IfOk result (λ net. net.alg ≡ alg.now) }
 {
+    networks_keep_their_algebra();
     let bytes = take_file(alloc, shelf, name, Which::Network)?;
     let Ok(alg) = alg.copy_part(alloc, alg.tree()) else {
         return Err(Answer::NoMemory);
@@ -248,7 +265,8 @@ fn print_done<K: Sink>(alloc: Global, out: &mut K, ended: &Ended) -> Answer
 
 // Writes the lines of the rows, one after another, and answers how that went.
 fn write_rows<K: Sink>(alloc: Global, out: &mut K, net: &Net, rows: &[RouteRow]) -> Answer
-    requires { AllByRecursion (IsRowOf net.now) (map pure_row rows.now) }
+    requires plain { IsPlainAdd net.now.alg }
+    requires rows { AllByRecursion (IsRowOf net.now) (map pure_row rows.now) }
     ensures { Written (K.holds out.old) (rows_text net.now (map pure_row rows.now)) (K.holds out.new) Done result }
 {
     for row in rows {

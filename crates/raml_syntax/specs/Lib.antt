@@ -3,3 +3,4 @@ pub mod Tokens
 pub mod Views
 pub mod Faults
 pub mod ExprText
+pub mod Plain

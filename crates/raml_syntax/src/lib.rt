@@ -5,7 +5,9 @@
 mod bytes;
 mod expression;
 mod laws;
+mod plain;
 mod tokens;
 
 pub use expression::{AlgError, ExprFault, ExprKind, read_alg};
-pub use laws::one_text_one_algebra;
+pub use laws::{no_text_of_both, one_text_one_algebra, one_text_one_fault};
+pub use plain::is_plain_add;

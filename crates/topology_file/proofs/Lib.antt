@@ -3,3 +3,4 @@ pub mod Numbers
 pub mod Runs
 pub mod Networks
 pub mod Outcomes
+pub mod Kept

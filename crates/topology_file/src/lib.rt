@@ -11,7 +11,7 @@ mod network;
 mod texts;
 
 pub use faults::{NetError, NetFault, NetKind, What};
-pub use laws::one_text_one_network;
+pub use laws::{networks_keep_their_algebra, one_text_one_network};
 pub use network::read_net;
 
 #[cfg(test)]

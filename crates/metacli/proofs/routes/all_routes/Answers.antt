@@ -12,6 +12,6 @@ loop-dest-preserved c =
     let is_net = c.dest_count-dest-end.ensures.net in
     let within : dest < length net.dests = omega (arith, c.loop-dest-test.true, c.dest_count-dest-end.ensures.count) in
     let best = c.in_ok-table.ensures.rows in
-    let optimal = c.best_first_is_optimal.ensures net dest table is_net (net_monotone net is_net) (net_isotone net is_net) best in
+    let optimal = c.best_first_is_optimal.ensures net dest table is_net (net_monotone net c.requires is_net) (net_isotone net c.requires is_net) best in
     rw (c.in_ok-append.ensures.items, c.into_vec-found.ensures, map-append)
     (found_more net dest _ table c.loop-dest.invariant best optimal (c.optimal_rows_are_the_networks.ensures net dest table is_net within optimal))

@@ -1,0 +1,23 @@
+-- The expression files that the commands serve: those of one additive algebra.
+use Rattle.std.specs.Prelude.{◌≡◌, ◌⊎◌, ℕ, List}
+use Rattle.alg_model.specs.Expressions.{Expression}
+use Rattle.raml_syntax.specs.declared.expression.ExprFault.{ExprFault}
+use Rattle.raml_syntax.specs.declared.expression.ExprKind.TheVariants.{Unexpected}
+use Rattle.raml_syntax.specs.ExprText.{ExprText, IsExprFault}
+use Rattle.raml_syntax.specs.Plain.{IsPlainAdd}
+
+-- the text means the algebra, which is served
+pub record ServedText (text : List ℕ) (a : Expression) : Type 0 where
+  pub means : ExprText text a
+  pub plain : IsPlainAdd a
+
+-- the text means an algebra that isn't served yet, which is refused at its first byte
+pub record IsUnserved (text : List ℕ) (f : ExprFault) : Type 0 where
+  pub algebra : Expression
+  pub means : ExprText text algebra
+  pub other : ¬ IsPlainAdd algebra
+  pub fault : f ≡ record { kind = Unexpected; place = record { line = 1; column = 1 } }
+
+-- the text has the fault, or means an algebra that isn't served yet
+abbrev pub ServedFault : List ℕ → ExprFault → Type 0
+ServedFault text f = IsExprFault text f ⊎ IsUnserved text f

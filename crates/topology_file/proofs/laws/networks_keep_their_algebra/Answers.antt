@@ -1,0 +1,5 @@
+use Rattle.topology_file.proofs.Kept.{kept}
+use Rattle.topology_file.proofs.laws.networks_keep_their_algebra.Goals as goal
+
+pub returns : goal.returns
+returns c = kept
