@@ -368,3 +368,26 @@ fn orders_parts(rt: HostRuntime) -> Result<(), Fail> {
     assert_eq!(rt; by_side, Ordering::Less);
     Ok(())
 }
+
+// Some value of the algebra's carrier.
+fn some_value(alloc: Global, alg: &Alg) -> Result<Value, NoMemory> {
+    let _tree = alg.tree();
+    carrier_of(alloc, alg)?.member(alloc)
+}
+
+#[test]
+fn tells_carriers_and_members(rt: HostRuntime) -> Result<(), Fail> {
+    let cap = Alg::checked(Tree::Cap {
+        top: 5,
+        low: 1,
+        high: 1,
+    })?;
+    let gate = Alg::checked(Tree::Gate)?;
+    assert!(rt; matches!(carrier_of(rt.alloc(), &cap)?, Carrier::UpTo(5)));
+    assert!(rt; matches!(some_value(rt.alloc(), &gate)?, Value::Unit));
+    assert!(rt; same_carrier(&cap, &Alg::checked(Tree::Orig { top: 5 })?));
+    assert!(rt; !same_carrier(&cap, &gate));
+    assert!(rt; label_in(&gate, &Label::Deny) && !label_in(&gate, &Label::Keep));
+    assert!(rt; value_in(&cap, &Value::Number(5)) && !value_in(&cap, &Value::Number(6)));
+    Ok(())
+}

@@ -4,8 +4,8 @@ ghost use Rattle.raml_lex.specs.Tokens.{token_at};
 ghost use Rattle.raml_lex.specs.Views.{step_for, Fits};
 
 use crate::bytes::{number_at_front, word_len};
-use meta_base::bytes::{is_digit, is_letter};
 use crate::{LexKind, TokenKind};
+use meta_base::bytes::{is_digit, is_letter};
 
 // What stands at the front: nothing, a fault, or a token with the number of its bytes.
 #[derive(Clone, Copy)]

@@ -4,9 +4,9 @@ ghost use Rattle.raml_lex.specs.Gaps.{gap_step, gap_of, behind_gap};
 ghost use Rattle.raml_lex.specs.Sources.{IsSource};
 ghost use Rattle.raml_lex.specs.Places.{moved_over};
 
-use meta_base::bytes::is_space;
 use crate::place::moved_by;
 use meta_base::Place;
+use meta_base::bytes::is_space;
 
 // Whether a comment is open behind a byte of a gap, or `None` at a byte that is no part of one.
 fn open_behind(in_comment: bool, byte: u8) -> Option<bool>
