@@ -1,7 +1,7 @@
 -- A text has at most one list of tokens, and so means at most one algebra.
 use Rattle.std.proofs.Common.{◌≡◌, ℕ, List, [], ◌∷◌, refl, subst}
 use Rattle.alg_model.specs.Expressions.{Expression, add}
-use Rattle.raml_syntax.specs.Tokens.{PureToken, step_of, Lexes}
+use Rattle.raml_syntax.specs.Tokens.{PureToken, Lexes}
 use Rattle.raml_syntax.specs.ExprText.{ExprText, add_tokens}
 
 same_tokens : (ts us : List PureToken) (text : List ℕ) → Lexes ts text → Lexes us text → ts ≡ us

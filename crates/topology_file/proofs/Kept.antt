@@ -1,5 +1,5 @@
 -- The network of a text is over the algebra that it was read over.
-use Rattle.std.proofs.Common.{◌≡◌, ◌==◌, ◌+◌, ℕ, Bool, true, false, cond, if◌then◌else◌, nat_lt, nat_le, List, [], ◌∷◌, length, Option, Some, None, Result, Ok, Err, IfOk, refl, sym, ap, ◌∙◌, subst}
+use Rattle.std.proofs.Common.{◌≡◌, ◌==◌, ◌+◌, ℕ, Bool, true, false, cond, if◌then◌else◌, nat_lt, nat_le, List, [], ◌∷◌, length, Option, Some, None, Result, Ok, Err, IfOk, refl, ap, ◌∙◌, subst}
 use Rattle.alg_model.specs.Expressions.{Expression, PureLabel, PureValue}
 use Rattle.net_graph.specs.Nets.{PureNet, number_of, has_arc, max_nodes, max_arcs}
 use Rattle.net_graph.specs.Lines.{empty_net, with_node, with_arc, with_origin, with_origin_of}
@@ -8,7 +8,7 @@ use Rattle.topology_file.specs.declared.faults.NetKind.TheVariants.{BadLine}
 use Rattle.topology_file.specs.Texts.{lines_of, said_of}
 use Rattle.topology_file.specs.Forms.{PureLine, silent, nodes, link, origin, bad, line_of}
 use Rattle.topology_file.specs.Literals.{label_of, value_spelled}
-use Rattle.topology_file.specs.NetText.{names_twice, with_nodes, after_nodes, after_arc, after_link, has_origin_of, has_room_for, after_value, after_origin, after_form, after_line, max_line, Lead, NetText}
+use Rattle.topology_file.specs.NetText.{names_twice, with_nodes, after_arc, after_link, has_origin_of, has_room_for, after_value, after_origin, after_form, after_line, max_line, Lead, NetText}
 
 -- a network that comes of it has this algebra
 abbrev Keeps : Expression → Result PureNet NetKind → Type 0

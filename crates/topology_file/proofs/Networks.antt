@@ -1,10 +1,10 @@
 -- What a line makes of a network, step by step.
-use Rattle.std.proofs.Common.{◌≡◌, ℕ, ◌+◌, ◌<◌, ◌≤◌, Bool, true, false, List, [], ◌∷◌, ◌++◌, length, Option, Some, None, Ok, Err, refl, arith, length-append}
+use Rattle.std.proofs.Common.{◌≡◌, ℕ, ◌+◌, Bool, true, false, List, [], ◌∷◌, ◌++◌, length, Some, None, Err, refl, arith, length-append}
 use Rattle.std.proofs.lemmas.Bool.Decides.{nat_tests}
 use Rattle.net_graph.specs.Nets.{PureNet, number_of}
 use Rattle.net_graph.specs.Lines.{with_node}
 use Rattle.topology_file.specs.declared.faults.NetKind.TheVariants.{BadLine}
-use Rattle.topology_file.specs.NetText.{names_twice, with_nodes, after_nodes}
+use Rattle.topology_file.specs.NetText.{names_twice, after_nodes}
 
 -- the first of these nodes is added, and then the others
 pub nodes_more : (net : PureNet) (name : List ℕ) (names : List (List ℕ)) → number_of net.nodes name ≡ None → after_nodes net (name ∷ names) ≡ after_nodes (with_node net name) names

@@ -1,5 +1,5 @@
 -- What the lines of a text come to is what the text means.
-use Rattle.std.proofs.Common.{◌≡◌, ℕ, List, [], ◌∷◌, Ok, refl, ◌∙◌}
+use Rattle.std.proofs.Common.{◌≡◌, ℕ, List, [], ◌∷◌, refl, ◌∙◌}
 use Rattle.alg_model.specs.Expressions.{Expression}
 use Rattle.net_graph.specs.Nets.{PureNet}
 use Rattle.net_graph.specs.Lines.{empty_net}

@@ -1,5 +1,5 @@
 -- What lines come to in turn, as a function.
-use Rattle.std.proofs.Common.{◌≡◌, ℕ, ◌+◌, ◌⊎◌, inl, inr, suc, List, [], ◌∷◌, ◌++◌, length, Result, Ok, Err, refl, ap, sym, ◌∙◌, arith}
+use Rattle.std.proofs.Common.{◌≡◌, ℕ, ◌+◌, ◌⊎◌, inl, inr, List, [], ◌∷◌, ◌++◌, length, Result, Ok, Err, refl, ap, sym, ◌∙◌, arith}
 use Rattle.alg_model.specs.Expressions.{Expression}
 use Rattle.net_graph.specs.Nets.{PureNet}
 use Rattle.net_graph.specs.Lines.{empty_net}

@@ -1,9 +1,9 @@
 -- How lines and words are taken off the front of a text.
-use Rattle.std.proofs.Common.{◌≡◌, ℕ, ◌<◌, ◌≤◌, suc, Bool, true, false, cond, eqb, not, List, [], ◌∷◌, length, drop, refl, ap, sym, ◌∙◌, subst, arith}
+use Rattle.std.proofs.Common.{◌≡◌, ℕ, ◌<◌, ◌≤◌, Bool, true, false, cond, eqb, List, [], ◌∷◌, length, drop, refl, ap, sym, ◌∙◌, subst, arith}
 use Rattle.std.specs.List.{onto_first}
 use Rattle.std.proofs.lemmas.Bool.Decides.{nat_tests}
 use Rattle.topology_file.specs.Bytes.{is_blank, is_word_byte, is_not, front, behind}
-use Rattle.topology_file.specs.Texts.{lines_from, lines_of, ends_word, words_from, words_of}
+use Rattle.topology_file.specs.Texts.{lines_of, words_of}
 
 -- a text that isn't empty is its first line and the lines behind the line feed
 pub lines_split : (c : ℕ) (cs : List ℕ) → lines_of (c ∷ cs) ≡ front (is_not 10) (c ∷ cs) ∷ lines_of (drop 1 (behind (is_not 10) (c ∷ cs)))

@@ -1,4 +1,4 @@
-use Rattle.std.proofs.Common.{◌≡◌, ◌∙◌, sym}
+use Rattle.std.proofs.Common.{◌∙◌, sym}
 use Rattle.raml_syntax.proofs.laws.one_text_one_fault.Goals as goal
 
 pub returns : goal.returns
