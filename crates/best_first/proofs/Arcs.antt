@@ -2,8 +2,8 @@
 use Rattle.std.proofs.Common.{◌≡◌, ℕ, ◌+◌, ◌<◌, List, [], ◌∷◌, Option, Some, None, IfSome, Bool, true, false, ◌==◌, option_map, option_and_then, length, refl, arith}
 use Rattle.std.specs.List.{list_any, find, AllByRecursion}
 use Rattle.std.proofs.lemmas.Bool.Decides.{nat_tests}
-use Rattle.alg_model.specs.Expressions.{Expression, PureLabel, PureValue}
-use Rattle.alg_model.specs.Carriers.{carrier_of, In}
+use Rattle.alg_model.specs.Expressions.{PureLabel, PureValue}
+use Rattle.alg_model.specs.Carriers.{In}
 use Rattle.alg_model.specs.Application.{App, IsLabel}
 use Rattle.alg_model.specs.Bounds.{AtMost, LabelAtMost}
 use Rattle.alg_model.specs.Laws.{images_in, images_at_most}

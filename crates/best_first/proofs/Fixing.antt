@@ -1,5 +1,5 @@
 -- The step from one state to the next, as the code makes it.
-use Rattle.std.proofs.Common.{◌≡◌, ℕ, ◌+◌, ◌^◌, ◌<◌, zero, suc, List, [], ◌∷◌, Option, Some, None, IfSome, Ok, Err, IfOk, ◌==◌, if◌then◌else◌, option_map, length, get_or, replicate, map, refl, sym, ap, ◌∙◌, arith}
+use Rattle.std.proofs.Common.{◌≡◌, ℕ, ◌+◌, ◌^◌, ◌<◌, zero, suc, List, ◌∷◌, Option, Some, None, Ok, Err, IfOk, option_map, length, get_or, replicate, refl, sym, ap, ◌∙◌, arith}
 use Rattle.std.proofs.Math.ListN.{set}
 use Rattle.std.proofs.lemmas.List.{length-map, length-set, map-set, length-replicate}
 use Rattle.std.specs.declared.result.Result.{Result}
@@ -14,7 +14,7 @@ use Rattle.net_graph.specs.Tables.{carrier, PureRow, BestFirst}
 use Rattle.best_first.specs.declared.offer.Offer.{Offer}
 use Rattle.best_first.specs.Found.{route_of, routes_of, found_at, offer_at, AreSigs, IsBestOf, arc_offer, own_offer}
 use Rattle.best_first.specs.State.{IsState, none_count, relaxed}
-use Rattle.best_first.proofs.Places.{found-read, found-set, found_within, offer-read, sigs-set}
+use Rattle.best_first.proofs.Places.{found-read, found-set, found_within, offer-read}
 use Rattle.best_first.proofs.Steps.{first_state, next_state, open_small, open_without_row, none_count-set, none_count-replicate}
 
 module _ {S : Type 0} (value : S → PureValue) (net : PureNet) (dest : ℕ) (rows open_offers : List (Option (Offer S))) (i : ℕ) (x : Option (Offer S)) (n : IsNet net)

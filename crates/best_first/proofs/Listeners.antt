@@ -1,5 +1,5 @@
 -- The arcs that a node speaks on, one after the other.
-use Rattle.std.proofs.Common.{◌≡◌, ◌≢◌, ℕ, ◌+◌, ◌<◌, ◌≤◌, zero, suc, List, [], ◌∷◌, Option, Some, None, IfSome, Bool, true, false, cond, ◌==◌, ◌&&◌, ◌||◌, if◌then◌else◌, map, filter, take, get_or, is_some, option_map, option_and_then, length, refl, sym, ap, ◌∙◌, arith}
+use Rattle.std.proofs.Common.{◌≡◌, ◌≢◌, ℕ, ◌+◌, ◌<◌, zero, suc, List, [], ◌∷◌, Option, Some, None, Bool, true, false, ◌==◌, ◌||◌, if◌then◌else◌, map, filter, take, get_or, is_some, option_map, length, refl, sym, ap, ◌∙◌, arith}
 use Rattle.std.specs.List.{slice_get, list_any, find, AllByRecursion}
 use Rattle.std.proofs.lemmas.Bool.{false≢true}
 use Rattle.std.proofs.lemmas.Bool.Decides.{nat_tests}
@@ -7,13 +7,10 @@ use Rattle.std.proofs.Math.Seq.{take-length}
 use Rattle.std.proofs.lemmas.List.Folds.{list_any_more}
 use Rattle.std.proofs.lemmas.Option.{slice_get_within, get_or_from_slice_get, slice_get-map}
 use Rattle.meta_base.specs.declared.ids.ArcId.{ArcId}
-use Rattle.meta_base.specs.declared.limits.TheConstants.{MAX_NUMBER}
-use Rattle.alg_model.specs.Expressions.{PureCarrier, PureLabel, PureValue}
-use Rattle.alg_model.specs.Application.{App, IsLabel}
-use Rattle.alg_model.specs.Bounds.{LabelAtMost}
-use Rattle.net_graph.specs.Nets.{PureArc, PureNet, IsNet, IsArcOf, AreNumbered, AreDistinct, joins_same, is_arc_between, arcs_to, label_between}
+use Rattle.alg_model.specs.Expressions.{PureValue}
+use Rattle.alg_model.specs.Application.{App}
+use Rattle.net_graph.specs.Nets.{PureArc, PureNet, IsNet, AreNumbered, AreDistinct, joins_same, is_arc_between, arcs_to, label_between}
 use Rattle.net_graph.specs.Routes.{PureRoute}
-use Rattle.net_graph.specs.Walks.{along}
 use Rattle.net_graph.specs.Tables.{carrier}
 use Rattle.best_first.specs.Found.{better_of, arc_offer}
 use Rattle.best_first.specs.State.{relaxed}

@@ -1,10 +1,9 @@
 -- What the nodes that are fixed offer.
-use Rattle.std.proofs.Common.{◌≡◌, ℕ, ◌<◌, ◌⊎◌, inl, inr, List, [], ◌∷◌, Option, Some, None, Bool, true, false, ◌==◌, refl, sym, ◌∙◌, arith}
+use Rattle.std.proofs.Common.{◌≡◌, ℕ, ◌⊎◌, inl, inr, List, [], ◌∷◌, Some, Bool, true, false, ◌==◌, refl, sym, ◌∙◌, arith}
 use Rattle.std.proofs.lemmas.Bool.Decides.{nat_tests}
-use Rattle.net_graph.specs.Nets.{PureNet, origin_value}
+use Rattle.net_graph.specs.Nets.{PureNet}
 use Rattle.net_graph.specs.Routes.{PureRoute}
-use Rattle.net_graph.specs.Walks.{along}
-use Rattle.net_graph.specs.Tables.{PureRow, route_at, is_among, IsOwnOffer, IsOfferBy, IsOfferFrom}
+use Rattle.net_graph.specs.Tables.{PureRow, route_at, is_among, IsOfferFrom}
 use Rattle.best_first.proofs.Routes.{same_route}
 
 -- with one node more, a node is that one or among the others

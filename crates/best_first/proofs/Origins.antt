@@ -9,7 +9,6 @@ use Rattle.net_graph.specs.Routes.{PureRoute}
 use Rattle.net_graph.specs.Tables.{carrier}
 use Rattle.net_graph.specs.Views.{pure_origin}
 use Rattle.net_graph.specs.declared.parts.Origin.{Origin}
-use Rattle.best_first.specs.Found.{own_offer}
 use Rattle.best_first.proofs.Arcs.{IsOrigin, origins_are}
 use Rattle.best_first.proofs.Places.{own-found}
 
@@ -23,7 +22,7 @@ pub own_value_in : (net : PureNet) → IsNet net → (dest node : ℕ) (xs : Lis
     → (o : Origin) → find (λ (o : Origin). o.node.0 == node) xs ≡ Some o → In (carrier net) (pure_value o.value)
 own_value_in net n dest node xs e o f =
     by (origin_value net dest node) (origins_are net n dest node)
-        (own-found net dest node xs e ∙ ap (option_map {U = PureRoute} (λ (o : Origin). record { value = pure_value o.value; path = node ∷ [] })) f)
+    (own-found net dest node xs e ∙ ap (option_map {U = PureRoute} (λ (o : Origin). record { value = pure_value o.value; path = node ∷ [] })) f)
   where
     by : (x : Option PureValue) → IfSome x (IsOrigin net dest node) → option_map {U = PureRoute} (λ v. record { value = v; path = node ∷ [] }) x ≡ Some (record { value = pure_value o.value; path = node ∷ [] })
         → In (carrier net) (pure_value o.value)

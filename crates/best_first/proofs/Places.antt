@@ -1,6 +1,6 @@
 -- What stands at a node's place in the lists of what is found.
-use Rattle.std.proofs.Common.{◌≡◌, ◌≢◌, ℕ, ◌<◌, ◌≤◌, ◌+◌, zero, suc, List, [], ◌∷◌, ◌++◌, Option, Some, None, IfSome, Bool, true, false, cond, ◌==◌, ◌&&◌, if◌then◌else◌, map, option_map, option_and_then, filter, length, get_or, inl, inr, refl, sym, ap, ◌∙◌, arith}
-use Rattle.std.specs.List.{slice_get, find}
+use Rattle.std.proofs.Common.{◌≡◌, ◌≢◌, ℕ, ◌<◌, ◌≤◌, ◌+◌, zero, suc, List, [], ◌∷◌, ◌++◌, Option, Some, None, IfSome, Bool, true, false, ◌==◌, ◌&&◌, if◌then◌else◌, map, option_map, filter, length, get_or, inl, inr, refl, sym, ap, ◌∙◌, arith}
+use Rattle.std.specs.List.{find}
 use Rattle.std.specs.Option.{is_some}
 use Rattle.std.proofs.lemmas.List.{length-map, map-append}
 use Rattle.std.proofs.Math.ListN.{set}
@@ -11,7 +11,7 @@ use Rattle.alg_model.specs.Expressions.{PureValue}
 use Rattle.net_graph.specs.Routes.{PureRoute}
 use Rattle.best_first.specs.declared.offer.Offer.{Offer}
 use Rattle.alg_model.specs.Views.{pure_value}
-use Rattle.net_graph.specs.Nets.{PureNet, PureOrigin, origins_of, origin_value}
+use Rattle.net_graph.specs.Nets.{PureNet, PureOrigin, origins_of}
 use Rattle.net_graph.specs.Views.{pure_origin, pure_row}
 use Rattle.net_graph.specs.declared.route.RouteRow.{RouteRow}
 use Rattle.net_graph.specs.declared.parts.Origin.{Origin}

@@ -1,5 +1,5 @@
 -- The rows of a table whose routes are walks are the network's.
-use Rattle.std.proofs.Common.{◌≡◌, ℕ, ◌+◌, ◌<◌, ◌≤◌, List, [], ◌∷◌, Option, Some, None, IfSome, length, arith, refl, zero, suc}
+use Rattle.std.proofs.Common.{◌≡◌, ℕ, ◌+◌, ◌<◌, ◌≤◌, List, [], ◌∷◌, Option, Some, None, IfSome, length, arith, refl, suc}
 use Rattle.std.specs.List.{AllByRecursion}
 use Rattle.net_graph.specs.Nets.{PureNet, IsNet}
 use Rattle.net_graph.specs.Routes.{PureRoute}

@@ -16,7 +16,7 @@ use Rattle.best_first.specs.Found.{found_at, rows_from, is_better, better_of, ow
 use Rattle.alg_model.specs.Application.{App}
 use Rattle.best_first.specs.State.{WereFixed, IsBestIn, IsBestOffer, none_count, IsKept, IsState, relaxed}
 use Rattle.best_first.proofs.Arcs.{of_some, IsArc, arcs_are, IsOrigin, origins_are, along_in, along_at_most}
-use Rattle.best_first.proofs.Better.{IsUnbeaten, unbeaten_by_all, not_itself, better_beats_both}
+use Rattle.best_first.proofs.Better.{unbeaten_by_all, not_itself, better_beats_both}
 use Rattle.best_first.proofs.Routes.{same_route}
 use Rattle.best_first.proofs.Offers.{among_split, among_first, among_more, Agree, offer_moves}
 

@@ -1,23 +1,18 @@
 -- A table that is made best first is beaten by no walk, where labels are monotone and isotone.
-use Rattle.std.proofs.Common.{◌≡◌, ◌≢◌, ℕ, ◌<◌, ◌≤◌, ◌⊎◌, inl, inr, List, [], ◌∷◌, Option, Some, None, IfSome, Bool, true, false, ◌==◌, ◌||◌, length, refl, sym, ◌∙◌, subst, option_map, option_and_then, arith}
-use Rattle.std.specs.List.{list_any}
-use Rattle.std.specs.declared.cmp.Ordering.{Ordering}
-use Rattle.std.specs.declared.cmp.Ordering.TheVariants.{Less, Equal, Greater}
-use Rattle.std.specs.Ordering.{ordering_then}
+use Rattle.std.proofs.Common.{◌≡◌, ℕ, ◌<◌, inl, inr, List, [], ◌∷◌, Option, Some, None, IfSome, Bool, true, false, length, refl, sym, ◌∙◌, subst, option_map, option_and_then}
 use Rattle.std.proofs.lemmas.Bool.{cases_lt, false≢true}
-use Rattle.std.proofs.lemmas.Bool.Decides.{nat_tests}
 use Rattle.alg_model.specs.Expressions.{PureCarrier, PureValue, PureLabel}
-use Rattle.alg_model.specs.Carriers.{In, Order, OrderOrNone}
+use Rattle.alg_model.specs.Carriers.{In}
 use Rattle.alg_model.specs.Properties.{monotone, isotone}
 use Rattle.alg_model.specs.Application.{App}
-use Rattle.net_graph.specs.Nets.{PureNet, IsNet, has_arc, has_origin, label_between, origin_value}
-use Rattle.net_graph.specs.Routes.{PureRoute, Better, compare_paths}
+use Rattle.net_graph.specs.Nets.{PureNet, IsNet, has_arc, label_between, origin_value}
+use Rattle.net_graph.specs.Routes.{PureRoute, Better}
 use Rattle.net_graph.specs.Walks.{Walk, Weight, along}
-use Rattle.net_graph.specs.Tables.{PureRow, TableOf, IsRouteOf, NetHas, HasWalks, route_at, value_at, carrier, is_among, IsOfferFrom, AreFixed, BestFirst, Optimal}
+use Rattle.net_graph.specs.Tables.{PureRow, TableOf, NetHas, HasWalks, route_at, value_at, carrier, is_among, IsOfferFrom, AreFixed, BestFirst, Optimal}
 use Rattle.best_first.proofs.Preferred.{IsUnbeatenBy, unbeaten_trans}
 use Rattle.best_first.proofs.Arcs.{of_some, IsArc, arcs_are, IsOrigin, origins_are, walk_within, along_in, weight_in, along_monotone, along_isotone}
 use Rattle.best_first.proofs.Routes.{table_route_in, no_route_past}
-use Rattle.best_first.proofs.Offers.{among_split, among_first, among_more, offer_begins}
+use Rattle.best_first.proofs.Offers.{among_split, among_first, among_more}
 
 -- the route's path is a walk from its node that weighs its value, over these nodes alone
 record IsSound (net : PureNet) (dest : ℕ) (before : List ℕ) (i : ℕ) (r : PureRoute) : Type 0 where

@@ -37,14 +37,14 @@ add_strict low high h = each_label low high (IsStrict (add low high)) (λ n i _.
 pub add_isotone : (low high : ℕ) (l : PureLabel) → IsLabel (add low high) l → IsIsotone (add low high) l
 add_isotone low high = each_label low high (IsIsotone (add low high)) (λ n _ _ u v j k.
     each_whole (λ u. ¬ IsPreferred whole (Some v) (Some u) → ¬ IsPreferred whole (App (add low high) (number_label n) v) (App (add low high) (number_label n) u)) (λ x.
-      each_whole (λ v. ¬ IsPreferred whole (Some v) (Some (number x)) → ¬ IsPreferred whole (App (add low high) (number_label n) v) (Some (number (x + n)))) (λ y lacks p.
-        lacks (less_from_lt y x (let e : y + n < x + n = lt_from_less (y + n) (x + n) p in omega arith))) v k) u j)
+    each_whole (λ v. ¬ IsPreferred whole (Some v) (Some (number x)) → ¬ IsPreferred whole (App (add low high) (number_label n) v) (Some (number (x + n)))) (λ y lacks p.
+    lacks (less_from_lt y x (let e : y + n < x + n = lt_from_less (y + n) (x + n) p in omega arith))) v k) u j)
 
 pub add_cancellative : (low high : ℕ) (l : PureLabel) → IsLabel (add low high) l → IsCancellative (add low high) l
 add_cancellative low high = each_label low high (IsCancellative (add low high)) (λ n _ _ u v j k.
     each_whole (λ u. AreEquivalent whole (App (add low high) (number_label n) u) (App (add low high) (number_label n) v) → AreEquivalent whole (Some u) (Some v)) (λ x.
-      each_whole (λ v. AreEquivalent whole (Some (number (x + n))) (App (add low high) (number_label n) v) → AreEquivalent whole (Some (number x)) (Some v)) (λ y p.
-        equal_from_eq x y (let e : x + n ≡ y + n = eq_from_equal (x + n) (y + n) p in omega arith)) v k) u j)
+    each_whole (λ v. AreEquivalent whole (Some (number (x + n))) (App (add low high) (number_label n) v) → AreEquivalent whole (Some (number x)) (Some v)) (λ y p.
+    equal_from_eq x y (let e : x + n ≡ y + n = eq_from_equal (x + n) (y + n) p in omega arith)) v k) u j)
 
 pub add_total : (low high : ℕ) (l : PureLabel) → IsLabel (add low high) l → IsTotal (add low high) l
 add_total low high = each_label low high (IsTotal (add low high)) (λ n _ _.

@@ -1,5 +1,5 @@
 -- What a run of `check` came to can be printed.
-use Rattle.std.proofs.Common.{◌≡◌, ℕ, Option, Some, None}
+use Rattle.std.proofs.Common.{◌≡◌, ℕ, Option, Some}
 use Rattle.alg_model.specs.Expressions.{Expression}
 use Rattle.raml_syntax.specs.Plain.{IsPlainAdd}
 use Rattle.metacli.specs.Texts.{CanPrintVerdicts, IsPrintable}

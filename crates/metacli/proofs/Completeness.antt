@@ -1,5 +1,5 @@
 -- Without a fault nothing is given up.
-use Rattle.std.proofs.Common.{◌≡◌, ℕ, ◌<◌, ◌≤◌, ◌⊎◌, List, length, map, Some, None, Result, Ok, Err, IsTrue, arith, refl, sym, ap, ◌∙◌, subst, inl, inr, ⊎_elim}
+use Rattle.std.proofs.Common.{◌≡◌, ℕ, ◌≤◌, ◌⊎◌, List, length, map, Result, Ok, Err, arith, refl, ap, ◌∙◌, subst, inl, inr, ⊎_elim}
 use Rattle.meta_base.specs.Count.{HasRisen}
 use Rattle.meta_base.specs.Shelf.{Moment, Keeps}
 use Rattle.net_graph.specs.Nets.{PureNet}
@@ -10,7 +10,7 @@ use Rattle.alg_model.specs.Expressions.{Expression}
 use Rattle.raml_syntax.specs.declared.expression.ExprFault.{ExprFault}
 use Rattle.metacli.specs.Served.{ServedText, ServedFault}
 use Rattle.metacli.specs.Reading.{Holds, HasNoAlgebra, IsExpressionAs, HasNoNetwork, IsNetworkAs}
-use Rattle.metacli.specs.Outcome.{IsCheckedAs, IsCheckedBy, IsChecked, IsRoutedAs, IsRoutedTo, IsRoutedAfter, EndedBy, word_at}
+use Rattle.metacli.specs.Outcome.{IsCheckedAs, IsCheckedBy, IsRoutedAs, IsRoutedTo, IsRoutedAfter, EndedBy, word_at}
 use Rattle.metacli.specs.Complete.{IsTold, IsCheckComplete, IsRouteComplete, CompleteBy}
 use Rattle.metacli.specs.declared.words.Command.{Command}
 use Rattle.metacli.specs.declared.words.Command.TheVariants.{Check, Route}

@@ -1,5 +1,5 @@
 -- The routes of all destinations, one destination after another.
-use Rattle.std.proofs.Common.{◌≡◌, ℕ, ◌+◌, ◌<◌, List, [], ◌∷◌, ◌++◌, length, map, refl, sym, ap, ◌∙◌, arith, append_assoc, append-nil, length-append, zero-add, add-zero}
+use Rattle.std.proofs.Common.{◌≡◌, ℕ, ◌+◌, List, [], ◌∷◌, ◌++◌, length, sym, ap, ◌∙◌, arith, append_assoc, append-nil, length-append, zero-add, add-zero}
 use Rattle.std.specs.List.{AllByRecursion}
 use Rattle.alg_model.specs.Expressions.{Expression, add, PureLabel}
 use Rattle.alg_model.specs.Application.{IsLabel}

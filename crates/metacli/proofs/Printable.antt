@@ -1,7 +1,6 @@
 -- Verdicts that are exact and have small numbers can be printed.
-use Rattle.std.proofs.Common.{ℕ, ◌≤◌, ◌^◌, Option, Some, None, arith, lit≤}
+use Rattle.std.proofs.Common.{ℕ, ◌≤◌, ◌^◌, Option, Some, None, lit≤}
 use Rattle.alg_model.specs.Expressions.{Expression, PureValue, PureLabel}
-use Rattle.alg_model.specs.Bounds.{AtMost}
 use Rattle.alg_model.specs.Laws.{at_most_more}
 use Rattle.alg_model.specs.Properties as properties
 use Rattle.alg_model.specs.Properties.{PureProperty}
@@ -27,10 +26,13 @@ printable_verdict p a S (fails x) e b = record {
 }
 
 pub printable : (a : Expression) (S : PureLabel → Type 0) (v : PureVerdicts) → IsPlainAdd a → ExactFor a S v → VerdictsAtMost (2 ^ 33) v → IsPlainAdd a × CanPrintVerdicts a v
-printable a S v p e b = (p, record {
-  monotone = printable_verdict properties.monotone a S v.monotone e.monotone b.monotone;
-  strict = printable_verdict properties.strict a S v.strict e.strict b.strict;
-  isotone = printable_verdict properties.isotone a S v.isotone e.isotone b.isotone;
-  cancellative = printable_verdict properties.cancellative a S v.cancellative e.cancellative b.cancellative;
-  total = printable_verdict properties.total a S v.total e.total b.total;
-})
+printable a S v p e b = (
+  p,
+  record {
+    monotone = printable_verdict properties.monotone a S v.monotone e.monotone b.monotone;
+    strict = printable_verdict properties.strict a S v.strict e.strict b.strict;
+    isotone = printable_verdict properties.isotone a S v.isotone e.isotone b.isotone;
+    cancellative = printable_verdict properties.cancellative a S v.cancellative e.cancellative b.cancellative;
+    total = printable_verdict properties.total a S v.total e.total b.total;
+  },
+)

@@ -1,11 +1,10 @@
-use Rattle.std.proofs.Common.{◌≡◌, ℕ, ◌<◌, ◌≤◌, Option, Some, None, option_map, length, ap, ◌∙◌, inl, inr, arith}
+use Rattle.std.proofs.Common.{◌≡◌, ◌<◌, option_map, length, ap, ◌∙◌, inl, inr, arith}
 use Rattle.std.proofs.lemmas.Bool.{cases_lt}
 use Rattle.std.proofs.lemmas.Bool.Decides.{nat_tests}
 use Rattle.alg_model.specs.Carriers.{carrier_of, In}
-use Rattle.net_graph.specs.Routes.{PureRoute}
-use Rattle.best_first.specs.Found.{route_of, routes_of, found_at, better_of}
+use Rattle.best_first.specs.Found.{route_of, routes_of, found_at}
 use Rattle.best_first.proofs.Places.{found-read, found-values, found_past, found_within}
-use Rattle.best_first.proofs.Better.{IsUnbeaten, best_step, only_none}
+use Rattle.best_first.proofs.Better.{best_step, only_none}
 use Rattle.best_first.proofs.found.best_of.Goals as goal
 use Rattle.best_first.proofs.found.best_of.Goals.{then-beats, else-beats}
 

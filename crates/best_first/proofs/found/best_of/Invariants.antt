@@ -1,4 +1,4 @@
-use Rattle.std.proofs.Common.{◌≡◌, ℕ, ◌-◌, ◌<◌, ◌≤◌}
+use Rattle.std.proofs.Common.{ℕ, ◌-◌, ◌<◌, ◌≤◌}
 use Rattle.alg_model.specs.Carriers.{carrier_of}
 use Rattle.best_first.specs.Found.{routes_of, found_at}
 use Rattle.best_first.proofs.Better.{IsUnbeaten}

@@ -1,6 +1,4 @@
-use Rattle.std.proofs.Common.{refl, subst, sym, ap}
-use Rattle.alg_model.specs.Carriers.{carrier_of, In}
-use Rattle.alg_model.specs.Views.{pure_value}
+use Rattle.std.proofs.Common.{refl, sym}
 use Rattle.best_first.proofs.Origins.{own_value_in}
 use Rattle.best_first.proofs.Places.{own-found}
 use Rattle.best_first.proofs.found.own_offer.Goals as goal

@@ -1,4 +1,4 @@
-use Rattle.std.proofs.Common.{◌≡◌, ◌<◌, length, refl, sym, arith}
+use Rattle.std.proofs.Common.{◌<◌, length, refl, sym, arith}
 use Rattle.alg_model.specs.Carriers.{carrier_of}
 use Rattle.std.proofs.Common.{option_map}
 use Rattle.best_first.specs.Found.{route_of, better_of}

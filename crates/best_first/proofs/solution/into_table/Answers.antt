@@ -1,4 +1,4 @@
-use Rattle.std.proofs.Common.{◌≡◌, ◌∷◌, [], length, length-append, arith}
+use Rattle.std.proofs.Common.{◌∷◌, [], length-append, arith}
 use Rattle.best_first.proofs.Places.{table-push}
 use Rattle.best_first.proofs.solution.into_table.Goals as goal
 

@@ -1,4 +1,4 @@
-use Rattle.std.proofs.Common.{◌≡◌, ℕ, ◌+◌, ◌<◌, length, get_or, Some, None, true, is_some, option_map, ap, ◌∙◌, sym, rules, arith}
+use Rattle.std.proofs.Common.{◌≡◌, ◌<◌, length, get_or, None, true, is_some, option_map, ap, ◌∙◌, arith}
 use Rattle.std.proofs.lemmas.Option.{slice_get-get_or}
 use Rattle.meta_base.specs.declared.ids.ArcId.{ArcId}
 use Rattle.std.proofs.lemmas.List.{length-map}
@@ -6,9 +6,9 @@ use Rattle.net_graph.specs.Nets.{PureArc, arcs_to}
 use Rattle.net_graph.specs.Tables.{carrier}
 use Rattle.net_graph.specs.Views.{pure_arc}
 use Rattle.best_first.specs.State.{relaxed}
-use Rattle.best_first.specs.Found.{route_of, routes_of, found_at, arc_offer}
+use Rattle.best_first.specs.Found.{route_of, routes_of, found_at}
 use Rattle.best_first.proofs.Places.{found-read, mapped_none, mapped_some}
-use Rattle.best_first.proofs.Listeners.{IsHeard, heard_id, heard_arc, heard_within, step_over, step_take, made_offer, heard_all}
+use Rattle.best_first.proofs.Listeners.{heard_id, heard_arc, heard_within, step_over, step_take, made_offer, heard_all}
 use Rattle.best_first.proofs.solution.relax.Goals as goal
 use Rattle.best_first.proofs.solution.relax.Goals.{then-is_none+in_ok-offered, else-is_none}
 

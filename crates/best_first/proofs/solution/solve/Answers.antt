@@ -1,4 +1,4 @@
-use Rattle.std.proofs.Common.{◌≡◌, ◌<◌, Some, None, vec_len, length, sym, ap, ◌∙◌, rules, arith}
+use Rattle.std.proofs.Common.{◌≡◌, Some, length, sym, ◌∙◌, arith}
 use Rattle.best_first.specs.Found.{routes_of, rows_from}
 use Rattle.best_first.proofs.Places.{found_within, sigs-set}
 use Rattle.best_first.proofs.Steps.{last_state}

@@ -1,4 +1,3 @@
-use Rattle.std.proofs.Common.{◌≡◌}
 use Rattle.best_first.specs.Found.{routes_of, AreSigs}
 use Rattle.best_first.specs.State.{IsState, none_count}
 use Rattle.best_first.proofs.solution.solve.Given as goal

@@ -1,4 +1,4 @@
-use Rattle.std.proofs.Common.{◌<◌, length, map, arith}
+use Rattle.std.proofs.Common.{◌<◌, length, arith}
 use Rattle.std.proofs.lemmas.List.{map-append}
 use Rattle.net_graph.specs.Views.{rows_of}
 use Rattle.metacli.proofs.Found.{found_more, net_monotone, net_isotone}

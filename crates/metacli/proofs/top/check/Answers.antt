@@ -10,10 +10,16 @@ pub returns-clause-printable : goal.returns-clause-printable
 returns-clause-printable g c =
     let pair = c.match-verdicts.verdicts in
     let ended : Ended = record {
-      command = Some (Check c.args.file c.args.net); alg = Some c.in-Ok.alg; net = None; verdicts = pair.0; rows = c.new.result; decided = pair.1; answer = pair.1;
+      command = Some (Check c.args.file c.args.net);
+      alg = Some c.in-Ok.alg;
+      net = None;
+      verdicts = pair.0;
+      rows = c.new.result;
+      decided = pair.1;
+      answer = pair.1;
     } in
     elim c.match-verdicts.branch [
-      in-Ok-verdicts w ↦ printable_done ended c.args.file c.args.net c.in-Ok.alg w.in-Ok-verdicts.verdicts refl refl (ap (λ p. p.0) w.verdicts-is) (ap (λ p. p.1) w.verdicts-is)
-          (printable _ _ _ c.in-Ok.ensures.plain w.in-Ok-verdicts.ensures.exact w.in-Ok-verdicts.ensures.bound) |
-      in-Err-verdicts w ↦ printable_without_memory ended (ap (λ p. p.1) w.verdicts-is)
+      | in-Ok-verdicts w ↦ printable_done ended c.args.file c.args.net c.in-Ok.alg w.in-Ok-verdicts.verdicts refl refl (ap (λ p. p.0) w.verdicts-is) (ap (λ p. p.1) w.verdicts-is)
+          (printable _ _ _ c.in-Ok.ensures.plain w.in-Ok-verdicts.ensures.exact w.in-Ok-verdicts.ensures.bound)
+      | in-Err-verdicts w ↦ printable_without_memory ended (ap (λ p. p.1) w.verdicts-is)
     ]

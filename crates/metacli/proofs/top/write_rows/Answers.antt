@@ -1,5 +1,3 @@
-use Rattle.std.proofs.Common.{map, drop}
-use Rattle.net_graph.specs.Views.{pure_row}
 use Rattle.metacli.proofs.Written.{lines_more, lines_cut, lines_front, lines_at, row_at}
 use Rattle.metacli.proofs.top.write_rows.Goals as goal
 
