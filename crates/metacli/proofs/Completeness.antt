@@ -7,7 +7,7 @@ use Rattle.net_graph.specs.Tables.{PureRow}
 use Rattle.net_graph.specs.Views.{pure_row}
 use Rattle.topology_file.specs.NetText.{NetText, IsNetFault, HasOneOutcome}
 use Rattle.alg_model.specs.Expressions.{Expression}
-use Rattle.raml_syntax.specs.declared.expression.ExprFault.{ExprFault}
+use Rattle.raml_syntax.specs.declared.faults.ExprFault.{ExprFault}
 use Rattle.metacli.specs.Served.{ServedText, ServedFault}
 use Rattle.metacli.specs.Reading.{Holds, HasNoAlgebra, IsExpressionAs, HasNoNetwork, IsNetworkAs}
 use Rattle.metacli.specs.Outcome.{IsCheckedAs, IsCheckedBy, IsRoutedAs, IsRoutedTo, IsRoutedAfter, EndedBy, word_at}

@@ -1,7 +1,7 @@
 -- What is served, and what is refused.
 use Rattle.std.proofs.Common.{◌≡◌, ⊎_elim, ℕ, List, sym, ◌∙◌, subst}
 use Rattle.alg_model.specs.Expressions.{Expression}
-use Rattle.raml_syntax.specs.declared.expression.ExprFault.{ExprFault}
+use Rattle.raml_syntax.specs.declared.faults.ExprFault.{ExprFault}
 use Rattle.raml_syntax.specs.ExprText.{ExprText, IsExprFault}
 use Rattle.raml_syntax.specs.Plain.{IsPlainAdd}
 use Rattle.metacli.specs.Served.{ServedText, ServedFault}

@@ -5,7 +5,7 @@ use Rattle.meta_base.specs.Count.{HasRisen}
 use Rattle.meta_base.specs.Shelf.{Moment}
 use Rattle.meta_base.specs.declared.limits.TheConstants.{MAX_FILE_BYTES}
 use Rattle.alg_model.specs.Expressions.{Expression}
-use Rattle.raml_syntax.specs.declared.expression.ExprFault.{ExprFault}
+use Rattle.raml_syntax.specs.declared.faults.ExprFault.{ExprFault}
 use Rattle.net_graph.specs.Nets.{PureNet}
 use Rattle.topology_file.specs.NetText.{NetText, IsNetFault}
 use Rattle.topology_file.specs.declared.faults.NetFault.{NetFault}

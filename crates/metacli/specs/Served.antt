@@ -1,8 +1,8 @@
 -- The expression files that the commands serve: those of one additive algebra.
 use Rattle.std.specs.Prelude.{◌≡◌, ◌⊎◌, ℕ, List}
 use Rattle.alg_model.specs.Expressions.{Expression}
-use Rattle.raml_syntax.specs.declared.expression.ExprFault.{ExprFault}
-use Rattle.raml_syntax.specs.declared.expression.ExprKind.TheVariants.{Unexpected}
+use Rattle.raml_syntax.specs.declared.faults.ExprFault.{ExprFault}
+use Rattle.raml_syntax.specs.declared.faults.ExprKind.TheVariants.{Unexpected}
 use Rattle.raml_syntax.specs.ExprText.{ExprText, IsExprFault}
 use Rattle.raml_syntax.specs.Plain.{IsPlainAdd}
 

@@ -19,7 +19,7 @@ use meta_base::{
 };
 use net_graph::{Net, RouteRow};
 use raml_syntax::{
-    AlgError, ExprFault, ExprKind, is_plain_add, no_text_of_both, one_text_one_algebra,
+    AlgError, ExprFault, ExprKind, is_plain_add, no_fault_beside_an_algebra, one_text_one_algebra,
     one_text_one_fault, read_alg,
 };
 use std::alloc::Global;
@@ -44,7 +44,7 @@ pub fn run_meta<R: AllocGlobal, S: Shelf, K: Sink, G: Gate>(
 {
     one_text_one_algebra();
     one_text_one_fault();
-    no_text_of_both();
+    no_fault_beside_an_algebra();
     one_text_one_network();
     let mut ended = decide(rt.alloc(), words, shelf);
     ended.answer = print(rt.alloc(), out, &ended);

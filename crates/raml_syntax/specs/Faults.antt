@@ -1,8 +1,18 @@
 -- The numbers of faults.
 use Rattle.std.specs.Prelude.{ℕ}
-use Rattle.raml_syntax.specs.declared.expression.ExprKind.{ExprKind}
-use Rattle.raml_syntax.specs.declared.expression.ExprKind.TheVariants.{Unexpected}
+use Rattle.raml_syntax.specs.declared.faults.ExprKind.{ExprKind}
+use Rattle.raml_syntax.specs.declared.faults.ExprKind.TheVariants.{BadByte, Unexpected, EndOfText, NumberTooLarge, UnknownName, NameTwice, BadRange, CarriersDiffer, TooLarge, BadTable, TrailingText}
 
 -- the number that stands behind the X of a printed fault
 abbrev pub fault_number : ExprKind → ℕ
+fault_number BadByte = 1
 fault_number Unexpected = 2
+fault_number EndOfText = 3
+fault_number NumberTooLarge = 4
+fault_number UnknownName = 5
+fault_number NameTwice = 6
+fault_number BadRange = 7
+fault_number CarriersDiffer = 8
+fault_number TooLarge = 9
+fault_number BadTable = 10
+fault_number TrailingText = 11

@@ -1,13 +1,24 @@
-//! Reads expression files. It knows their tokens and their grammar, and what algebra a text means;
-//! what an algebra does is `alg_model`'s. It stands on `meta_base` and `alg_model`.
+//! Reads expression files and prints them. It knows their grammar: which trees of words there are, what
+//! they mean, and which fault stands at which token. What an algebra does is `alg_model`'s. It stands on
+//! `raml_lex`, `alg_model` and `meta_base`.
 #![tactic(auto)]
 
-mod bytes;
+mod base;
+mod definitions;
+mod expect;
 mod expression;
+mod faults;
+mod file;
+mod heads;
 mod laws;
-mod plain;
-mod tokens;
+mod maps;
+mod nodes;
+mod table;
+mod values;
 
-pub use expression::{AlgError, ExprFault, ExprKind, read_alg};
-pub use laws::{no_text_of_both, one_text_one_algebra, one_text_one_fault};
-pub use plain::is_plain_add;
+pub use faults::{AlgError, ExprFault, ExprKind};
+pub use file::{is_plain_add, read_alg};
+pub use laws::{no_fault_beside_an_algebra, one_text_one_algebra, one_text_one_fault};
+
+#[cfg(test)]
+mod tests;

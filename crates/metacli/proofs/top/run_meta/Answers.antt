@@ -9,6 +9,6 @@ returns-clause-ended g c = reanswered c.args.words.now _ _ c.decide-ended.result
 
 pub returns-clause-complete : goal.returns-clause-complete
 returns-clause-complete g c =
-    let laws : TextLaws = record { algebra = c.one_text_one_algebra.ensures; fault = c.one_text_one_fault.ensures; apart = c.no_text_of_both.ensures } in
+    let laws : TextLaws = record { algebra = c.one_text_one_algebra.ensures; fault = c.one_text_one_fault.ensures; apart = c.no_fault_beside_an_algebra.ensures } in
     complete (record { algebra = one_served laws; fault = one_refused laws; apart = served_or_refused laws; network = c.one_text_one_network.ensures })
     c.args.words.now _ _ _ (Words c.args.words.now) (returns-clause-ended g c)

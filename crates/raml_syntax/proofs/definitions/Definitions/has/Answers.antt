@@ -1,0 +1,6 @@
+use Rattle.std.proofs.Common.{◌∙◌}
+use Rattle.raml_syntax.proofs.Names.{has_entry}
+use Rattle.raml_syntax.proofs.definitions.Definitions.has.Goals as goal
+
+pub returns : goal.returns
+returns c = rw (← c.self.view_is) (c.contains_key.ensures ∙ has_entry c.self.inside.trees.entries c.args.name.now c.self.invariant)

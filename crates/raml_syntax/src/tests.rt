@@ -1,0 +1,125 @@
+// Expression files that are read, and those that are refused, with the places of their faults.
+use crate::ExprKind::*;
+use crate::{AlgError, ExprKind, is_plain_add, read_alg};
+use alg_model::{Alg, Tree};
+use meta_base::MAX_FILE_BYTES;
+use std::alloc::Global;
+use std::process::Abort;
+use std::test::Fail;
+
+// What the text means. No text here is too long for a file.
+fn read(alloc: Global, text: &[u8]) -> Result<Alg, AlgError> {
+    if text.len() > MAX_FILE_BYTES {
+        return Err(AlgError::NoMemory);
+    }
+    read_alg(alloc, text)
+}
+
+// The text is refused for this fault, at this line and column.
+fn check_refused(
+    rt: &impl Abort,
+    alloc: Global,
+    text: &[u8],
+    kind: ExprKind,
+    line: u32,
+    column: u32,
+) {
+    match read(alloc, text) {
+        Err(AlgError::Bad(fault)) => {
+            assert_eq!(rt; fault.kind, kind);
+            assert_eq!(rt; fault.place.line, line);
+            assert_eq!(rt; fault.place.column, column);
+        }
+        _ => panic!(rt; "no fault"),
+    }
+}
+
+#[test]
+fn files(rt: HostRuntime) -> Result<(), Fail> {
+    let number = read(rt.alloc(), b"main add(1..4294967295);")?;
+    assert!(rt; is_plain_add(&number));
+
+    // `none` is reserved only in tables.
+    let gate = read(rt.alloc(), b"let none = gate; # a name\nmain none;")?;
+    assert!(rt; matches!(gate.tree(), Tree::Gate));
+    assert!(rt; !is_plain_add(&gate));
+    Ok(())
+}
+
+#[test]
+fn refused_files(rt: HostRuntime) {
+    let refused: &[(&[u8], ExprKind, u32)] = &[
+        (b"main $", BadByte, 6),
+        (b"main gate; $", BadByte, 12),
+        (b"main ;", Unexpected, 6),
+        (b"main lex;", Unexpected, 9),
+        (b"main 4294967296;", Unexpected, 6),
+        (b"gate;", Unexpected, 1),
+        (b"", EndOfText, 1),
+        (b"main lex(add(1..10)", EndOfText, 20),
+        (b"main add(1..4294967296);", NumberTooLarge, 13),
+        (b"main gate; 4294967296", NumberTooLarge, 12),
+        (b"main foo;", UnknownName, 6),
+        (b"main main;", UnknownName, 6),
+        (b"let a = a; main a;", UnknownName, 9),
+        (b"let a = gate; let a = gate; main a;", NameTwice, 19),
+        (b"let left = gate; main gate;", NameTwice, 5),
+        (b"main add(5..4);", BadRange, 13),
+        (b"main add(5..4", BadRange, 13),
+        (b"main plus(add(1..2), seq(3));", CarriersDiffer, 28),
+        (b"main table { a < a; Z: none };", BadTable, 18),
+        (b"main gate; gate", TrailingText, 12),
+    ];
+    for (text, kind, column) in refused {
+        check_refused(&rt, rt.alloc(), *text, *kind, 1, *column);
+    }
+}
+
+// Names that stand for large trees count all their nodes: 255 and 255 are too many.
+#[test]
+fn doubled_trees(rt: HostRuntime) {
+    check_refused(
+        &rt,
+        rt.alloc(),
+        b"let a0 = gate;
+let a1 = lex(a0, a0);
+let a2 = lex(a1, a1);
+let a3 = lex(a2, a2);
+let a4 = lex(a3, a3);
+let a5 = lex(a4, a4);
+let a6 = lex(a5, a5);
+let a7 = lex(a6, a6);
+let a8 = lex(a7, a7);
+main a8;
+",
+        TooLarge,
+        9,
+        18,
+    );
+}
+
+// The word that passes the greatest number of nodes is refused before anything behind it is read.
+#[test]
+fn deep_trees(rt: HostRuntime) -> Result<(), Fail> {
+    let mut text = vec![in rt.alloc()]?;
+    text.extend_from_slice(b"main ")?;
+    for _ in 0..300 {
+        text.extend_from_slice(b"left(")?;
+    }
+    check_refused(&rt, rt.alloc(), text.as_slice(), TooLarge, 1, 1286);
+    Ok(())
+}
+
+// As many names as a file has room for: were each looked for among all before it, this would not end.
+#[test]
+fn many_names(rt: HostRuntime) -> Result<(), Fail> {
+    let mut text = vec![in rt.alloc()]?;
+    for i in 0..200000 {
+        let line = format!(in rt.alloc(); "let n{i} = gate;\n")?;
+        text.extend_from_slice(line.as_bytes())?;
+    }
+    text.extend_from_slice(b"main lex(n0, n199999);")?;
+    let pair = read(rt.alloc(), text.as_slice())?;
+    assert!(rt; matches!(pair.tree(), Tree::Lex(..)));
+    Ok(())
+}

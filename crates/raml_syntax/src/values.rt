@@ -1,0 +1,127 @@
+// The values of a table.
+ghost use Rattle.std.specs.Prelude.{◌≡◌, ◌+◌, ◌<◌, ◌≤◌, ◌^◌, ◌&&◌, length, not, nat_le, IfOk, OnOk};
+ghost use Rattle.std.specs.Str.{IsAscii};
+ghost use Rattle.alg_model.specs.declared.alg.TheConstants.{MAX_TABLE_NAMES};
+ghost use Rattle.raml_syntax.specs.Leaves.{IsReady};
+ghost use Rattle.raml_syntax.specs.Marks.{own_name};
+ghost use Rattle.raml_syntax.specs.Sequences.{One, Reads};
+ghost use Rattle.raml_syntax.specs.Syntax.{is_among, is_none};
+ghost use Rattle.raml_syntax.specs.Tested.{Tested};
+ghost use Rattle.raml_syntax.specs.Values.{Values, after_value, rank_behind};
+
+use crate::expect::{refused, take, take_word};
+use crate::{AlgError, ExprKind};
+use alg_model::MAX_TABLE_NAMES;
+use meta_base::{List, NoMemory, Text};
+use raml_lex::{Token, TokenKind, Tokens};
+use std::alloc::Global;
+
+// What the mark behind a value leads to.
+#[derive(Clone, Copy)]
+pub enum AfterValue {
+    // `=` or `<`: a value of the same rank, or of the next.
+    Value { is_tied: bool },
+    // `;`
+    Rows,
+}
+
+// The names and ranks of the values of a table.
+#[derive(Drop)]
+pub struct ValueList {
+    pub names: List<Text>,
+    pub ranks: List<u8>,
+}
+
+// Whether the word is `none`, which names no value and no row.
+pub fn is_none(word: &[u8]) -> bool
+    ensures { result ≡ is_none word.now }
+{
+    word == b"none".as_slice()
+}
+
+// Whether the word is one of the names.
+pub fn is_among(names: &[Text], word: &[u8]) -> bool
+    ensures { result ≡ is_among names.now word.now }
+{
+    names.iter().any(|name| name.as_str().as_bytes() == word)
+}
+
+fn copied(alloc: Global, word: &[u8]) -> Result<Text, NoMemory>
+    requires { IsAscii word.now }
+    ensures { IfOk result (λ text. text ≡ word.now) }
+{
+    match str::from_utf8(word) {
+        Ok(text) => Text::copy(alloc, text),
+        Err(_) => unreachable!(),
+    }
+}
+
+// The word as the name of a value or of a row, behind so many of them.
+pub fn new_name(
+    alloc: Global,
+    word: Token<'_>,
+    before: usize,
+    is_there: bool,
+) -> Result<Text, AlgError>
+    requires { IsAscii word.text.now }
+    ensures { Tested (not (is_none word.entry.text.now) && not is_there && nat_le (before + 1) MAX_TABLE_NAMES) word.entry.place word.entry.text.now result }
+{
+    if is_none(word.text) || is_there || before >= MAX_TABLE_NAMES {
+        return Err(refused(ExprKind::BadTable, word.place));
+    }
+    Ok(copied(alloc, word.text)?)
+}
+
+fn read_value_name(alloc: Global, tokens: &mut Tokens<'_>, names: &[Text]) -> Result<Text, AlgError>
+    requires { IsReady tokens.old }
+    ensures ready { OnOk result (IsReady tokens.new) }
+    ensures room { OnOk result (length names.now < MAX_TABLE_NAMES) }
+    ensures name { Reads (One (own_name names.now)) tokens.old result tokens.new }
+{
+    let word = take_word(tokens)?;
+    new_name(alloc, word, names.len(), is_among(names, word.text))
+}
+
+fn take_after_value(tokens: &mut Tokens<'_>) -> Result<AfterValue, AlgError>
+    requires { IsReady tokens.old }
+    ensures ready { OnOk result (IsReady tokens.new) }
+    ensures mark { Reads (One after_value) tokens.old result tokens.new }
+{
+    let token = take(tokens)?;
+    match token.kind {
+        TokenKind::Equals => Ok(AfterValue::Value { is_tied: true }),
+        TokenKind::Less => Ok(AfterValue::Value { is_tied: false }),
+        TokenKind::Semicolon => Ok(AfterValue::Rows),
+        _ => Err(refused(ExprKind::Unexpected, token.place)),
+    }
+}
+
+// The rank of a value behind one of this rank.
+fn rank_behind(rank: u8, is_tied: bool) -> u8
+    requires { rank + 1 < 2 ^ 8 }
+    ensures { result ≡ rank_behind rank is_tied }
+{
+    if is_tied { rank } else { rank + 1 }
+}
+
+// Reads the values, and the semicolon behind them.
+pub fn read_values(alloc: Global, tokens: &mut Tokens<'_>) -> Result<ValueList, AlgError>
+    requires { IsReady tokens.old }
+    ensures ready { OnOk result (IsReady tokens.new) }
+    ensures few { IfOk result (λ values. length values.names ≤ MAX_TABLE_NAMES) }
+    ensures values { Reads Values tokens.old result tokens.new }
+{
+    let mut names = List::new(alloc);
+    let mut ranks = List::new(alloc);
+    let first = read_value_name(alloc, tokens, names.as_slice())?;
+    names.push(first)?;
+    ranks.push(0)?;
+    let mut rank = 0;
+    while let AfterValue::Value { is_tied } = take_after_value(tokens)? {
+        let name = read_value_name(alloc, tokens, names.as_slice())?;
+        names.push(name)?;
+        rank = rank_behind(rank, is_tied);
+        ranks.push(rank)?;
+    }
+    Ok(ValueList { names, ranks })
+}
