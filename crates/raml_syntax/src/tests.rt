@@ -123,3 +123,26 @@ fn many_names(rt: HostRuntime) -> Result<(), Fail> {
     assert!(rt; matches!(pair.tree(), Tree::Lex(..)));
     Ok(())
 }
+
+// Whether the tree is the table of `o`, `a` and `d` whose first row has this image of `o`.
+fn is_gadget(tree: &Tree, image: u8) -> bool {
+    match tree {
+        Tree::Table(table) => {
+            let rows = table.rows.as_slice();
+            table.names.as_slice().len() == 3
+                && table.ranks.as_slice() == [0, 1, 1].as_slice()
+                && matches!(rows, [first, second]
+                    if first.images.as_slice() == [Some(image), None, None].as_slice()
+                        && second.images.as_slice() == [None, None, None].as_slice())
+        }
+        _ => false,
+    }
+}
+
+#[test]
+fn tables(rt: HostRuntime) -> Result<(), Fail> {
+    let text = b"main table { o < a = d; D: o -> d; N: none };";
+    let gadget = read(rt.alloc(), text.as_slice())?;
+    assert!(rt; is_gadget(gadget.tree(), 2));
+    Ok(())
+}
