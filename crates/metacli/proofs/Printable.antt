@@ -6,7 +6,6 @@ use Rattle.alg_model.specs.Properties as properties
 use Rattle.alg_model.specs.Properties.{PureProperty}
 use Rattle.alg_model.specs.Verdicts.{PureVerdict, holds, fails, PureVerdicts, IsExact, ExactFor}
 use Rattle.alg_model.specs.Instances.{SecondAtMost, VerdictAtMost, VerdictsAtMost}
-use Rattle.raml_syntax.specs.Plain.{IsPlainAdd}
 use Rattle.metacli.specs.Texts.{CanPrintVerdict, CanPrintVerdicts}
 
 SecondAtMost-le : (m n : ℕ) → m ≤ n → (o : Option PureValue) → SecondAtMost m o → SecondAtMost n o
@@ -25,14 +24,11 @@ printable_verdict p a S (fails x) e b = record {
   };
 }
 
-pub printable : (a : Expression) (S : PureLabel → Type 0) (v : PureVerdicts) → IsPlainAdd a → ExactFor a S v → VerdictsAtMost (2 ^ 33) v → IsPlainAdd a × CanPrintVerdicts a v
-printable a S v p e b = (
-  p,
-  record {
-    monotone = printable_verdict properties.monotone a S v.monotone e.monotone b.monotone;
-    strict = printable_verdict properties.strict a S v.strict e.strict b.strict;
-    isotone = printable_verdict properties.isotone a S v.isotone e.isotone b.isotone;
-    cancellative = printable_verdict properties.cancellative a S v.cancellative e.cancellative b.cancellative;
-    total = printable_verdict properties.total a S v.total e.total b.total;
-  },
-)
+pub printable : (a : Expression) (S : PureLabel → Type 0) (v : PureVerdicts) → ExactFor a S v → VerdictsAtMost (2 ^ 33) v → CanPrintVerdicts a v
+printable a S v e b = record {
+  monotone = printable_verdict properties.monotone a S v.monotone e.monotone b.monotone;
+  strict = printable_verdict properties.strict a S v.strict e.strict b.strict;
+  isotone = printable_verdict properties.isotone a S v.isotone e.isotone b.isotone;
+  cancellative = printable_verdict properties.cancellative a S v.cancellative e.cancellative b.cancellative;
+  total = printable_verdict properties.total a S v.total e.total b.total;
+}

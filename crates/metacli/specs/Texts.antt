@@ -11,7 +11,6 @@ use Rattle.alg_model.specs.Verdicts.{PureInstance, IsInstanceOf, PureVerdict, ho
 use Rattle.alg_model.specs.Instances.{InstanceAtMost}
 use Rattle.alg_model.specs.Texts.{value_text, label_text}
 use Rattle.raml_syntax.specs.Faults.{fault_number}
-use Rattle.raml_syntax.specs.Plain.{IsPlainAdd}
 use Rattle.net_graph.specs.Nets.{PureNet}
 use Rattle.net_graph.specs.Tables.{PureRow}
 use Rattle.net_graph.specs.Views.{pure_row}
@@ -118,11 +117,11 @@ pub record CanPrintVerdicts (a : Expression) (v : PureVerdicts) : Type 0 where
   pub total : CanPrintVerdict a v.total
 
 abbrev pub CanPrintChecked : Option Expression → Option Verdicts → Type 0
-CanPrintChecked (Some a) (Some v) = IsPlainAdd a × CanPrintVerdicts a (pure_verdicts v)
+CanPrintChecked (Some a) (Some v) = CanPrintVerdicts a (pure_verdicts v)
 CanPrintChecked _ _ = ⊥
 
 abbrev pub CanPrintRouted : Option PureNet → List PureRow → Type 0
-CanPrintRouted (Some net) rows = IsPlainAdd net.alg × AllByRecursion (IsRowOf net) rows
+CanPrintRouted (Some net) rows = AllByRecursion (IsRowOf net) rows
 CanPrintRouted None rows = ⊥
 
 abbrev pub CanPrintDone : Ended → Option Command → Type 0
@@ -132,7 +131,7 @@ CanPrintDone e None = ⊥
 
 -- the rows that were found are the network's
 abbrev pub CanPrintFound : PureNet → List PureRow → Answer → Type 0
-CanPrintFound net rows Done = IsPlainAdd net.alg × AllByRecursion (IsRowOf net) rows
+CanPrintFound net rows Done = AllByRecursion (IsRowOf net) rows
 CanPrintFound net rows WriteFault = ⊥
 CanPrintFound net rows answer = Unit {0}
 

@@ -7,7 +7,6 @@ ghost use Rattle.alg_model.specs.Bounds.{AtMost, LabelAtMost};
 ghost use Rattle.alg_model.specs.Carriers.{carrier_of, In};
 ghost use Rattle.alg_model.specs.Application.{IsLabel, App};
 ghost use Rattle.alg_model.specs.Texts.{value_text, label_text};
-ghost use Rattle.raml_syntax.specs.Plain.{IsPlainAdd};
 ghost use Rattle.net_graph.specs.Nets.{is_name};
 ghost use Rattle.net_graph.specs.Views.{pure_row};
 ghost use Rattle.net_graph.specs.RowTexts.{AreNodesOf, IsRowOf, node_text, dest_text, path_text, route_text, row_text};
@@ -15,41 +14,12 @@ ghost use Rattle.metacli.specs.Views.{pure_instance, pure_verdict, pure_verdicts
 ghost use Rattle.metacli.specs.Texts.{CanPrint, CanPrintVerdict, CanPrintVerdicts, image_text, instance_text, verdict_text, verdicts_text, which_text, refusal_text};
 
 use crate::{Answer, Instance, Verdict, Verdicts};
-use alg_model::{Alg, Label, Tree, Value, apply};
-use itoa::Buffer;
+use alg_model::{Alg, Label, Value, apply};
 use meta_base::{DestId, Failed, NoMemory, NodeId, Sink, Text, Which, put_all};
 use net_graph::{Net, RouteRow};
+use sig_text::{push_label, push_number, push_value};
 use std::alloc::Global;
 use std::str;
-
-fn push_number(out: &mut String, n: u64) -> Result<(), NoMemory>
-    ensures { OnOk result (string_bytes out.new ≡ string_bytes out.old ++ decimal n) }
-{
-    out.push_str(Buffer::new().format(n))?;
-    Ok(())
-}
-
-fn push_value(out: &mut String, alg: &Alg, value: &Value) -> Result<(), NoMemory>
-    requires plain { IsPlainAdd alg.now }
-    requires value { In (carrier_of alg.now) (pure_value value.now) }
-    ensures { OnOk result (string_bytes out.new ≡ string_bytes out.old ++ value_text (carrier_of alg.now) (pure_value value.now)) }
-{
-    match (alg.tree(), value) {
-        (Tree::Add { .. }, Value::Number(n)) => push_number(out, *n),
-        _ => unreachable!(),
-    }
-}
-
-fn push_label(out: &mut String, alg: &Alg, label: &Label) -> Result<(), NoMemory>
-    requires plain { IsPlainAdd alg.now }
-    requires label { IsLabel alg.now (pure_label label.now) }
-    ensures { OnOk result (string_bytes out.new ≡ string_bytes out.old ++ label_text alg.now (pure_label label.now)) }
-{
-    match (alg.tree(), label) {
-        (Tree::Add { .. }, Label::Number(n)) => push_number(out, *n),
-        _ => unreachable!(),
-    }
-}
 
 // The text of what a label makes of a value.
 fn push_image(
@@ -59,7 +29,6 @@ fn push_image(
     label: &Label,
     value: &Value,
 ) -> Result<(), NoMemory>
-    requires plain { IsPlainAdd alg.now }
     requires label { IsLabel alg.now (pure_label label.now) }
     requires value { In (carrier_of alg.now) (pure_value value.now) }
     requires small_label { LabelAtMost MAX_NUMBER (pure_label label.now) }
@@ -79,8 +48,7 @@ fn push_instance(
     alg: &Alg,
     instance: &Instance,
 ) -> Result<(), NoMemory>
-    requires plain { IsPlainAdd alg.now }
-    requires instance { CanPrint alg.now (pure_instance instance.now) }
+    requires { CanPrint alg.now (pure_instance instance.now) }
     ensures { OnOk result (string_bytes out.new ≡ string_bytes out.old ++ instance_text alg.now (pure_instance instance.now)) }
 {
     push_label(out, alg, &instance.label)?;
@@ -106,8 +74,7 @@ fn push_verdict(
     word: &str,
     verdict: &Verdict,
 ) -> Result<(), NoMemory>
-    requires plain { IsPlainAdd alg.now }
-    requires verdict { CanPrintVerdict alg.now (pure_verdict verdict.now) }
+    requires { CanPrintVerdict alg.now (pure_verdict verdict.now) }
     ensures { OnOk result (string_bytes out.new ≡ string_bytes out.old ++ verdict_text alg.now word.now (pure_verdict verdict.now)) }
 {
     out.push_str(word)?;
@@ -124,8 +91,7 @@ fn push_verdict(
 
 // The five lines of the verdicts on an algebra or on labels of it.
 pub fn verdict_lines(alloc: Global, alg: &Alg, verdicts: &Verdicts) -> Result<Text, NoMemory>
-    requires plain { IsPlainAdd alg.now }
-    requires verdicts { CanPrintVerdicts alg.now (pure_verdicts verdicts.now) }
+    requires { CanPrintVerdicts alg.now (pure_verdicts verdicts.now) }
     ensures { IfOk result (λ text. text ≡ verdicts_text alg.now (pure_verdicts verdicts.now)) }
 {
     let mut out = String::new(alloc);
@@ -181,8 +147,7 @@ fn push_path(out: &mut String, net: &Net, path: &[NodeId]) -> Result<(), NoMemor
 
 // The value and the path of a row, or the word none.
 fn push_route(out: &mut String, net: &Net, row: &RouteRow) -> Result<(), NoMemory>
-    requires plain { IsPlainAdd net.now.alg }
-    requires row { IsRowOf net.now (pure_row row.now) }
+    requires { IsRowOf net.now (pure_row row.now) }
     ensures { OnOk result (string_bytes out.new ≡ string_bytes out.old ++ route_text net.now (pure_row row.now).route) }
 {
     match &row.route {
@@ -196,8 +161,7 @@ fn push_route(out: &mut String, net: &Net, row: &RouteRow) -> Result<(), NoMemor
 
 // The line of a row.
 pub fn row_line(alloc: Global, net: &Net, row: &RouteRow) -> Result<Text, NoMemory>
-    requires plain { IsPlainAdd net.now.alg }
-    requires row { IsRowOf net.now (pure_row row.now) }
+    requires { IsRowOf net.now (pure_row row.now) }
     ensures { IfOk result (λ text. text ≡ row_text net.now (pure_row row.now)) }
 {
     let mut out = String::new(alloc);

@@ -265,8 +265,7 @@ fn print_done<K: Sink>(alloc: Global, out: &mut K, ended: &Ended) -> Answer
 
 // Writes the lines of the rows, one after another, and answers how that went.
 fn write_rows<K: Sink>(alloc: Global, out: &mut K, net: &Net, rows: &[RouteRow]) -> Answer
-    requires plain { IsPlainAdd net.now.alg }
-    requires rows { AllByRecursion (IsRowOf net.now) (map pure_row rows.now) }
+    requires { AllByRecursion (IsRowOf net.now) (map pure_row rows.now) }
     ensures { Written (K.holds out.old) (rows_text net.now (map pure_row rows.now)) (K.holds out.new) Done result }
 {
     for row in rows {

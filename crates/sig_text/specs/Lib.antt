@@ -1,1 +1,9 @@
 pub mod Faults
+pub mod Parts
+pub mod Shapes
+pub mod Literals
+pub mod Sequences
+pub mod Views
+pub mod Reading
+pub mod Answers
+pub mod Listed

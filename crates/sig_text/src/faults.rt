@@ -1,5 +1,12 @@
 ghost use Rattle.std.specs.Prelude.{◌≡◌};
 ghost use Rattle.sig_text.specs.Faults.{lit_fault_number};
+ghost use Rattle.sig_text.specs.Literals.{both_of};
+ghost use Rattle.sig_text.specs.declared.faults.LitError.TheVariants as error;
+ghost use Rattle.sig_text.specs.declared.faults.Stop.TheVariants as stop;
+
+use meta_base::NoMemory;
+use std::alloc::{AllocError, AllocFailed};
+use thiserror::Error;
 
 /// What is wrong with the text of a label or a value.
 #[derive(Clone, Copy, Debug, PartialEq, Eq)]
@@ -22,5 +29,82 @@ impl LitFault {
             LitFault::NotInCarrier => 2,
             LitFault::NotALabel => 3,
         }
+    }
+}
+
+/// Why a text gave no value or no label.
+#[derive(Clone, Copy, Debug, PartialEq, Eq, Error)]
+pub enum LitError {
+    /// It spells none.
+    #[error("the literal is refused")]
+    Bad(LitFault),
+    /// There was no memory for it.
+    #[error("out of memory")]
+    NoMemory,
+}
+
+impl From<NoMemory> for LitError {
+    ghost from_gives = { λ _ e. e ≡ error.NoMemory };
+
+    fn from(_: NoMemory) -> Self {
+        LitError::NoMemory
+    }
+}
+
+impl From<AllocError> for LitError {
+    ghost from_gives = { λ _ e. e ≡ error.NoMemory };
+
+    fn from(_: AllocError) -> Self {
+        LitError::NoMemory
+    }
+}
+
+impl<T: Drop> From<AllocFailed<T>> for LitError {
+    ghost from_gives = { λ _ e. e ≡ error.NoMemory };
+
+    fn from(_: AllocFailed<T>) -> Self {
+        LitError::NoMemory
+    }
+}
+
+// Both parts, or the first fault from the left.
+pub(crate) fn both<A: Drop, B: Drop>(
+    first: Result<A, LitFault>,
+    second: Result<B, LitFault>,
+) -> Result<(A, B), LitFault>
+    ensures { result ≡ both_of (λ a b. (a, b)) first second }
+{
+    Ok((first?, second?))
+}
+
+/// Why a reader stopped before the end of a shape.
+#[derive(Clone, Copy)]
+pub(crate) enum Stop {
+    /// What stands there has not the shape that is asked for.
+    NoShape,
+    NoMemory,
+}
+
+impl From<NoMemory> for Stop {
+    ghost from_gives = { λ _ e. e ≡ stop.NoMemory };
+
+    fn from(_: NoMemory) -> Self {
+        Stop::NoMemory
+    }
+}
+
+impl From<AllocError> for Stop {
+    ghost from_gives = { λ _ e. e ≡ stop.NoMemory };
+
+    fn from(_: AllocError) -> Self {
+        Stop::NoMemory
+    }
+}
+
+impl<T: Drop> From<AllocFailed<T>> for Stop {
+    ghost from_gives = { λ _ e. e ≡ stop.NoMemory };
+
+    fn from(_: AllocFailed<T>) -> Self {
+        Stop::NoMemory
     }
 }

@@ -1,7 +1,23 @@
-//! The texts of labels and values. For now it holds the faults of such a text alone. It stands on
-//! std.
+//! The texts of values and labels of an algebra: what spells one, which fault refuses it, and how one is
+//! printed. It knows the shapes of literals and no file, line or network, and stands on `meta_base` and
+//! `alg_model`.
 #![tactic(auto)]
 
+mod bytes;
 mod faults;
+mod label;
+mod laws;
+mod parts;
+mod print;
+mod read;
+#[cfg(test)]
+mod tests;
+mod value;
 
-pub use faults::LitFault;
+pub use faults::{LitError, LitFault};
+pub use laws::{
+    labels_are_unique, printed_labels_are_read_back, printed_values_are_read_back,
+    spelled_labels_are_not_refused, spelled_values_are_not_refused, values_are_unique,
+};
+pub use print::{print_label, print_value, push_label, push_number, push_value};
+pub use read::{read_label, read_value};

@@ -20,6 +20,6 @@ returns-clause-printable g c =
     } in
     elim c.match-verdicts.branch [
       | in-Ok-verdicts w ↦ printable_done ended c.args.file c.args.net c.in-Ok.alg w.in-Ok-verdicts.verdicts refl refl (ap (λ p. p.0) w.verdicts-is) (ap (λ p. p.1) w.verdicts-is)
-          (printable _ _ _ c.in-Ok.ensures.plain w.in-Ok-verdicts.ensures.exact w.in-Ok-verdicts.ensures.bound)
+          (printable _ _ _ w.in-Ok-verdicts.ensures.exact w.in-Ok-verdicts.ensures.bound)
       | in-Err-verdicts w ↦ printable_without_memory ended (ap (λ p. p.1) w.verdicts-is)
     ]

@@ -1,8 +1,8 @@
 use Rattle.metacli.proofs.Written.{lines_more, lines_cut, lines_front, lines_at, row_at}
 use Rattle.metacli.proofs.top.write_rows.Goals as goal
 
-pub row_line-requires-clause-row : goal.row_line-requires-clause-row
-row_line-requires-clause-row g c = row_at c.args.net.now c.args.rows.now c.loop-row.row-index c.row-item.result c.loop-row-test.true c.row-item.is c.requires.rows
+pub row_line-requires : goal.row_line-requires
+row_line-requires g c = row_at c.args.net.now c.args.rows.now c.loop-row.row-index c.row-item.result c.loop-row-test.true c.row-item.is c.requires
 
 pub returns-in-Err-put_lines : goal.returns-in-Err-put_lines
 returns-in-Err-put_lines g c =

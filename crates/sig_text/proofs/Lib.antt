@@ -1,0 +1,13 @@
+pub mod Numbers
+pub mod Sequences
+pub mod Items
+pub mod Fronts
+pub mod Values
+pub mod Meant
+pub mod Labels
+pub mod MeantLabels
+pub mod Printed
+pub mod Digits
+pub mod Sets
+pub mod RoundTrips
+pub mod LabelRoundTrips

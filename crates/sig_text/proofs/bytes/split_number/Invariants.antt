@@ -1,0 +1,15 @@
+use Rattle.std.proofs.Common.{◌≡◌, ◌<◌, ◌≤◌, ◌^◌, drop}
+use Rattle.meta_base.specs.Bytes.{is_digit, front, behind, number_from}
+use Rattle.sig_text.proofs.bytes.split_number.Given as goal
+
+-- the digits so far spell n, or more than a text may hold
+abbrev pub invariant-loop-byte : goal.invariant-loop-byte
+invariant-loop-byte l =
+    let all = number_from 0 (front is_digit l.text) in
+    record {
+      count : l.len ≡ l.byte-index;
+      behind : behind is_digit (drop l.len l.text) ≡ behind is_digit l.text;
+      bound : l.n < 2 ^ 40;
+      small : l.n ≤ 4294967295 → number_from l.n (front is_digit (drop l.len l.text)) ≡ all;
+      large : 4294967295 < l.n → 4294967295 < all;
+    }

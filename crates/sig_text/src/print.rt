@@ -1,0 +1,259 @@
+ghost use Rattle.std.specs.Prelude.{◌≡◌, ◌++◌, ◌<◌, ◌≤◌, [], ◌∷◌, OnOk, IfOk, length, decimal, string_bytes, codes, slice_get, slice_index_or};
+ghost use Rattle.alg_model.specs.Application.{IsLabel, has_mark};
+ghost use Rattle.alg_model.specs.Carriers.{carrier_of, In};
+ghost use Rattle.alg_model.specs.Formation.{MeetsRanges};
+ghost use Rattle.alg_model.specs.Texts.{numbers_text, members, value_text, label_text, row_text};
+ghost use Rattle.alg_model.specs.Views.{expression_of, pure_value, pure_label};
+ghost use Rattle.sig_text.specs.Listed.{separator};
+ghost use Rattle.alg_model.specs.declared.alg.TheConstants.{MAX_MARKS};
+
+use alg_model::{Alg, Label, MAX_MARKS, TableRow, Tree, Value};
+use itoa::Buffer;
+use meta_base::{NoMemory, Text};
+use std::alloc::Global;
+
+/// The printed text of a value of the algebra: [`crate::read_value`] reads it back. It is refused for
+/// want of memory alone.
+pub fn print_value(alloc: Global, alg: &Alg, value: &Value) -> Result<Text, NoMemory>
+    requires { In (carrier_of alg.now) (pure_value value.now) }
+    ensures { IfOk result (λ text. text ≡ value_text (carrier_of alg.now) (pure_value value.now)) }
+{
+    let mut out = String::new(alloc);
+    push_value(&mut out, alg, value)?;
+    Ok(Text::from_string(out))
+}
+
+/// The printed text of a label of the algebra: [`crate::read_label`] reads it back. It is refused for
+/// want of memory alone.
+pub fn print_label(alloc: Global, alg: &Alg, label: &Label) -> Result<Text, NoMemory>
+    requires { IsLabel alg.now (pure_label label.now) }
+    ensures { IfOk result (λ text. text ≡ label_text alg.now (pure_label label.now)) }
+{
+    let mut out = String::new(alloc);
+    push_label(&mut out, alg, label)?;
+    Ok(Text::from_string(out))
+}
+
+/// Appends the printed text of a value of the algebra. After a refusal a front of it may be there.
+pub fn push_value(out: &mut String, alg: &Alg, value: &Value) -> Result<(), NoMemory>
+    requires { In (carrier_of alg.now) (pure_value value.now) }
+    ensures { OnOk result (string_bytes out.new ≡ string_bytes out.old ++ value_text (carrier_of alg.now) (pure_value value.now)) }
+{
+    push_tree_value(out, alg.tree(), value)
+}
+
+/// Appends the printed text of a label of the algebra. After a refusal a front of it may be there.
+pub fn push_label(out: &mut String, alg: &Alg, label: &Label) -> Result<(), NoMemory>
+    requires { IsLabel alg.now (pure_label label.now) }
+    ensures { OnOk result (string_bytes out.new ≡ string_bytes out.old ++ label_text alg.now (pure_label label.now)) }
+{
+    push_tree_label(out, alg.tree(), label)
+}
+
+/// Appends a number in base ten, with no leading zero.
+pub fn push_number(out: &mut String, n: u64) -> Result<(), NoMemory>
+    ensures { OnOk result (string_bytes out.new ≡ string_bytes out.old ++ decimal n) }
+{
+    out.push_str(Buffer::new().format(n))?;
+    Ok(())
+}
+
+fn push_tree_value(out: &mut String, tree: &Tree, value: &Value) -> Result<(), NoMemory>
+    requires ranges { MeetsRanges (expression_of tree.now) }
+    requires value { In (carrier_of (expression_of tree.now)) (pure_value value.now) }
+    ensures { OnOk result (string_bytes out.new ≡ string_bytes out.old ++ value_text (carrier_of (expression_of tree.now)) (pure_value value.now)) }
+{
+    match (tree, value) {
+        (
+            Tree::Add { .. }
+            | Tree::Cap { .. }
+            | Tree::Worst { .. }
+            | Tree::Width { .. }
+            | Tree::Pref { .. }
+            | Tree::Orig { .. },
+            Value::Number(n),
+        ) => push_number(out, *n),
+        (Tree::Seq { .. } | Tree::SimSeq { .. }, Value::Symbols(ns)) => {
+            push_symbols(out, ns.as_slice())
+        }
+        (Tree::Tags { count } | Tree::Guard { count }, Value::Marks(marks)) => {
+            push_set(out, *count, *marks)
+        }
+        (Tree::Gate, Value::Unit) => push_word(out, "unit"),
+        (Tree::Table(table), Value::Name(place)) => push_name(out, table.names.as_slice(), *place),
+        (Tree::Lex(a, b) | Tree::Scoped(a, b), Value::Pair(u, v)) => {
+            out.push_str("(")?;
+            push_tree_value(out, a, u)?;
+            out.push_str(",")?;
+            push_tree_value(out, b, v)?;
+            push_word(out, ")")
+        }
+        (Tree::Union(a, _) | Tree::Sum(a, _), Value::First(u)) => {
+            out.push_str("l:")?;
+            push_tree_value(out, a, u)
+        }
+        (Tree::Union(_, b) | Tree::Sum(_, b), Value::Second(v)) => {
+            out.push_str("r:")?;
+            push_tree_value(out, b, v)
+        }
+        (Tree::Plus(a, _) | Tree::Left(a) | Tree::Right(a), _) => push_tree_value(out, a, value),
+        _ => unreachable!(),
+    }
+}
+
+fn push_tree_label(out: &mut String, tree: &Tree, label: &Label) -> Result<(), NoMemory>
+    requires ranges { MeetsRanges (expression_of tree.now) }
+    requires label { IsLabel (expression_of tree.now) (pure_label label.now) }
+    ensures { OnOk result (string_bytes out.new ≡ string_bytes out.old ++ label_text (expression_of tree.now) (pure_label label.now)) }
+{
+    match (tree, label) {
+        (
+            Tree::Add { .. }
+            | Tree::Cap { .. }
+            | Tree::Worst { .. }
+            | Tree::Width { .. }
+            | Tree::Pref { .. },
+            Label::Number(n),
+        ) => push_number(out, *n),
+        (Tree::Orig { .. } | Tree::Tags { .. } | Tree::Right(_), Label::Keep) => {
+            push_word(out, "keep")
+        }
+        (Tree::Seq { .. } | Tree::SimSeq { .. }, Label::Symbol(n)) => push_number(out, *n),
+        (Tree::Tags { .. }, Label::Mark(k)) => push_marked(out, "+", *k),
+        (Tree::Tags { .. }, Label::Unmark(k)) => push_marked(out, "-", *k),
+        (Tree::Guard { .. }, Label::Need(k)) => push_marked(out, "?", *k),
+        (Tree::Guard { .. }, Label::Bar(k)) => push_marked(out, "!", *k),
+        (Tree::Gate, Label::Allow) => push_word(out, "allow"),
+        (Tree::Gate, Label::Deny) => push_word(out, "deny"),
+        (Tree::Table(table), Label::Row(place)) => push_row(out, table.rows.as_slice(), *place),
+        (Tree::Lex(a, b), Label::Pair(l, m)) => {
+            out.push_str("(")?;
+            push_tree_label(out, a, l)?;
+            out.push_str(",")?;
+            push_tree_label(out, b, m)?;
+            push_word(out, ")")
+        }
+        (Tree::Sum(a, b), Label::Both(l, m)) => {
+            out.push_str("(")?;
+            push_tree_label(out, a, l)?;
+            out.push_str("|")?;
+            push_tree_label(out, b, m)?;
+            push_word(out, ")")
+        }
+        (Tree::Scoped(a, b), Label::Outer(l, v)) => {
+            out.push_str("out(")?;
+            push_tree_label(out, a, l)?;
+            out.push_str(",")?;
+            push_tree_value(out, b, v)?;
+            push_word(out, ")")
+        }
+        (Tree::Scoped(_, b), Label::Inner(m)) => {
+            out.push_str("in(")?;
+            push_tree_label(out, b, m)?;
+            push_word(out, ")")
+        }
+        (Tree::Union(a, _) | Tree::Plus(a, _), Label::First(l)) => {
+            out.push_str("l:")?;
+            push_tree_label(out, a, l)
+        }
+        (Tree::Union(_, b) | Tree::Plus(_, b), Label::Second(m)) => {
+            out.push_str("r:")?;
+            push_tree_label(out, b, m)
+        }
+        (Tree::Left(a), Label::Const(v)) => push_tree_value(out, a, v),
+        _ => unreachable!(),
+    }
+}
+
+fn push_word(out: &mut String, word: &str) -> Result<(), NoMemory>
+    ensures { OnOk result (string_bytes out.new ≡ string_bytes out.old ++ word.now) }
+{
+    out.push_str(word)?;
+    Ok(())
+}
+
+fn push_marked(out: &mut String, mark: &str, k: u8) -> Result<(), NoMemory>
+    ensures { OnOk result (string_bytes out.new ≡ string_bytes out.old ++ (mark.now ++ decimal k)) }
+{
+    out.push_str(mark)?;
+    push_number(out, u64::from(k))
+}
+
+fn push_name(out: &mut String, names: &[Text], place: u8) -> Result<(), NoMemory>
+    requires { place < length names.now }
+    ensures { OnOk result (string_bytes out.new ≡ string_bytes out.old ++ slice_index_or names.now place []) }
+{
+    push_word(out, names[usize::from(place)].as_str())
+}
+
+fn push_row(out: &mut String, rows: &[TableRow], place: u8) -> Result<(), NoMemory>
+    requires { place < length rows.now }
+    ensures { OnOk result (string_bytes out.new ≡ string_bytes out.old ++ row_text (slice_get rows.now place)) }
+{
+    push_word(out, rows[usize::from(place)].name.as_str())
+}
+
+fn push_symbols(out: &mut String, ns: &[u64]) -> Result<(), NoMemory>
+    ensures { OnOk result (string_bytes out.new ≡ string_bytes out.old ++ (codes "[" ++ numbers_text ns.now ++ codes "]")) }
+{
+    out.push_str("[")?;
+    push_numbers(out, ns)?;
+    push_word(out, "]")
+}
+
+#[tactic(auto, using(crate::proofs::Printed::listed_at))]
+fn push_numbers(out: &mut String, ns: &[u64]) -> Result<(), NoMemory>
+    ensures { OnOk result (string_bytes out.new ≡ string_bytes out.old ++ numbers_text ns.now) }
+{
+    let mut follows = false;
+    for n in ns {
+        push_next(out, follows, *n)?;
+        follows = true;
+    }
+    Ok(())
+}
+
+// Appends a number that stands alone, or follows others.
+fn push_next(out: &mut String, follows: bool, n: u64) -> Result<(), NoMemory>
+    ensures { OnOk result (string_bytes out.new ≡ (string_bytes out.old ++ separator follows) ++ decimal n) }
+{
+    out.push_str(separator(follows))?;
+    push_number(out, n)
+}
+
+fn separator(follows: bool) -> &'static str
+    ensures { result.now ≡ separator follows }
+{
+    if follows { "," } else { "" }
+}
+
+fn push_set(out: &mut String, count: u64, marks: u64) -> Result<(), NoMemory>
+    requires { count ≤ MAX_MARKS }
+    ensures { OnOk result (string_bytes out.new ≡ string_bytes out.old ++ (codes "{" ++ numbers_text (members count marks) ++ codes "}")) }
+{
+    out.push_str("{")?;
+    push_members(out, count, marks)?;
+    push_word(out, "}")
+}
+
+// The numbers below the count that are in the set, ascending.
+fn push_members(out: &mut String, count: u64, marks: u64) -> Result<(), NoMemory>
+    requires { count ≤ MAX_MARKS }
+    ensures { OnOk result (string_bytes out.new ≡ string_bytes out.old ++ numbers_text (members count marks)) }
+{
+    let mut follows = false;
+    for k in 0..count {
+        if is_in(marks, k) {
+            push_next(out, follows, k)?;
+            follows = true;
+        }
+    }
+    Ok(())
+}
+
+fn is_in(marks: u64, k: u64) -> bool
+    requires { k < MAX_MARKS }
+    ensures { result ≡ has_mark marks k }
+{
+    (marks >> k) & 1 == 1
+}
