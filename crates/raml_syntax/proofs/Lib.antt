@@ -21,3 +21,8 @@ pub mod Shorter
 pub mod WholeText
 pub mod RowReading
 pub mod TableReading
+pub mod Printing
+pub mod PrintedNames
+pub mod PrintedTables
+pub mod PrintedMarks
+pub mod PrintedTrees

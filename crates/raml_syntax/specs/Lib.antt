@@ -18,3 +18,4 @@ pub mod Rows
 pub mod Definitions
 pub mod Statements
 pub mod Plain
+pub mod Printed

@@ -1,7 +1,7 @@
 // The words that begin an expression of their own.
 ghost use Rattle.std.specs.Prelude.{◌≡◌, false, MatchOption};
-ghost use Rattle.raml_syntax.specs.Syntax.{is_among, is_expression_word};
-ghost use Rattle.raml_syntax.specs.Heads.{head_word, base_words, operator_words};
+ghost use Rattle.raml_syntax.specs.Syntax.{ranged_word, counted_word, paired_word, single_word, is_among, is_expression_word};
+ghost use Rattle.raml_syntax.specs.Heads.{ranged_of, counted_of, paired_of, single_of, head_word, base_words, operator_words};
 
 /// The algebras that have a top and a range.
 #[derive(Clone, Copy)]
@@ -95,5 +95,53 @@ fn operator_of(word: &[u8]) -> Option<Head>
         b"left" => Some(Head::Single(Single::Left)),
         b"right" => Some(Head::Single(Single::Right)),
         _ => None,
+    }
+}
+
+/// The word of an algebra that has a top and a range.
+pub fn ranged_word(head: Ranged) -> &'static str
+    ensures { result.now ≡ ranged_word (ranged_of head) }
+{
+    match head {
+        Ranged::Cap => "cap",
+        Ranged::Worst => "worst",
+        Ranged::Width => "width",
+    }
+}
+
+/// The word of an algebra that has one number.
+pub fn counted_word(head: Counted) -> &'static str
+    ensures { result.now ≡ counted_word (counted_of head) }
+{
+    match head {
+        Counted::Pref => "lp",
+        Counted::Orig => "op",
+        Counted::Seq => "seq",
+        Counted::SimSeq => "simseq",
+        Counted::Tags => "tags",
+        Counted::Guard => "guard",
+    }
+}
+
+/// The word of an operator on two expressions.
+pub fn paired_word(head: Paired) -> &'static str
+    ensures { result.now ≡ paired_word (paired_of head) }
+{
+    match head {
+        Paired::Lex => "lex",
+        Paired::Scoped => "scoped",
+        Paired::Union => "union",
+        Paired::Sum => "sum",
+        Paired::Plus => "plus",
+    }
+}
+
+/// The word of an operator on one expression.
+pub fn single_word(head: Single) -> &'static str
+    ensures { result.now ≡ single_word (single_of head) }
+{
+    match head {
+        Single::Left => "left",
+        Single::Right => "right",
     }
 }

@@ -1,6 +1,8 @@
 ghost use Rattle.std.specs.Prelude.{◌≡◌, ℕ, List};
 ghost use Rattle.alg_model.specs.Expressions.{Expression};
+ghost use Rattle.alg_model.specs.Formation.{IsFormed};
 ghost use Rattle.raml_syntax.specs.ExprText.{ExprText, IsExprFault};
+ghost use Rattle.raml_syntax.specs.Printed.{alg_text};
 ghost use Rattle.raml_syntax.specs.declared.faults.ExprFault.{ExprFault};
 
 /// One text means at most one algebra.
@@ -16,4 +18,9 @@ pub fn one_text_one_fault()
 /// A text that means an algebra has no fault.
 pub fn no_fault_beside_an_algebra()
     ensures { (text : List ℕ) (a : Expression) (f : ExprFault) → ExprText text a → IsExprFault text f → ⊥ }
+{}
+
+/// The text in which an algebra is printed means that algebra.
+pub fn printed_text_means_the_algebra()
+    ensures { (a : Expression) → IsFormed a → ExprText (alg_text a) a }
 {}

@@ -13,12 +13,17 @@ mod heads;
 mod laws;
 mod maps;
 mod nodes;
+mod print;
 mod table;
 mod values;
 
 pub use faults::{AlgError, ExprFault, ExprKind};
 pub use file::{is_plain_add, read_alg};
-pub use laws::{no_fault_beside_an_algebra, one_text_one_algebra, one_text_one_fault};
+pub use laws::{
+    no_fault_beside_an_algebra, one_text_one_algebra, one_text_one_fault,
+    printed_text_means_the_algebra,
+};
+pub use print::print_alg;
 
 #[cfg(test)]
 mod tests;

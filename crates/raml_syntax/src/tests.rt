@@ -1,6 +1,7 @@
-// Expression files that are read, and those that are refused, with the places of their faults.
+// Expression files that are read and printed, and those that are refused, with the places of their
+// faults.
 use crate::ExprKind::*;
-use crate::{AlgError, ExprKind, is_plain_add, read_alg};
+use crate::{AlgError, ExprKind, is_plain_add, print_alg, read_alg};
 use alg_model::{Alg, Tree};
 use meta_base::MAX_FILE_BYTES;
 use std::alloc::Global;
@@ -55,7 +56,10 @@ fn refused_files(rt: HostRuntime) {
         (b"main lex;", Unexpected, 9),
         (b"main 4294967296;", Unexpected, 6),
         (b"gate;", Unexpected, 1),
+        (b"raml 1; main gate;", Unexpected, 1),
         (b"", EndOfText, 1),
+        (b"let", EndOfText, 4),
+        (b"let rel = table { c <", EndOfText, 22),
         (b"main lex(add(1..10)", EndOfText, 20),
         (b"main add(1..4294967296);", NumberTooLarge, 13),
         (b"main gate; 4294967296", NumberTooLarge, 12),
@@ -66,6 +70,8 @@ fn refused_files(rt: HostRuntime) {
         (b"let left = gate; main gate;", NameTwice, 5),
         (b"main add(5..4);", BadRange, 13),
         (b"main add(5..4", BadRange, 13),
+        (b"main simseq(1025);", BadRange, 13),
+        (b"main add(1.", BadByte, 11),
         (b"main plus(add(1..2), seq(3));", CarriersDiffer, 28),
         (b"main table { a < a; Z: none };", BadTable, 18),
         (b"main gate; gate", TrailingText, 12),
@@ -144,5 +150,23 @@ fn tables(rt: HostRuntime) -> Result<(), Fail> {
     let text = b"main table { o < a = d; D: o -> d; N: none };";
     let gadget = read(rt.alloc(), text.as_slice())?;
     assert!(rt; is_gadget(gadget.tree(), 2));
+    Ok(())
+}
+
+#[test]
+fn printed(rt: HostRuntime) -> Result<(), Fail> {
+    let pair = read(
+        rt.alloc(),
+        b"main lex(width(100; 0..100), add(1..10));".as_slice(),
+    )?;
+    let text = print_alg(rt.alloc(), &pair)?;
+    assert_eq!(rt; text.as_str(), "main lex(width(100;0..100),add(1..10));\n");
+
+    let table = read(
+        rt.alloc(),
+        b"main table { o < a = d; D: d -> a, o -> d; N: none };".as_slice(),
+    )?;
+    let text = print_alg(rt.alloc(), &table)?;
+    assert_eq!(rt; text.as_str(), "main table{o<a=d;D:o->d,d->a;N:none};\n");
     Ok(())
 }
