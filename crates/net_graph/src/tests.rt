@@ -87,8 +87,7 @@ fn copies_a_route(rt: HostRuntime) -> Result<(), Fail> {
         path,
     };
     let copied = route.copy(rt.alloc())?;
-    let Value::Number(n) = copied.value;
-    assert_eq!(rt; n, 7);
+    assert!(rt; matches!(&copied.value, Value::Number(7)));
     assert_eq!(rt; copied.path.as_slice(), [NodeId(4)].as_slice());
     let table = DestTable {
         dest: DestId(0),
