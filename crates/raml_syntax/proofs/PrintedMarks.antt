@@ -1,8 +1,7 @@
 -- The text of a table has the tokens of its tree, and none of them is at fault.
-use Rattle.std.proofs.Common.{◌≡◌, ℕ, ◌+◌, ◌<◌, ◌≤◌, ◌==◌, Bool, true, false, not, ◌&&◌, ◌||◌, cond, nat_lt, nat_le, List, [], ◌∷◌, ◌++◌, map, length, get_or, Option, Some, None, bytes_eq, codes, refl, ap, sym, subst, ◌∙◌, arith, append_assoc, append-nil, length-append}
+use Rattle.std.proofs.Common.{◌≡◌, ℕ, ◌+◌, ◌≤◌, ◌==◌, Bool, true, false, not, ◌&&◌, ◌||◌, cond, nat_lt, nat_le, List, [], ◌∷◌, ◌++◌, map, length, get_or, Option, Some, None, bytes_eq, codes, refl, ap, sym, subst, ◌∙◌, arith, append_assoc, append-nil, length-append}
 use Rattle.std.specs.List.{list_all, AllByRecursion}
-use Rattle.std.proofs.lemmas.Bool.{and_parts, and_from, or_right, not_from_false, cond-true, le-leb}
-use Rattle.std.proofs.lemmas.Bool.Decides.{nat_tests}
+use Rattle.std.proofs.lemmas.Bool.{ltb-true, and_parts, and_from, or_right, not_from_false, cond-true, le-leb}
 use Rattle.meta_base.specs.declared.limits.TheConstants.{MAX_NUMBER}
 use Rattle.meta_base.specs.Bytes.{is_word}
 use Rattle.raml_lex.specs.Tokens.{token, left_brace, right_brace, comma, semicolon, colon, arrow, step_of}
@@ -14,9 +13,9 @@ use Rattle.raml_syntax.specs.Syntax.{MapSyntax, is_among, is_none, AreMaps, IsRo
 use Rattle.raml_syntax.specs.Meaning.{value_names}
 use Rattle.raml_syntax.specs.Marks.{Mark, plain, plain_word, own_name, rank_tok, values_marks, map_marks, more_map_marks, maps_marks, row_marks, rows_marks, table_marks}
 use Rattle.raml_syntax.specs.Printed.{rank_text, more_values_text, values_text, maps_of, map_text, more_maps_text, maps_text, row_text, rows_text}
-use Rattle.raml_syntax.proofs.PrintedNames.{differ, Fresh, off, first_apart, fresh_first, fresh_less, fresh_more, at_among, at_all}
+use Rattle.raml_syntax.proofs.PrintedNames.{differ, Fresh, first_apart, fresh_first, fresh_less, fresh_more, at_among, at_all}
 use Rattle.raml_syntax.proofs.PrintedTables.{values_of, maps_syntax, row_syntax, table_from, IsNamedTable, names_back}
-use Rattle.raml_syntax.proofs.Printing.{stops, stops_append, IsPrinted, printed_none, mark_next, word_next, printed_then}
+use Rattle.raml_syntax.proofs.Printing.{off, stops, stops_append, IsPrinted, printed_none, mark_next, word_next, printed_then}
 
 -- a name of a table is a word other than `none`
 name_word : (w : List ℕ) → is_table_name w ≡ true → is_word w ≡ true
@@ -70,9 +69,6 @@ abbrev AreMapsOf : List (List ℕ) → List (List ℕ) → List MapSyntax → Ty
 AreMapsOf all before [] = Unit {0}
 AreMapsOf all before (m ∷ ms) = IsMap all before m × AreMapsOf all (before ++ m.source ∷ []) ms
 
-lt_count : (k n : ℕ) → nat_lt k n ≡ true → k < n
-lt_count k n h = grind (arith, nat_tests)
-
 are_maps_of : (all before ns : List (List ℕ)) (images : List (Option ℕ)) → list_all is_table_name all ≡ true → ((w : List ℕ) → is_among ns w ≡ true → is_among all w ≡ true)
     → Fresh before ns → differ ns ≡ true → list_all is_table_name ns ≡ true → list_all (is_place_or_none (length all)) images ≡ true → AreMapsOf all before (maps_of all ns images)
 are_maps_of all before [] images names within f d h places = tt
@@ -81,7 +77,7 @@ are_maps_of all before (n ∷ ns) (Some k ∷ images) names within f d h places 
     let apart = first_apart n ns d in
     let p = and_parts (is_table_name n) (list_all is_table_name ns) h in
     let q = and_parts (nat_lt k (length all)) (list_all (is_place_or_none (length all)) images) places in
-    let low = lt_count k (length all) q.0 in
+    let low = ltb-true k (length all) q.0 in
     let self : is_among (n ∷ ns) n ≡ true = at_among (n ∷ ns) 0 (omega arith) in (
       record {
         source = p.0;

@@ -1,12 +1,12 @@
 -- Lists of a table's names, which differ.
 use Rattle.std.proofs.Common.{◌≡◌, ℕ, ◌+◌, ◌<◌, zero, suc, Bool, true, false, not, ◌||◌, cond, nat_lt, List, [], ◌∷◌, ◌++◌, length, get_or, Some, None, bytes_eq, refl, ap, ap₂, sym, ◌∙◌, arith}
 use Rattle.std.specs.List.{list_all, position_or_len}
-use Rattle.std.proofs.lemmas.Bool.{and_parts, or_parts, or_left, or_right, not_from_true, not_from_false, cond-true, cond-false, false≢true}
-use Rattle.std.proofs.lemmas.Bool.Decides.{nat_tests}
+use Rattle.std.proofs.lemmas.Bool.{lt-ltb, and_parts, or_parts, or_left, or_right, not_from_true, not_from_false, cond-true, cond-false, false≢true}
 use Rattle.alg_model.specs.Formation.{are_distinct}
 use Rattle.raml_syntax.specs.Syntax.{is_among}
 use Rattle.raml_syntax.specs.Meaning.{place_of}
 use Rattle.raml_syntax.proofs.TestLaws.{bytes_same, bytes_self}
+use Rattle.raml_syntax.proofs.Printing.{off}
 
 -- no two of them are the same
 abbrev pub differ : List (List ℕ) → Bool
@@ -15,10 +15,6 @@ differ names = are_distinct (λ (name : List ℕ). name) names
 -- none of these is among those before
 abbrev pub Fresh : List (List ℕ) → List (List ℕ) → Type 0
 Fresh before names = (w : List ℕ) → is_among names w ≡ true → is_among before w ≡ false
-
-pub off : (b : Bool) → not b ≡ true → b ≡ false
-off true e = sym e
-off false e = refl
 
 pub bytes_differ : (x y : List ℕ) → bytes_eq x y ≡ false → bytes_eq y x ≡ false
 bytes_differ x y h = by (bytes_eq y x) refl
@@ -73,5 +69,4 @@ place_len (n ∷ ns) (suc k) d h =
 
 pub place_at : (ns : List (List ℕ)) (k : ℕ) → differ ns ≡ true → k < length ns → place_of ns (get_or ns k []) ≡ Some k
 place_at ns k d h =
-    let within : nat_lt k (length ns) ≡ true = grind (arith, nat_tests) in
-    ap (λ i. cond (nat_lt i (length ns)) (Some i) None) (place_len ns k d h) ∙ cond-true (nat_lt k (length ns)) (Some k) None within
+    ap (λ i. cond (nat_lt i (length ns)) (Some i) None) (place_len ns k d h) ∙ cond-true (nat_lt k (length ns)) (Some k) None (lt-ltb k (length ns) h)

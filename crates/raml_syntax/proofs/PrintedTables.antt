@@ -1,8 +1,7 @@
 -- The tree of a table's text, which means the table.
-use Rattle.std.proofs.Common.{◌≡◌, ℕ, ◌+◌, ◌<◌, ◌≤◌, ◌==◌, Bool, true, false, not, ◌&&◌, ◌||◌, cond, nat_lt, nat_le, List, [], ◌∷◌, map, length, get_or, Option, Some, None, option_and_then, bytes_eq, refl, ap, ap₂, sym, ◌∙◌, arith}
+use Rattle.std.proofs.Common.{◌≡◌, ℕ, ◌+◌, ◌≤◌, ◌==◌, Bool, true, false, not, ◌&&◌, ◌||◌, cond, nat_lt, nat_le, List, [], ◌∷◌, map, length, get_or, Option, Some, None, option_and_then, bytes_eq, refl, ap, ap₂, sym, ◌∙◌, arith}
 use Rattle.std.specs.List.{list_all, list_any}
-use Rattle.std.proofs.lemmas.Bool.{and_parts, or_parts, cond-true, cond-false, eqb-true, leb-true}
-use Rattle.std.proofs.lemmas.Bool.Decides.{nat_tests}
+use Rattle.std.proofs.lemmas.Bool.{ltb-true, and_parts, or_parts, cond-true, cond-false, eqb-true, leb-true}
 use Rattle.alg_model.specs.declared.alg.TheConstants.{MAX_TABLE_NAMES}
 use Rattle.alg_model.specs.declared.tree.TableSpec.{TableSpec}
 use Rattle.alg_model.specs.declared.tree.TableRow.{TableRow}
@@ -123,9 +122,6 @@ not_mapped all n (x ∷ ns) (None ∷ images) h =
     let p = or_parts (bytes_eq x n) (is_among ns n) h in
     not_mapped all n ns images p.1
 
-lt_count : (k n : ℕ) → nat_lt k n ≡ true → k < n
-lt_count k n h = grind (arith, nat_tests)
-
 images_back : (all ns : List (List ℕ)) (images : List (Option ℕ)) → length images ≡ length ns → list_all (is_place_or_none (length all)) images ≡ true → differ all ≡ true → differ ns ≡ true
     → map (image_place all (maps_of all ns images)) ns ≡ images
 images_back all [] [] l places d e = refl
@@ -135,7 +131,7 @@ images_back all (n ∷ ns) (Some k ∷ images) l places d e =
     let apart = first_apart n ns e in
     let p = and_parts (nat_lt k (length all)) (list_all (is_place_or_none (length all)) images) places in
     ap₂ (λ y ys. y ∷ ys)
-    (ap (λ o. option_and_then (place_of all) o) (cond-true (bytes_eq n n) (Some (get_or all k [])) _ (bytes_self n)) ∙ place_at all k d (lt_count k (length all) p.0))
+    (ap (λ o. option_and_then (place_of all) o) (cond-true (bytes_eq n n) (Some (get_or all k [])) _ (bytes_self n)) ∙ place_at all k d (ltb-true k (length all) p.0))
     (skipped all n (get_or all k []) (maps_of all ns images) ns apart.0 ∙ images_back all ns images (omega arith) p.1 d apart.1)
 images_back all (n ∷ ns) (None ∷ images) l places d e =
     let apart = first_apart n ns e in

@@ -34,7 +34,7 @@ pub stops_append : (s z : List ℕ) → stops s ≡ true → stops z ≡ true �
 stops_append [] z p q = q
 stops_append (c ∷ s) z p q = p
 
-off : (b : Bool) → not b ≡ true → b ≡ false
+pub off : (b : Bool) → not b ≡ true → b ≡ false
 off true e = sym e
 off false e = refl
 

@@ -13,7 +13,8 @@ use itoa::Buffer;
 use meta_base::{NoMemory, Text};
 use std::alloc::Global;
 
-/// The text of an algebra, which reads back as the same algebra.
+/// The text of an algebra as a file of one `main`. It means that algebra
+/// ([`crate::printed_text_means_the_algebra`]).
 pub fn print_alg(alloc: Global, alg: &Alg) -> Result<Text, NoMemory>
     ensures { IfOk result (λ text. text ≡ alg_text alg.now) }
 {
