@@ -391,3 +391,17 @@ fn tells_carriers_and_members(rt: HostRuntime) -> Result<(), Fail> {
     assert!(rt; value_in(&cap, &Value::Number(5)) && !value_in(&cap, &Value::Number(6)));
     Ok(())
 }
+
+#[test]
+fn refuses_what_breaks_a_rule(rt: HostRuntime) -> Result<(), Fail> {
+    let empty = Tree::Add { low: 5, high: 4 };
+    assert_eq!(rt; Alg::checked(empty).err(), Some(Shape::Range));
+    let numbers = Tree::Add { low: 1, high: 2 };
+    let sequences = Tree::Seq { symbols: 3 };
+    let mixed = Tree::Plus(
+        Box::new(rt.alloc(), numbers)?,
+        Box::new(rt.alloc(), sequences)?,
+    );
+    assert_eq!(rt; Alg::checked(mixed).err(), Some(Shape::Carriers));
+    Ok(())
+}
