@@ -13,8 +13,6 @@ mod formation;
 mod laws;
 mod membership;
 mod preference;
-#[cfg(test)]
-mod tests;
 mod tree;
 
 pub use alg::{Alg, MAX_MARKS, MAX_SIMPLE_SYMBOLS, MAX_TABLE_NAMES, MAX_TREE_NODES, Shape};

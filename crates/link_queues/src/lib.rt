@@ -11,6 +11,3 @@ mod pair;
 pub use in_end::InEnd;
 pub use out_end::OutEnd;
 pub use pair::{link, settle_pair};
-
-#[cfg(test)]
-mod tests;

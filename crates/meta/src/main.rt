@@ -1,17 +1,15 @@
-//! The program: it hands the real outside to the top call. It stands on `metacli`, where all that it
-//! does is decided, and on the traits of `meta_base`.
+//! The program: it hands the system's files and standard output, as `host_io` adapts them, to the top
+//! call of `metacli`, where all that it does is decided.
 #![tactic(auto)]
 
 ghost use Rattle.std.specs.Prelude.{◌≡◌};
 ghost use Rattle.meta.specs.declared.WordsError.TheVariants.{NoMemory as NoMemoryLeft};
 
-mod edge;
-
-use edge::{FileShelf, OutSink};
+use host_io::{FileShelf, OutSink};
 use meta_base::{NoMemory, OpenGate, Text, put_all};
 use metacli::{run_meta, status};
 use std::process::ExitCode;
-use std::rt::Env;
+use std::rt::{Env, Files};
 use std::{env, io};
 
 // Why there are no words.
@@ -43,18 +41,23 @@ fn read_args<R: AllocGlobal + Env>(rt: &R) -> Result<Vec<Text>, WordsError> {
     Ok(words)
 }
 
-fn main(rt: HostRuntime) -> ExitCode {
-    let mut out = OutSink::new(&rt);
-    match read_args(&rt) {
+// What the program does, and the status that it ends with.
+fn run<R: AllocGlobal + Env + Files + Print>(rt: &R) -> u8 {
+    let mut out = OutSink::new(rt);
+    match read_args(rt) {
         Ok(words) => {
-            let mut shelf = FileShelf::new(&rt);
-            let ended = run_meta(&rt, &words, &mut shelf, &mut out, &OpenGate);
-            ExitCode::from(status(&ended.answer))
+            let mut shelf = FileShelf::new(rt);
+            let ended = run_meta(rt, &words, &mut shelf, &mut out, &OpenGate);
+            status(&ended.answer)
         }
         Err(WordsError::NotText) => match put_all(&mut out, b"words refused: C2\n") {
-            Ok(()) => ExitCode::from(1),
-            Err(_) => ExitCode::from(6),
+            Ok(()) => 1,
+            Err(_) => 6,
         },
-        Err(WordsError::NoMemory) => ExitCode::from(7),
+        Err(WordsError::NoMemory) => 7,
     }
+}
+
+fn main(rt: HostRuntime) -> ExitCode {
+    ExitCode::from(run(&rt))
 }

@@ -15,6 +15,3 @@ pub use inference::verdicts;
 pub use top::run_meta;
 pub use verdict::{Instance, Property, Verdict, Verdicts};
 pub use words::{Command, WordsFault, read_words};
-
-#[cfg(test)]
-mod tests;

@@ -10,8 +10,6 @@ mod net;
 mod pairs;
 mod parts;
 mod route;
-#[cfg(test)]
-mod tests;
 
 pub use draft::NetDraft;
 pub use net::Net;

@@ -8,6 +8,3 @@ mod totals;
 
 pub use book::{Book, Share};
 pub use totals::{Sight, Totals};
-
-#[cfg(test)]
-mod tests;

@@ -24,6 +24,3 @@ pub use laws::{
     printed_text_means_the_algebra,
 };
 pub use print::print_alg;
-
-#[cfg(test)]
-mod tests;

@@ -10,8 +10,6 @@ mod laws;
 mod parts;
 mod print;
 mod read;
-#[cfg(test)]
-mod tests;
 mod value;
 
 pub use faults::{LitError, LitFault};

@@ -13,6 +13,3 @@ mod texts;
 pub use faults::{NetError, NetFault, NetKind, What};
 pub use laws::{networks_keep_their_algebra, one_text_one_network};
 pub use network::read_net;
-
-#[cfg(test)]
-mod tests;

@@ -1,4 +1,4 @@
--- What the real outside shows: counts alone.
+-- What the system shows of its files and of standard output: counts alone.
 use Rattle.std.specs.Prelude.{ℕ, Bool, false, [], None}
 use Rattle.meta_base.specs.Shelf.{Moment}
 use Rattle.meta_base.specs.Sink.{Held}

@@ -1,7 +1,8 @@
-use super::*;
+// Tests of `metacli`: whole runs over memory, from words and files to the status and what was written.
 use meta_base::{
     List, MAX_FILE_BYTES, MemFile, MemShelf, MemSink, NoMemory, OpenGate, Shelf, Sink, Text,
 };
+use metacli::{run_meta, status};
 use std::alloc::Global;
 use std::str;
 use std::test::Fail;
@@ -92,6 +93,8 @@ fn all_five_hold(rt: HostRuntime) -> Result<(), Fail> {
     for file in [
         b"main add(1..10);".as_slice(),
         b"\tmain\r\nadd (0001 ..4294967295 ) ;\n",
+        b"main add(1..10); # all",
+        b"let a = add(1..10); main a;",
     ] {
         let outcome = run(&rt, &["check", "f"], file)?;
         assert_eq!(rt; outcome.taken.as_slice(), ALL_HOLD);
@@ -166,18 +169,6 @@ fn expressions_are_refused(rt: HostRuntime) -> Result<(), Fail> {
 }
 
 #[test]
-fn comments_and_names(rt: HostRuntime) -> Result<(), Fail> {
-    for file in [
-        b"main add(1..10); # all".as_slice(),
-        b"let a = add(1..10); main a;",
-    ] {
-        let outcome = run(&rt, &["check", "f"], file)?;
-        assert_eq!(rt; outcome.taken.as_slice(), ALL_HOLD);
-    }
-    Ok(())
-}
-
-#[test]
 fn long_files(rt: HostRuntime) -> Result<(), Fail> {
     let mut file = vec![in rt.alloc(); b'#'; MAX_FILE_BYTES]?;
     let outcome = run(&rt, &["check", "f"], &file)?;
@@ -243,72 +234,68 @@ fn writing_fails(rt: HostRuntime) -> Result<(), Fail> {
 const DIAMOND: &[u8] =
     b"node a b c d\nlink a b : 1\nlink a c : 1\nlink b d : 1\nlink c d : 1\norigin x at d : 0\n";
 
-fn diamond() -> &'static [u8] {
-    DIAMOND
-}
-
 const DIAMOND_ROUTES: &[u8] = b"a x 2 a b d\nb x 1 b d\nc x 1 c d\nd x 0 d\n";
-
-fn diamond_routes() -> &'static [u8] {
-    DIAMOND_ROUTES
-}
-
-#[test]
-fn smaller_numbers_are_taken(rt: HostRuntime) -> Result<(), Fail> {
-    let outcome = run_on(&rt, &["route", "f", "n"], b"main add(1..1);", diamond())?;
-    assert_eq!(rt; outcome.taken.as_slice(), diamond_routes());
-    assert_eq!(rt; outcome.status, 0);
-    Ok(())
-}
 
 // Two ways from a to c that are equally good: the shorter one is taken. From d there is none.
 const TRIANGLE: &[u8] =
     b"node a b c d\nlink a b : 1\nlink b c : 1\nlink a c : 2\norigin x at c : 0\n";
 
-fn triangle() -> &'static [u8] {
-    TRIANGLE
-}
-
 const TRIANGLE_ROUTES: &[u8] = b"a x 2 a c\nb x 1 b c\nc x 0 c\nd x none\n";
 
-fn triangle_routes() -> &'static [u8] {
-    TRIANGLE_ROUTES
-}
-
 #[test]
-fn shorter_paths_are_taken(rt: HostRuntime) -> Result<(), Fail> {
-    let outcome = run_on(&rt, &["route", "f", "n"], b"main add(1..2);", triangle())?;
-    assert_eq!(rt; outcome.taken.as_slice(), triangle_routes());
+fn routes_are_found(rt: HostRuntime) -> Result<(), Fail> {
+    let cases: &[(&[u8], &[u8])] = &[
+        (DIAMOND, DIAMOND_ROUTES),
+        (TRIANGLE, TRIANGLE_ROUTES),
+        (b"", b""),
+    ];
+    for (net, routes) in cases {
+        let outcome = run_on(&rt, &["route", "f", "n"], b"main add(1..2);", *net)?;
+        assert_eq!(rt; outcome.taken.as_slice(), *routes);
+        assert_eq!(rt; outcome.status, 0);
+    }
     Ok(())
 }
 
+// The network file is begun only once the expression is read.
 #[test]
-fn empty_networks_have_no_rows(rt: HostRuntime) -> Result<(), Fail> {
-    let outcome = run_on(&rt, &["route", "f", "n"], b"main add(1..2);", b"")?;
-    assert_eq!(rt; outcome.taken.len(), 0);
-    assert_eq!(rt; outcome.status, 0);
-    Ok(())
-}
-
-#[test]
-fn networks_are_refused(rt: HostRuntime) -> Result<(), Fail> {
-    let outcome = run_on(&rt, &["route", "f", "n"], b"main add(1..2);", b"edge a b\n")?;
-    assert_eq!(rt;
-        outcome.taken.as_slice(),
-        b"network refused: N1 at line 1\n".as_slice()
-    );
-    assert_eq!(rt; outcome.status, 2);
-    Ok(())
-}
-
-#[test]
-fn networks_may_be_missing(rt: HostRuntime) -> Result<(), Fail> {
-    let outcome = run_on(&rt, &["route", "f", "m"], b"main add(1..2);", b"")?;
-    assert_eq!(rt;
-        outcome.taken.as_slice(),
-        b"read fault on the network\n".as_slice()
-    );
-    assert_eq!(rt; outcome.status, 5);
+fn network_files_are_read_second(rt: HostRuntime) -> Result<(), Fail> {
+    let long = vec![in rt.alloc(); b'#'; MAX_FILE_BYTES + 1]?;
+    let cases: &[(&str, &[u8], &[u8], &[u8], u8)] = &[
+        (
+            "n",
+            b"main",
+            b"edge a b\n",
+            b"expression refused: X3 at 1:5\n",
+            2,
+        ),
+        (
+            "n",
+            b"main add(1..2);",
+            b"edge a b\n",
+            b"network refused: N1 at line 1\n",
+            2,
+        ),
+        (
+            "m",
+            b"main add(1..10);",
+            b"",
+            b"read fault on the network\n",
+            5,
+        ),
+        (
+            "n",
+            b"main add(1..10);",
+            &long,
+            b"too long: the network\n",
+            8,
+        ),
+    ];
+    for (name, file, net, text, status) in cases {
+        let outcome = run_on(&rt, &["route", "f", *name], *file, *net)?;
+        assert_eq!(rt; outcome.taken.as_slice(), *text);
+        assert_eq!(rt; outcome.status, *status);
+    }
     Ok(())
 }
 
@@ -325,12 +312,9 @@ fn bad_line(rt: &impl AllocGlobal, net: &[u8]) -> Result<u8, Fail> {
 }
 
 #[test]
-fn node_lines(rt: HostRuntime) -> Result<(), Fail> {
-    for (line, net) in [
-        (
-            0,
-            b"# node a\r\n\nnode a\tb-1 _.Z # c\r\n \t\nnode c".as_slice(),
-        ),
+fn bad_lines_are_told(rt: HostRuntime) -> Result<(), Fail> {
+    let cases: &[(u8, &[u8])] = &[
+        (0, b"# node a\r\n\nnode a\tb-1 _.Z # c\r\n \t\nnode c"),
         (1, b"node"),
         (1, b"edge a b"),
         (1, b"Node a"),
@@ -344,16 +328,7 @@ fn node_lines(rt: HostRuntime) -> Result<(), Fail> {
         (1, b"node abcdefghijklmnopqrstuvwxyz0123456"),
         (2, b"node a\nnode b a"),
         (1, b"node a b a"),
-    ] {
-        assert_eq!(rt; bad_line(&rt, net)?, line);
-    }
-    Ok(())
-}
-
-#[test]
-fn link_lines(rt: HostRuntime) -> Result<(), Fail> {
-    for (line, net) in [
-        (0, b"node a b\nlink a b : 9\nlink b\ta:\t01 ".as_slice()),
+        (0, b"node a b\nlink a b : 9\nlink b\ta:\t01 "),
         (2, b"node a b\nlink a b 1"),
         (2, b"node a b\nlink a : 1"),
         (2, b"node a b\nlink a b b : 1"),
@@ -365,19 +340,7 @@ fn link_lines(rt: HostRuntime) -> Result<(), Fail> {
         (2, b"node a b\nlink a c : 1"),
         (2, b"node a b\nlink a a : 1"),
         (4, b"node a b\nlink a b : 1\n\nlink a b : 2"),
-    ] {
-        assert_eq!(rt; bad_line(&rt, net)?, line);
-    }
-    Ok(())
-}
-
-#[test]
-fn origin_lines(rt: HostRuntime) -> Result<(), Fail> {
-    for (line, net) in [
-        (
-            0,
-            b"node a\norigin a at a : 4294967295\norigin b at a:0".as_slice(),
-        ),
+        (0, b"node a\norigin a at a : 4294967295\norigin b at a:0"),
         (2, b"node a\norigin a at a 0"),
         (2, b"node a\norigin a on a : 0"),
         (2, b"node a\norigin a at : 0"),
@@ -385,8 +348,9 @@ fn origin_lines(rt: HostRuntime) -> Result<(), Fail> {
         (2, b"node a\norigin a at a : 4294967296"),
         (2, b"node a\norigin a at a : q"),
         (3, b"node a\norigin a at a : 0\norigin a at a : 1"),
-    ] {
-        assert_eq!(rt; bad_line(&rt, net)?, line);
+    ];
+    for (line, net) in cases {
+        assert_eq!(rt; bad_line(&rt, *net)?, *line);
     }
     Ok(())
 }
@@ -397,30 +361,6 @@ fn long_lines(rt: HostRuntime) -> Result<(), Fail> {
     assert_eq!(rt; bad_line(&rt, &line)?, 0);
     line.push(b'\r')?;
     assert_eq!(rt; bad_line(&rt, &line)?, 1);
-    Ok(())
-}
-
-#[test]
-fn network_files_are_read_second(rt: HostRuntime) -> Result<(), Fail> {
-    let words = ["route", "f", "n"];
-    let outcome = run_on(&rt, &words, b"main", b"edge a b\n")?;
-    assert_eq!(rt;
-        outcome.taken.as_slice(),
-        b"expression refused: X3 at 1:5\n".as_slice()
-    );
-    let outcome = run_on(&rt, &["route", "f", "m"], b"main add(1..10);", b"")?;
-    assert_eq!(rt;
-        outcome.taken.as_slice(),
-        b"read fault on the network\n".as_slice()
-    );
-    assert_eq!(rt; outcome.status, 5);
-    let long = vec![in rt.alloc(); b'#'; MAX_FILE_BYTES + 1]?;
-    let outcome = run_on(&rt, &words, b"main add(1..10);", &long)?;
-    assert_eq!(rt;
-        outcome.taken.as_slice(),
-        b"too long: the network\n".as_slice()
-    );
-    assert_eq!(rt; outcome.status, 8);
     Ok(())
 }
 

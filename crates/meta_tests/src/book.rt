@@ -1,8 +1,9 @@
+// Tests of `quiet_ledger`: that commits are counted, in one thread and in two.
 ghost use Rattle.std.specs.Prelude.{◌≡◌, ◌+◌, ◌≤◌, ◌^◌, IfOk};
 ghost use Rattle.quiet_ledger.specs.Ledger.{sent_by, taken_by};
 
-use super::*;
 use meta_base::{List, NoMemory};
+use quiet_ledger::{Book, Share, Sight, Totals};
 use std::alloc::Global;
 use std::sync::Wait;
 use std::test::Fail;

@@ -1,7 +1,8 @@
+// Tests of `link_queues`: that what is sent is taken, in one thread and in two.
 ghost use Rattle.std.specs.Prelude.{◌≡◌, ◌≤◌, IfOk};
 ghost use Rattle.link_queues.specs.Links.{spare_of, out_link, in_link};
 
-use super::*;
+use link_queues::{InEnd, OutEnd, link, settle_pair};
 use meta_base::NoMemory;
 use std::alloc::Global;
 use std::sync::atomic::{AtomicBool, Ordering};

@@ -1,19 +1,23 @@
-// Expression files that are read and printed, and those that are refused, with the places of their
-// faults.
-use crate::ExprKind::*;
-use crate::{AlgError, ExprKind, is_plain_add, print_alg, read_alg};
+// Tests of `raml_syntax`: expression files that are read and printed, and those that are refused, with
+// the places of their faults.
+use crate::readers::algebra_of_file;
 use alg_model::{Alg, Tree};
-use meta_base::MAX_FILE_BYTES;
+use meta_base::{MAX_FILE_BYTES, Text};
+use raml_syntax::ExprKind::*;
+use raml_syntax::{AlgError, ExprFault, ExprKind, is_plain_add, print_alg, read_alg};
 use std::alloc::Global;
 use std::process::Abort;
 use std::test::Fail;
 
-// What the text means. No text here is too long for a file.
-fn read(alloc: Global, text: &[u8]) -> Result<Alg, AlgError> {
+// The fault of a text that means no algebra.
+fn fault_of(alloc: Global, text: &[u8]) -> Option<ExprFault> {
     if text.len() > MAX_FILE_BYTES {
-        return Err(AlgError::NoMemory);
+        return None;
     }
-    read_alg(alloc, text)
+    match read_alg(alloc, text) {
+        Err(AlgError::Bad(fault)) => Some(fault),
+        _ => None,
+    }
 }
 
 // The text is refused for this fault, at this line and column.
@@ -25,26 +29,14 @@ fn check_refused(
     line: u32,
     column: u32,
 ) {
-    match read(alloc, text) {
-        Err(AlgError::Bad(fault)) => {
+    match fault_of(alloc, text) {
+        Some(fault) => {
             assert_eq!(rt; fault.kind, kind);
             assert_eq!(rt; fault.place.line, line);
             assert_eq!(rt; fault.place.column, column);
         }
-        _ => panic!(rt; "no fault"),
+        None => panic!(rt; "no fault"),
     }
-}
-
-#[test]
-fn files(rt: HostRuntime) -> Result<(), Fail> {
-    let number = read(rt.alloc(), b"main add(1..4294967295);")?;
-    assert!(rt; is_plain_add(&number));
-
-    // `none` is reserved only in tables.
-    let gate = read(rt.alloc(), b"let none = gate; # a name\nmain none;")?;
-    assert!(rt; matches!(gate.tree(), Tree::Gate));
-    assert!(rt; !is_plain_add(&gate));
-    Ok(())
 }
 
 #[test]
@@ -125,7 +117,7 @@ fn many_names(rt: HostRuntime) -> Result<(), Fail> {
         text.extend_from_slice(line.as_bytes())?;
     }
     text.extend_from_slice(b"main lex(n0, n199999);")?;
-    let pair = read(rt.alloc(), text.as_slice())?;
+    let pair = algebra_of_file(rt.alloc(), text.as_slice())?;
     assert!(rt; matches!(pair.tree(), Tree::Lex(..)));
     Ok(())
 }
@@ -147,26 +139,45 @@ fn is_gadget(tree: &Tree, image: u8) -> bool {
 
 #[test]
 fn tables(rt: HostRuntime) -> Result<(), Fail> {
-    let text = b"main table { o < a = d; D: o -> d; N: none };";
-    let gadget = read(rt.alloc(), text.as_slice())?;
+    let gadget = algebra_of_file(rt.alloc(), b"main table { o < a = d; D: o -> d; N: none };")?;
     assert!(rt; is_gadget(gadget.tree(), 2));
     Ok(())
 }
 
-#[test]
-fn printed(rt: HostRuntime) -> Result<(), Fail> {
-    let pair = read(
-        rt.alloc(),
-        b"main lex(width(100; 0..100), add(1..10));".as_slice(),
-    )?;
-    let text = print_alg(rt.alloc(), &pair)?;
-    assert_eq!(rt; text.as_str(), "main lex(width(100;0..100),add(1..10));\n");
+// The text of an algebra, printed.
+fn printed(alloc: Global, alg: &Alg) -> Result<Text, Fail> {
+    Ok(print_alg(alloc, alg)?)
+}
 
-    let table = read(
-        rt.alloc(),
-        b"main table { o < a = d; D: d -> a, o -> d; N: none };".as_slice(),
-    )?;
-    let text = print_alg(rt.alloc(), &table)?;
-    assert_eq!(rt; text.as_str(), "main table{o<a=d;D:o->d,d->a;N:none};\n");
+#[test]
+fn printed_files(rt: HostRuntime) -> Result<(), Fail> {
+    let cases: &[(&[u8], &str, bool)] = &[
+        (
+            b"main add(1..4294967295);",
+            "main add(1..4294967295);\n",
+            true,
+        ),
+        // `none` is reserved only in tables.
+        (
+            b"let none = gate; # a name\nmain none;",
+            "main gate;\n",
+            false,
+        ),
+        (
+            b"main lex(width(100; 0..100), add(1..10));",
+            "main lex(width(100;0..100),add(1..10));\n",
+            false,
+        ),
+        (
+            b"main table { o < a = d; D: d -> a, o -> d; N: none };",
+            "main table{o<a=d;D:o->d,d->a;N:none};\n",
+            false,
+        ),
+    ];
+    for (text, expected, is_plain) in cases {
+        let alg = algebra_of_file(rt.alloc(), *text)?;
+        assert_eq!(rt; printed(rt.alloc(), &alg)?.as_str(), *expected);
+        assert_eq!(rt; is_plain_add(&alg), *is_plain);
+    }
     Ok(())
 }

@@ -1,0 +1,195 @@
+// Tests of `alg_model`: what labels make of values, which values are preferred, and which trees are no
+// algebras. Labels and values are written as literals.
+ghost use Rattle.std.specs.Prelude.{◌≤◌, ◌^◌};
+ghost use Rattle.meta_base.specs.declared.limits.TheConstants.{MAX_NUMBER};
+ghost use Rattle.alg_model.specs.Views.{pure_value, pure_label};
+ghost use Rattle.alg_model.specs.Carriers.{carrier_of, In};
+ghost use Rattle.alg_model.specs.Application.{IsLabel};
+ghost use Rattle.alg_model.specs.Bounds.{AtMost, LabelAtMost};
+
+use crate::readers::algebra;
+use alg_model::{
+    Alg, Algebra, Carrier, Label, Shape, Tree, TreeAlgebra, Value, apply, carrier_of, label_in,
+    order, same_carrier, value_in,
+};
+use meta_base::{NoMemory, Text};
+use sig_text::{print_value, read_label, read_value};
+use std::alloc::Global;
+use std::cmp::Ordering;
+use std::test::Fail;
+
+// The text of what the label makes of the value, or `None` where it prohibits it.
+#[tactic(auto, using(alg_model::specs::BoundLaws::at_most_more))]
+fn image_text(alloc: Global, alg: &Alg, label: &str, value: &str) -> Result<Option<Text>, Fail> {
+    let label = read_label(alloc, alg, label.as_bytes())?;
+    let value = read_value(alloc, alg, value.as_bytes())?;
+    match apply(alloc, alg, &label, &value)? {
+        Some(image) => Ok(Some(print_value(alloc, alg, &image)?)),
+        None => Ok(None),
+    }
+}
+
+fn is_image(image: Option<Text>, expected: Option<&str>) -> bool {
+    match (&image, expected) {
+        (Some(text), Some(expected)) => text.as_str() == expected,
+        (None, None) => true,
+        _ => false,
+    }
+}
+
+const RELATION: &str = "table { customer < peer; up: customer -> peer }";
+
+#[test]
+fn images(rt: HostRuntime) -> Result<(), Fail> {
+    let alloc = rt.alloc();
+    let cases = [
+        ("add(1..10)", "3", "4", Some("7")),
+        ("cap(15; 1..1)", "1", "15", None),
+        ("worst(9; 0..9)", "3", "2", Some("3")),
+        ("width(9; 0..9)", "3", "2", Some("2")),
+        ("lp(9)", "3", "2", Some("3")),
+        ("op(9)", "keep", "2", Some("2")),
+        ("seq(9)", "5", "[5]", Some("[5,5]")),
+        ("simseq(9)", "5", "[5]", None),
+        ("simseq(9)", "8", "[5]", Some("[5,8]")),
+        ("tags(3)", "+1", "{0,2}", Some("{0,1,2}")),
+        ("tags(3)", "-2", "{0,2}", Some("{0}")),
+        ("guard(3)", "?2", "{0,2}", Some("{0,2}")),
+        ("guard(3)", "?1", "{0,2}", None),
+        ("guard(3)", "!2", "{0,2}", None),
+        ("gate", "allow", "unit", Some("unit")),
+        ("gate", "deny", "unit", None),
+        (RELATION, "up", "customer", Some("peer")),
+        (RELATION, "up", "peer", None),
+        ("lex(add(0..9), add(0..9))", "(3,4)", "(1,2)", Some("(4,6)")),
+        (
+            "scoped(add(0..9), add(0..9))",
+            "out(3,7)",
+            "(1,2)",
+            Some("(4,7)"),
+        ),
+        (
+            "scoped(add(0..9), add(0..9))",
+            "in(4)",
+            "(1,2)",
+            Some("(1,6)"),
+        ),
+        ("union(add(0..9), add(0..9))", "l:3", "l:2", Some("l:5")),
+        ("union(add(0..9), add(0..9))", "l:3", "r:2", None),
+        ("sum(add(0..9), add(0..9))", "(3|4)", "r:2", Some("r:6")),
+        ("plus(add(0..9), add(0..9))", "r:4", "2", Some("6")),
+        ("left(add(0..9))", "7", "2", Some("7")),
+        ("right(add(0..9))", "keep", "2", Some("2")),
+    ];
+    for (expression, label, value, expected) in cases {
+        let alg = algebra(alloc, expression)?;
+        let image = image_text(alloc, &alg, label, value)?;
+        assert!(rt;
+            is_image(image, expected),
+            "{label} on {value} in {expression}"
+        );
+    }
+    Ok(())
+}
+
+// What an algebra makes of a value and a label of its own form, by the trait's bound alone: the image,
+// where the value is preferred to it.
+fn worse_image<A: Algebra>(
+    alloc: Global,
+    algebra: &A,
+    label: &Label,
+    value: &Value,
+) -> Result<Option<Value>, NoMemory>
+    requires label { IsLabel (A.expression algebra.now) (pure_label label.now) }
+    requires value { In (carrier_of (A.expression algebra.now)) (pure_value value.now) }
+    requires small_label { LabelAtMost MAX_NUMBER (pure_label label.now) }
+    requires small_value { AtMost (2 ^ 62) (pure_value value.now) }
+{
+    let sig = algebra.sig_of(alloc, value)?;
+    let sig = algebra.copy(alloc, &sig)?;
+    let lab = algebra.lab_of(alloc, label)?;
+    match algebra.apply(alloc, &lab, &sig)? {
+        Some(image) if algebra.order(&sig, &image) == Ordering::Less => {
+            Ok(Some(algebra.value_of(alloc, &image)?))
+        }
+        _ => Ok(None),
+    }
+}
+
+#[test]
+fn trees_are_carried_out(rt: HostRuntime) -> Result<(), Fail> {
+    let alg = Alg::checked(Tree::Add { low: 1, high: 10 })?;
+    let algebra = TreeAlgebra::new(&alg);
+    let image = worse_image(rt.alloc(), &algebra, &Label::Number(3), &Value::Number(4))?;
+    assert!(rt; matches!(image, Some(Value::Number(7))));
+    let copied = alg.copy_part(rt.alloc(), alg.tree())?;
+    assert!(rt; matches!(copied.tree(), Tree::Add { low: 1, high: 10 }));
+    Ok(())
+}
+
+// How two values compare.
+fn order_of(alloc: Global, alg: &Alg, first: &str, second: &str) -> Result<Ordering, Fail> {
+    let first = read_value(alloc, alg, first.as_bytes())?;
+    let second = read_value(alloc, alg, second.as_bytes())?;
+    Ok(order(alg, &first, &second))
+}
+
+#[test]
+fn orders(rt: HostRuntime) -> Result<(), Fail> {
+    let alloc = rt.alloc();
+    let cases = [
+        ("width(9; 0..9)", "5", "3", Ordering::Less),
+        (RELATION, "peer", "customer", Ordering::Greater),
+        ("tags(3)", "{0,2}", "{1}", Ordering::Equal),
+        (
+            "scoped(add(0..9), add(0..9))",
+            "(1,9)",
+            "(2,0)",
+            Ordering::Less,
+        ),
+        (
+            "scoped(add(0..9), add(0..9))",
+            "(1,9)",
+            "(1,8)",
+            Ordering::Greater,
+        ),
+        ("union(add(0..9), add(0..9))", "l:9", "r:0", Ordering::Less),
+    ];
+    for (expression, first, second, expected) in cases {
+        let alg = algebra(alloc, expression)?;
+        let order = order_of(alloc, &alg, first, second)?;
+        assert_eq!(rt; order, expected, "{first} and {second} in {expression}");
+    }
+    Ok(())
+}
+
+// Some value of the algebra's carrier.
+fn some_value(alloc: Global, alg: &Alg) -> Result<Value, NoMemory> {
+    let _tree = alg.tree();
+    carrier_of(alloc, alg)?.member(alloc)
+}
+
+#[test]
+fn carriers_and_members(rt: HostRuntime) -> Result<(), Fail> {
+    let alloc = rt.alloc();
+    let cap = algebra(alloc, "cap(5; 1..1)")?;
+    let gate = algebra(alloc, "gate")?;
+    assert!(rt; matches!(carrier_of(alloc, &cap)?, Carrier::UpTo(5)));
+    assert!(rt; matches!(some_value(alloc, &gate)?, Value::Unit));
+    assert!(rt; same_carrier(&cap, &algebra(alloc, "op(5)")?));
+    assert!(rt; !same_carrier(&cap, &gate));
+    assert!(rt; label_in(&gate, &Label::Deny) && !label_in(&gate, &Label::Keep));
+    assert!(rt; value_in(&cap, &Value::Number(5)) && !value_in(&cap, &Value::Number(6)));
+    Ok(())
+}
+
+#[test]
+fn broken_rules_are_told(rt: HostRuntime) -> Result<(), Fail> {
+    let empty = Tree::Add { low: 5, high: 4 };
+    assert_eq!(rt; Alg::checked(empty).err(), Some(Shape::Range));
+    let numbers = Box::new(rt.alloc(), Tree::Add { low: 1, high: 2 })?;
+    let sequences = Box::new(rt.alloc(), Tree::Seq { symbols: 3 })?;
+    let mixed = Tree::Plus(numbers, sequences);
+    assert_eq!(rt; Alg::checked(mixed).err(), Some(Shape::Carriers));
+    Ok(())
+}

@@ -1,0 +1,23 @@
+// Tests of `host_io`: that real files are taken and real pieces printed.
+use host_io::{FileShelf, OutSink};
+use meta_base::{Sink, TakeError, put_all, take_all};
+use std::fs;
+use std::test::Fail;
+
+#[test]
+fn files_are_taken(rt: HostRuntime) -> Result<(), Fail> {
+    fs::write(&rt, "some.raml", "main add(1..10);")?;
+    let mut shelf = FileShelf::new(&rt);
+    let bytes = take_all(rt.alloc(), &mut shelf, "some.raml", 16)?;
+    assert_eq!(rt; bytes.as_slice(), b"main add(1..10);".as_slice());
+    let absent = take_all(rt.alloc(), &mut shelf, "other.raml", 16);
+    assert_eq!(rt; absent.err(), Some(TakeError::Fault));
+    Ok(())
+}
+
+#[test]
+fn pieces_are_printed(rt: HostRuntime) {
+    let mut out = OutSink::new(&rt);
+    assert_eq!(rt; put_all(&mut out, b"a line\n"), Ok(()));
+    assert_eq!(rt; out.write(b""), Ok(0));
+}

@@ -1,0 +1,77 @@
+// Tests of `sig_text`: literals that are read and printed again, and those that are refused.
+use crate::readers::algebra;
+use alg_model::Alg;
+use meta_base::Text;
+use sig_text::LitFault::{BadText, NotALabel, NotInCarrier};
+use sig_text::{LitError, LitFault, print_label, print_value, read_label, read_value};
+use std::alloc::Global;
+use std::test::Fail;
+
+// The value that the text spells, printed again, or the fault of the text.
+fn value_again(alloc: Global, alg: &Alg, text: &str) -> Result<Result<Text, LitFault>, Fail> {
+    match read_value(alloc, alg, text.as_bytes()) {
+        Ok(value) => Ok(Ok(print_value(alloc, alg, &value)?)),
+        Err(LitError::Bad(fault)) => Ok(Err(fault)),
+        Err(LitError::NoMemory) => Err("out of memory".into()),
+    }
+}
+
+// The same of a label.
+fn label_again(alloc: Global, alg: &Alg, text: &str) -> Result<Result<Text, LitFault>, Fail> {
+    match read_label(alloc, alg, text.as_bytes()) {
+        Ok(label) => Ok(Ok(print_label(alloc, alg, &label)?)),
+        Err(LitError::Bad(fault)) => Ok(Err(fault)),
+        Err(LitError::NoMemory) => Err("out of memory".into()),
+    }
+}
+
+fn is_answer(answer: Result<Text, LitFault>, expected: Result<&str, LitFault>) -> bool {
+    match (&answer, expected) {
+        (Ok(text), Ok(expected)) => text.as_str() == expected,
+        (Err(fault), Err(expected)) => *fault == expected,
+        _ => false,
+    }
+}
+
+const CUSTOMERS: &str = "lex(table { c < r < p; C: c -> c; P: c -> p, r -> p, p -> p }, add(1..1))";
+
+#[test]
+fn values(rt: HostRuntime) -> Result<(), Fail> {
+    let cases = [
+        ("seq(3)", " [0 , 2]", Ok("[0,2]")),
+        ("seq(3)", "[3]", Err(NotInCarrier)),
+        ("seq(3)", "[0", Err(BadText)),
+        ("seq(3)", "[0] 1", Err(BadText)),
+        ("tags(4)", "{3,0}", Ok("{0,3}")),
+        ("tags(4)", "{0,00}", Err(BadText)),
+        (CUSTOMERS, "(c,05)", Ok("(c,5)")),
+        (CUSTOMERS, "(d,4294967295)", Err(NotInCarrier)),
+        (CUSTOMERS, "(c,4294967296)", Err(BadText)),
+    ];
+    for (expression, text, expected) in cases {
+        let alg = algebra(rt.alloc(), expression)?;
+        let answer = value_again(rt.alloc(), &alg, text)?;
+        assert!(rt; is_answer(answer, expected), "{text} in {expression}");
+    }
+    Ok(())
+}
+
+#[test]
+fn labels(rt: HostRuntime) -> Result<(), Fail> {
+    let scoped = "scoped(add(1..5), cap(9; 1..5))";
+    let cases = [
+        ("plus(tags(4), guard(4))", "r:?2", Ok("r:?2")),
+        ("plus(tags(4), guard(4))", "r:?4", Err(NotALabel)),
+        (scoped, "out(3, 4)", Ok("out(3,4)")),
+        // The label is further left than the value.
+        (scoped, "out(6,10)", Err(NotALabel)),
+        (scoped, "out(5,10)", Err(NotInCarrier)),
+        (CUSTOMERS, "(P,1)", Ok("(P,1)")),
+    ];
+    for (expression, text, expected) in cases {
+        let alg = algebra(rt.alloc(), expression)?;
+        let answer = label_again(rt.alloc(), &alg, text)?;
+        assert!(rt; is_answer(answer, expected), "{text} in {expression}");
+    }
+    Ok(())
+}
