@@ -2,7 +2,13 @@
 use Rattle.net_graph.specs.Nets.{PureNet}
 use Rattle.net_graph.specs.Groups.{items_at}
 use Rattle.net_graph.specs.Parts.{net_from, IsKnown, IsFiled}
+use Rattle.net_graph.specs.declared.filed.FiledLines.{FiledLines}
 use Rattle.net_graph.specs.declared.net.Net.TheInside.{Inside}
+use Rattle.net_graph.specs.declared.parts.Known.{Known}
+
+-- the network that is known by these names and pairs, and whose lines are filed so
+abbrev pub net_in : Known → FiledLines → PureNet
+net_in known lines = net_from known.alg known.nodes known.dests (items_at lines.out.groups lines.out.spots.items) (items_at lines.homes.groups lines.homes.spots.items)
 
 abbrev pub net_of : Inside → PureNet
 net_of n = net_from n.known.alg n.known.nodes n.known.dests (items_at n.out n.arc_spots.items) (items_at n.homes n.origin_spots.items)

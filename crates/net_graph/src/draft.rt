@@ -7,7 +7,7 @@ ghost use Rattle.alg_model.specs.Bounds.{AtMost, LabelAtMost};
 ghost use Rattle.net_graph.specs.Nets.{IsNet, number_of, has_arc, has_origin, is_name, max_nodes, max_arcs, max_dests};
 ghost use Rattle.net_graph.specs.Lines.{empty_net, with_node, with_arc, with_origin};
 
-use crate::filed::{file_by_key, ids_by_head};
+use crate::filed::file_lines;
 use crate::names::Names;
 use crate::pairs::Pairs;
 use crate::parts::Known;
@@ -136,12 +136,14 @@ impl NetDraft {
             arcs,
             origins,
         } = self;
-        let nodes = known.nodes.count();
-        let dests = known.dests.count();
-        let heard = ids_by_head(alloc, nodes, &arcs)?;
-        let out = file_by_key(alloc, nodes, arcs)?;
-        let homes = file_by_key(alloc, dests, origins)?;
-        Ok(Net::from_parts(known, out, heard, homes))
+        let lines = file_lines(
+            alloc,
+            known.nodes.count(),
+            known.dests.count(),
+            arcs,
+            origins,
+        )?;
+        Ok(Net::from_parts(known, lines))
     }
 
     /// Lends the algebra.

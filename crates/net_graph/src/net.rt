@@ -1,7 +1,7 @@
 ghost use Rattle.std.specs.Prelude.{◌≡◌, ◌<◌, Some, map, length, slice_get, option_map};
 ghost use Rattle.net_graph.specs.Nets.{IsNet, number_of, has_arc, has_origin, arcs_from, arcs_to, origins_of};
 
-use crate::filed::Filed;
+use crate::filed::FiledLines;
 use crate::groups::{Groups, Spot};
 use crate::parts::Known;
 use crate::{Arc, Origin};
@@ -42,27 +42,22 @@ impl Model for Net {
 
 impl Net {
     ghost use Rattle.net_graph.specs.Views.{pure_arc, pure_origin};
-    ghost use Rattle.net_graph.specs.Parts.{net_from, IsKnown, IsFiled};
-    ghost use Rattle.net_graph.specs.Groups.{items_at};
+    ghost use Rattle.net_graph.specs.Parts.{IsKnown, IsFiled};
+    ghost use Rattle.net_graph.specs.NetParts.{net_in};
 
     // The network of these parts.
-    pub(crate) fn from_parts(
-        known: Known,
-        out: Filed<Arc>,
-        heard: Groups<ArcId>,
-        homes: Filed<Origin>,
-    ) -> Net
-        requires known { IsKnown (net_from known.alg known.nodes known.dests (items_at out.groups out.spots.items) (items_at homes.groups homes.spots.items)) known.arc_pairs known.origin_pairs }
-        requires filed { IsFiled (net_from known.alg known.nodes known.dests (items_at out.groups out.spots.items) (items_at homes.groups homes.spots.items)) out.groups out.spots.items heard homes.groups homes.spots.items }
-        ensures { result ≡ net_from known.alg known.nodes known.dests (items_at out.groups out.spots.items) (items_at homes.groups homes.spots.items) }
+    pub(crate) fn from_parts(known: Known, lines: FiledLines) -> Net
+        requires known { IsKnown (net_in known lines) known.arc_pairs known.origin_pairs }
+        requires filed { IsFiled (net_in known lines) lines.out.groups lines.out.spots.items lines.heard lines.homes.groups lines.homes.spots.items }
+        ensures { result ≡ net_in known lines }
     {
         Net {
             known,
-            out: out.groups,
-            arc_spots: out.spots,
-            heard,
-            homes: homes.groups,
-            origin_spots: homes.spots,
+            out: lines.out.groups,
+            arc_spots: lines.out.spots,
+            heard: lines.heard,
+            homes: lines.homes.groups,
+            origin_spots: lines.homes.spots,
         }
     }
 

@@ -69,6 +69,10 @@ take_pair m f x y ps =
     option_and_then (λ qs. option_and_then (λ r. option_and_then (λ us. option_and_then (λ s. option_map (λ vs. (f r.0 s.0, vs))
     (take_mark 41 s.1)) (y us)) (take_mark m r.1)) (x qs)) (take_mark 40 ps)
 
+-- both of these things
+abbrev pub take_both : {A B : Type 0} → ℕ → (List Part → Option (A × List Part)) → (List Part → Option (B × List Part)) → List Part → Option ((A × B) × List Part)
+take_both {A = A} {B = B} m x y ps = let paired : A → B → A × B = λ a b. (a, b) in take_pair m paired x y ps
+
 -- the set of these numbers, if none is there twice
 abbrev pub set_from : ℕ → List ℕ → Option (Result PureValue LitFault)
 set_from k ns = if distinct ns then Some (where_true (list_all (λ n. nat_lt n k) ns) NotInCarrier (marks (set_of ns))) else None

@@ -3,14 +3,14 @@ ghost use Rattle.std.specs.Prelude.{◌≡◌, ◌&&◌, ◌≤◌, ◌<◌, nat
 ghost use Rattle.alg_model.specs.Views.{expression_of};
 ghost use Rattle.alg_model.specs.Carriers.{carrier_of};
 ghost use Rattle.alg_model.specs.Formation.{MeetsRanges};
-ghost use Rattle.alg_model.specs.Expressions.{number_label, symbol_label, row_label, pair_label, both_label, first_label, second_label, const_label, outer, inner};
+ghost use Rattle.alg_model.specs.Expressions.{lex, scoped, union, sum, number_label, symbol_label, row_label, pair_label, both_label, first_label, second_label, const_label, outer, inner};
 ghost use Rattle.alg_model.specs.declared.alg.TheConstants.{MAX_MARKS, MAX_TABLE_NAMES};
 ghost use Rattle.sig_text.specs.declared.faults.LitFault.TheVariants.{NotALabel};
 ghost use Rattle.sig_text.specs.declared.faults.Stop.TheVariants.{NoShape};
 ghost use Rattle.sig_text.specs.Literals.{where_true, both_of, one_of, placed, tag_label, guard_label};
 ghost use Rattle.sig_text.specs.Sequences.{parts_of};
 ghost use Rattle.sig_text.specs.Views.{value_outcome, label_outcome};
-ghost use Rattle.sig_text.specs.Reading.{kept, take_number, take_word, keep_at, gate_at, row_of, ranged_at, symbol_at, tag_at, guard_at, value_at, label_at};
+ghost use Rattle.sig_text.specs.Reading.{kept, take_both, take_pair, take_parens, take_number, take_word, keep_at, gate_at, row_of, ranged_at, symbol_at, tag_at, guard_at, value_at, label_at};
 
 use crate::LitFault;
 use crate::faults::{Stop, both};
@@ -24,6 +24,7 @@ use std::alloc::Global;
 
 // The label of the tree's algebra that begins the text, or the first fault in it, and what comes
 // behind it.
+#[cycle(label_at)]
 pub fn label_at<'a>(
     alloc: Global,
     tree: &Tree,
@@ -45,46 +46,152 @@ pub fn label_at<'a>(
         Tree::Guard { count } => guard_at(*count, text),
         Tree::Gate => gate_at(text),
         Tree::Table(table) => row_at(table.rows.as_slice(), text),
-        Tree::Lex(a, b) => {
-            let (l, text) = label_at(alloc, a, mark_at(text, b'(')?)?;
-            let (m, text) = label_at(alloc, b, mark_at(text, b',')?)?;
-            let text = mark_at(text, b')')?;
-            Ok((pair_of(alloc, l, m)?, text))
+        Tree::Lex(a, b) => lex_at(alloc, a, b, text),
+        Tree::Sum(a, b) => sum_at(alloc, a, b, text),
+        Tree::Scoped(a, b) => scoped_at(alloc, a, b, text),
+        Tree::Union(a, b) | Tree::Plus(a, b) => sided_at(alloc, a, b, text),
+        Tree::Left(a) => const_at(alloc, a, text),
+    }
+}
+
+#[cycle(label_at)]
+fn lex_at<'a>(
+    alloc: Global,
+    a: &Tree,
+    b: &Tree,
+    text: &'a [u8],
+) -> Result<(Result<Label, LitFault>, &'a [u8]), Stop>
+    requires first { MeetsRanges (expression_of a.now) }
+    requires second { MeetsRanges (expression_of b.now) }
+    ensures found { IfOk result (λ found. label_at (lex (expression_of a.now) (expression_of b.now)) (parts_of text.now) ≡ Some (label_outcome found.0, parts_of found.1.now)) }
+    ensures none { result ≡ Err NoShape → label_at (lex (expression_of a.now) (expression_of b.now)) (parts_of text.now) ≡ None }
+{
+    let ((l, m), rest) = two_at(alloc, a, b, b',', text)?;
+    Ok((pair_of(alloc, l, m)?, rest))
+}
+
+#[cycle(label_at)]
+fn sum_at<'a>(
+    alloc: Global,
+    a: &Tree,
+    b: &Tree,
+    text: &'a [u8],
+) -> Result<(Result<Label, LitFault>, &'a [u8]), Stop>
+    requires first { MeetsRanges (expression_of a.now) }
+    requires second { MeetsRanges (expression_of b.now) }
+    ensures found { IfOk result (λ found. label_at (sum (expression_of a.now) (expression_of b.now)) (parts_of text.now) ≡ Some (label_outcome found.0, parts_of found.1.now)) }
+    ensures none { result ≡ Err NoShape → label_at (sum (expression_of a.now) (expression_of b.now)) (parts_of text.now) ≡ None }
+{
+    let ((l, m), rest) = two_at(alloc, a, b, b'|', text)?;
+    Ok((both_of(alloc, l, m)?, rest))
+}
+
+// A label of each of two algebras, in parentheses and with that mark between them.
+#[cycle(label_at)]
+fn two_at<'a>(
+    alloc: Global,
+    a: &Tree,
+    b: &Tree,
+    between: u8,
+    text: &'a [u8],
+) -> Result<((Result<Label, LitFault>, Result<Label, LitFault>), &'a [u8]), Stop>
+    requires first { MeetsRanges (expression_of a.now) }
+    requires second { MeetsRanges (expression_of b.now) }
+    ensures found { IfOk result (λ found. take_both between (label_at (expression_of a.now)) (label_at (expression_of b.now)) (parts_of text.now)
+        ≡ Some ((label_outcome found.0.0, label_outcome found.0.1), parts_of found.1.now)) }
+    ensures none { result ≡ Err NoShape → take_both between (label_at (expression_of a.now)) (label_at (expression_of b.now)) (parts_of text.now) ≡ None }
+{
+    let (l, text) = label_at(alloc, a, mark_at(text, b'(')?)?;
+    let (m, text) = label_at(alloc, b, mark_at(text, between)?)?;
+    Ok(((l, m), mark_at(text, b')')?))
+}
+
+#[cycle(label_at)]
+fn scoped_at<'a>(
+    alloc: Global,
+    a: &Tree,
+    b: &Tree,
+    text: &'a [u8],
+) -> Result<(Result<Label, LitFault>, &'a [u8]), Stop>
+    requires first { MeetsRanges (expression_of a.now) }
+    requires second { MeetsRanges (expression_of b.now) }
+    ensures found { IfOk result (λ found. label_at (scoped (expression_of a.now) (expression_of b.now)) (parts_of text.now) ≡ Some (label_outcome found.0, parts_of found.1.now)) }
+    ensures none { result ≡ Err NoShape → label_at (scoped (expression_of a.now) (expression_of b.now)) (parts_of text.now) ≡ None }
+{
+    match scope_at(text)? {
+        (Scope::Outer, text) => outer_at(alloc, a, b, text),
+        (Scope::Inner, text) => inner_at(alloc, b, text),
+    }
+}
+
+#[cycle(label_at)]
+fn outer_at<'a>(
+    alloc: Global,
+    a: &Tree,
+    b: &Tree,
+    text: &'a [u8],
+) -> Result<(Result<Label, LitFault>, &'a [u8]), Stop>
+    requires first { MeetsRanges (expression_of a.now) }
+    requires second { MeetsRanges (expression_of b.now) }
+    ensures found { IfOk result (λ found. take_pair 44 (both_of outer) (label_at (expression_of a.now)) (value_at (carrier_of (expression_of b.now))) (parts_of text.now) ≡ Some (label_outcome found.0, parts_of found.1.now)) }
+    ensures none { result ≡ Err NoShape → take_pair 44 (both_of outer) (label_at (expression_of a.now)) (value_at (carrier_of (expression_of b.now))) (parts_of text.now) ≡ None }
+{
+    let (l, text) = label_at(alloc, a, mark_at(text, b'(')?)?;
+    let (v, text) = value_at(alloc, b, mark_at(text, b',')?)?;
+    let text = mark_at(text, b')')?;
+    Ok((outer_of(alloc, l, v)?, text))
+}
+
+#[cycle(label_at)]
+fn inner_at<'a>(
+    alloc: Global,
+    b: &Tree,
+    text: &'a [u8],
+) -> Result<(Result<Label, LitFault>, &'a [u8]), Stop>
+    requires { MeetsRanges (expression_of b.now) }
+    ensures found { IfOk result (λ found. take_parens (one_of inner) (label_at (expression_of b.now)) (parts_of text.now) ≡ Some (label_outcome found.0, parts_of found.1.now)) }
+    ensures none { result ≡ Err NoShape → take_parens (one_of inner) (label_at (expression_of b.now)) (parts_of text.now) ≡ None }
+{
+    let (m, text) = label_at(alloc, b, mark_at(text, b'(')?)?;
+    let text = mark_at(text, b')')?;
+    Ok((inner_of(alloc, m)?, text))
+}
+
+#[cycle(label_at)]
+fn sided_at<'a>(
+    alloc: Global,
+    a: &Tree,
+    b: &Tree,
+    text: &'a [u8],
+) -> Result<(Result<Label, LitFault>, &'a [u8]), Stop>
+    requires first { MeetsRanges (expression_of a.now) }
+    requires second { MeetsRanges (expression_of b.now) }
+    ensures found { IfOk result (λ found. label_at (union (expression_of a.now) (expression_of b.now)) (parts_of text.now) ≡ Some (label_outcome found.0, parts_of found.1.now)) }
+    ensures none { result ≡ Err NoShape → label_at (union (expression_of a.now) (expression_of b.now)) (parts_of text.now) ≡ None }
+{
+    match side_at(text)? {
+        (Side::First, text) => {
+            let (l, text) = label_at(alloc, a, text)?;
+            Ok((first_of(alloc, l)?, text))
         }
-        Tree::Sum(a, b) => {
-            let (l, text) = label_at(alloc, a, mark_at(text, b'(')?)?;
-            let (m, text) = label_at(alloc, b, mark_at(text, b'|')?)?;
-            let text = mark_at(text, b')')?;
-            Ok((both_of(alloc, l, m)?, text))
-        }
-        Tree::Scoped(a, b) => match scope_at(text)? {
-            (Scope::Outer, text) => {
-                let (l, text) = label_at(alloc, a, mark_at(text, b'(')?)?;
-                let (v, text) = value_at(alloc, b, mark_at(text, b',')?)?;
-                let text = mark_at(text, b')')?;
-                Ok((outer_of(alloc, l, v)?, text))
-            }
-            (Scope::Inner, text) => {
-                let (m, text) = label_at(alloc, b, mark_at(text, b'(')?)?;
-                let text = mark_at(text, b')')?;
-                Ok((inner_of(alloc, m)?, text))
-            }
-        },
-        Tree::Union(a, b) | Tree::Plus(a, b) => match side_at(text)? {
-            (Side::First, text) => {
-                let (l, text) = label_at(alloc, a, text)?;
-                Ok((first_of(alloc, l)?, text))
-            }
-            (Side::Second, text) => {
-                let (m, text) = label_at(alloc, b, text)?;
-                Ok((second_of(alloc, m)?, text))
-            }
-        },
-        Tree::Left(a) => {
-            let (v, text) = value_at(alloc, a, text)?;
-            Ok((const_of(v), text))
+        (Side::Second, text) => {
+            let (m, text) = label_at(alloc, b, text)?;
+            Ok((second_of(alloc, m)?, text))
         }
     }
+}
+
+fn const_at<'a>(
+    alloc: Global,
+    tree: &Tree,
+    text: &'a [u8],
+) -> Result<(Result<Label, LitFault>, &'a [u8]), Stop>
+    requires { MeetsRanges (expression_of tree.now) }
+    ensures found { IfOk result (λ found. kept (one_of const_label) (value_at (carrier_of (expression_of tree.now)) (parts_of text.now)) ≡ Some (label_outcome found.0, parts_of found.1.now)) }
+    ensures none { result ≡ Err NoShape → value_at (carrier_of (expression_of tree.now)) (parts_of text.now) ≡ None }
+{
+    let (v, rest) = value_at(alloc, tree, text)?;
+    Ok((const_of(v), rest))
 }
 
 fn ranged_at(low: u64, high: u64, text: &[u8]) -> Result<(Result<Label, LitFault>, &[u8]), Stop>

@@ -5,7 +5,7 @@ ghost use Rattle.std.specs.Str.{bytes_eq};
 ghost use Rattle.alg_model.specs.Views.{expression_of};
 ghost use Rattle.alg_model.specs.Carriers.{carrier_of, distinct};
 ghost use Rattle.alg_model.specs.Formation.{MeetsRanges};
-ghost use Rattle.alg_model.specs.Expressions.{PureValue, number, symbols, marks, name, pair, first, second};
+ghost use Rattle.alg_model.specs.Expressions.{PureValue, pairs, sides, number, symbols, marks, name, pair, first, second};
 ghost use Rattle.alg_model.specs.declared.alg.TheConstants.{MAX_MARKS, MAX_TABLE_NAMES};
 ghost use Rattle.sig_text.specs.declared.faults.LitFault.TheVariants.{NotInCarrier};
 ghost use Rattle.sig_text.specs.declared.faults.Stop.TheVariants.{NoShape};
@@ -23,6 +23,7 @@ use std::alloc::Global;
 
 // The value of the tree's algebra that begins the text, or the first fault in it, and what comes
 // behind it.
+#[cycle(value_at)]
 pub fn value_at<'a>(
     alloc: Global,
     tree: &Tree,
@@ -44,23 +45,51 @@ pub fn value_at<'a>(
         Tree::Tags { count } | Tree::Guard { count } => set_at(alloc, *count, text),
         Tree::Gate => unit_at(text),
         Tree::Table(table) => name_at(table.names.as_slice(), text),
-        Tree::Lex(a, b) | Tree::Scoped(a, b) => {
-            let (u, text) = value_at(alloc, a, mark_at(text, b'(')?)?;
-            let (v, text) = value_at(alloc, b, mark_at(text, b',')?)?;
-            let text = mark_at(text, b')')?;
-            Ok((pair_of(alloc, u, v)?, text))
-        }
-        Tree::Union(a, b) | Tree::Sum(a, b) => match side_at(text)? {
-            (Side::First, text) => {
-                let (u, text) = value_at(alloc, a, text)?;
-                Ok((first_of(alloc, u)?, text))
-            }
-            (Side::Second, text) => {
-                let (v, text) = value_at(alloc, b, text)?;
-                Ok((second_of(alloc, v)?, text))
-            }
-        },
+        Tree::Lex(a, b) | Tree::Scoped(a, b) => pair_at(alloc, a, b, text),
+        Tree::Union(a, b) | Tree::Sum(a, b) => sided_at(alloc, a, b, text),
         Tree::Plus(a, _) | Tree::Left(a) | Tree::Right(a) => value_at(alloc, a, text),
+    }
+}
+
+#[cycle(value_at)]
+fn pair_at<'a>(
+    alloc: Global,
+    a: &Tree,
+    b: &Tree,
+    text: &'a [u8],
+) -> Result<(Result<Value, LitFault>, &'a [u8]), Stop>
+    requires first { MeetsRanges (expression_of a.now) }
+    requires second { MeetsRanges (expression_of b.now) }
+    ensures found { IfOk result (λ found. value_at (pairs (carrier_of (expression_of a.now)) (carrier_of (expression_of b.now))) (parts_of text.now) ≡ Some (value_outcome found.0, parts_of found.1.now)) }
+    ensures none { result ≡ Err NoShape → value_at (pairs (carrier_of (expression_of a.now)) (carrier_of (expression_of b.now))) (parts_of text.now) ≡ None }
+{
+    let (u, text) = value_at(alloc, a, mark_at(text, b'(')?)?;
+    let (v, text) = value_at(alloc, b, mark_at(text, b',')?)?;
+    let text = mark_at(text, b')')?;
+    Ok((pair_of(alloc, u, v)?, text))
+}
+
+#[cycle(value_at)]
+fn sided_at<'a>(
+    alloc: Global,
+    a: &Tree,
+    b: &Tree,
+    text: &'a [u8],
+) -> Result<(Result<Value, LitFault>, &'a [u8]), Stop>
+    requires first { MeetsRanges (expression_of a.now) }
+    requires second { MeetsRanges (expression_of b.now) }
+    ensures found { IfOk result (λ found. value_at (sides (carrier_of (expression_of a.now)) (carrier_of (expression_of b.now))) (parts_of text.now) ≡ Some (value_outcome found.0, parts_of found.1.now)) }
+    ensures none { result ≡ Err NoShape → value_at (sides (carrier_of (expression_of a.now)) (carrier_of (expression_of b.now))) (parts_of text.now) ≡ None }
+{
+    match side_at(text)? {
+        (Side::First, text) => {
+            let (u, text) = value_at(alloc, a, text)?;
+            Ok((first_of(alloc, u)?, text))
+        }
+        (Side::Second, text) => {
+            let (v, text) = value_at(alloc, b, text)?;
+            Ok((second_of(alloc, v)?, text))
+        }
     }
 }
 
