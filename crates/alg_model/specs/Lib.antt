@@ -3,6 +3,7 @@ pub mod Codes
 pub mod Carriers
 pub mod Preorder
 pub mod Application
+pub mod Actions
 pub mod Views
 pub mod Bounds
 pub mod Formation

@@ -1,12 +1,12 @@
 ghost use Rattle.std.specs.Prelude.{◌≡◌, ◌≤◌, ◌<◌, ◌==◌, ◌^◌, ◌+◌, ◌++◌, [], ◌∷◌, ℕ, Some, IfOk, IfSome, option_map};
 ghost use Rattle.std.specs.List.{list_any};
 ghost use Rattle.meta_base.specs.declared.limits.TheConstants.{MAX_NUMBER};
-ghost use Rattle.alg_model.specs.Expressions.{number, number_label, pair, first, second};
+ghost use Rattle.alg_model.specs.Expressions.{lex, scoped, union, sum, number, number_label, pair, first, second};
 ghost use Rattle.alg_model.specs.Views.{expression_of, pure_value, pure_label};
 ghost use Rattle.alg_model.specs.Carriers.{carrier_of, In};
 ghost use Rattle.alg_model.specs.Application.{IsLabel, App, has_mark, image_of};
 ghost use Rattle.alg_model.specs.Bounds.{AtMost, LabelAtMost};
-ghost use Rattle.alg_model.specs.Formation.{MeetsRanges, MeetsCarriers};
+ghost use Rattle.alg_model.specs.Actions.{MayAct};
 
 use crate::copying::copy_list;
 use crate::{Alg, Amount, Label, TableSpec, Tree, Value};
@@ -38,18 +38,14 @@ pub fn apply(
 
 // What the label makes of the value in the tree's algebra. The rule on ranges keeps numbers of sets
 // below 64, and that on carriers makes the value one of both sides of a `plus`.
+#[cycle(image)]
 fn image(
     alloc: Global,
     tree: &Tree,
     label: &Label,
     value: &Value,
 ) -> Result<Option<Value>, NoMemory>
-    requires ranges { MeetsRanges (expression_of tree.now) }
-    requires carriers { MeetsCarriers (expression_of tree.now) }
-    requires label { IsLabel (expression_of tree.now) (pure_label label.now) }
-    requires value { In (carrier_of (expression_of tree.now)) (pure_value value.now) }
-    requires small_label { LabelAtMost MAX_NUMBER (pure_label label.now) }
-    requires small_value { AtMost (2 ^ 62) (pure_value value.now) }
+    requires { MayAct (expression_of tree.now) (pure_label label.now) (pure_value value.now) }
     ensures { IfOk result (λ image. option_map pure_value image ≡ App (expression_of tree.now) (pure_label label.now) (pure_value value.now)) }
 {
     match tree {
@@ -100,37 +96,10 @@ fn image(
             (Label::Row(r), Value::Name(k)) => Ok(image_in(table, *r, *k).map(Value::Name)),
             _ => Ok(None),
         },
-        Tree::Lex(a, b) => match (label, value) {
-            (Label::Pair(l, m), Value::Pair(u, v)) => match image(alloc, a, l, u)? {
-                Some(u) => match image(alloc, b, m, v)? {
-                    Some(v) => Ok(Some(paired(alloc, u, v)?)),
-                    None => Ok(None),
-                },
-                None => Ok(None),
-            },
-            _ => Ok(None),
-        },
-        Tree::Scoped(a, b) => match (label, value) {
-            (Label::Outer(l, w), Value::Pair(u, _)) => match image(alloc, a, l, u)? {
-                Some(u) => Ok(Some(paired(alloc, u, w.copy(alloc)?)?)),
-                None => Ok(None),
-            },
-            (Label::Inner(m), Value::Pair(u, v)) => match image(alloc, b, m, v)? {
-                Some(v) => Ok(Some(paired(alloc, u.copy(alloc)?, v)?)),
-                None => Ok(None),
-            },
-            _ => Ok(None),
-        },
-        Tree::Union(a, b) => match (label, value) {
-            (Label::First(l), Value::First(u)) => in_first(alloc, image(alloc, a, l, u)?),
-            (Label::Second(m), Value::Second(v)) => in_second(alloc, image(alloc, b, m, v)?),
-            _ => Ok(None),
-        },
-        Tree::Sum(a, b) => match (label, value) {
-            (Label::Both(l, _), Value::First(u)) => in_first(alloc, image(alloc, a, l, u)?),
-            (Label::Both(_, m), Value::Second(v)) => in_second(alloc, image(alloc, b, m, v)?),
-            _ => Ok(None),
-        },
+        Tree::Lex(a, b) => lex_image(alloc, a, b, label, value),
+        Tree::Scoped(a, b) => scoped_image(alloc, a, b, label, value),
+        Tree::Union(a, b) => union_image(alloc, a, b, label, value),
+        Tree::Sum(a, b) => sum_image(alloc, a, b, label, value),
         Tree::Plus(a, b) => match label {
             Label::First(l) => image(alloc, a, l, value),
             Label::Second(m) => image(alloc, b, m, value),
@@ -140,6 +109,91 @@ fn image(
             Label::Const(v) => Ok(Some(v.copy(alloc)?)),
             _ => Ok(None),
         },
+    }
+}
+
+#[cycle(image)]
+fn lex_image(
+    alloc: Global,
+    a: &Tree,
+    b: &Tree,
+    label: &Label,
+    value: &Value,
+) -> Result<Option<Value>, NoMemory>
+    requires { MayAct (lex (expression_of a.now) (expression_of b.now)) (pure_label label.now) (pure_value value.now) }
+    ensures { IfOk result (λ image. option_map pure_value image ≡ App (lex (expression_of a.now) (expression_of b.now)) (pure_label label.now) (pure_value value.now)) }
+{
+    match (label, value) {
+        (Label::Pair(l, m), Value::Pair(u, v)) => {
+            let Some(u) = image(alloc, a, l, u)? else {
+                return Ok(None);
+            };
+            match image(alloc, b, m, v)? {
+                Some(v) => Ok(Some(paired(alloc, u, v)?)),
+                None => Ok(None),
+            }
+        }
+        _ => Ok(None),
+    }
+}
+
+#[cycle(image)]
+fn scoped_image(
+    alloc: Global,
+    a: &Tree,
+    b: &Tree,
+    label: &Label,
+    value: &Value,
+) -> Result<Option<Value>, NoMemory>
+    requires { MayAct (scoped (expression_of a.now) (expression_of b.now)) (pure_label label.now) (pure_value value.now) }
+    ensures { IfOk result (λ image. option_map pure_value image ≡ App (scoped (expression_of a.now) (expression_of b.now)) (pure_label label.now) (pure_value value.now)) }
+{
+    match (label, value) {
+        (Label::Outer(l, w), Value::Pair(u, _)) => match image(alloc, a, l, u)? {
+            Some(u) => Ok(Some(paired(alloc, u, w.copy(alloc)?)?)),
+            None => Ok(None),
+        },
+        (Label::Inner(m), Value::Pair(u, v)) => match image(alloc, b, m, v)? {
+            Some(v) => Ok(Some(paired(alloc, u.copy(alloc)?, v)?)),
+            None => Ok(None),
+        },
+        _ => Ok(None),
+    }
+}
+
+#[cycle(image)]
+fn union_image(
+    alloc: Global,
+    a: &Tree,
+    b: &Tree,
+    label: &Label,
+    value: &Value,
+) -> Result<Option<Value>, NoMemory>
+    requires { MayAct (union (expression_of a.now) (expression_of b.now)) (pure_label label.now) (pure_value value.now) }
+    ensures { IfOk result (λ image. option_map pure_value image ≡ App (union (expression_of a.now) (expression_of b.now)) (pure_label label.now) (pure_value value.now)) }
+{
+    match (label, value) {
+        (Label::First(l), Value::First(u)) => in_first(alloc, image(alloc, a, l, u)?),
+        (Label::Second(m), Value::Second(v)) => in_second(alloc, image(alloc, b, m, v)?),
+        _ => Ok(None),
+    }
+}
+
+#[cycle(image)]
+fn sum_image(
+    alloc: Global,
+    a: &Tree,
+    b: &Tree,
+    label: &Label,
+    value: &Value,
+) -> Result<Option<Value>, NoMemory>
+    requires { MayAct (sum (expression_of a.now) (expression_of b.now)) (pure_label label.now) (pure_value value.now) }
+    ensures { IfOk result (λ image. option_map pure_value image ≡ App (sum (expression_of a.now) (expression_of b.now)) (pure_label label.now) (pure_value value.now)) }
+{
+    match (label, value) {
+        (Label::Both(l, _), Value::First(u)) => in_first(alloc, image(alloc, a, l, u)?),
+        (Label::Both(_, m), Value::Second(v)) => in_second(alloc, image(alloc, b, m, v)?),
+        _ => Ok(None),
     }
 }
 
