@@ -1,4 +1,4 @@
-ghost use Rattle.std.specs.Prelude.{◌≡◌, IfOk, IfErr};
+ghost use Rattle.std.specs.Prelude.{MatchOption, ◌≡◌, IfOk, IfErr};
 ghost use Rattle.alg_model.specs.Views.{expression_of};
 ghost use Rattle.alg_model.specs.Formation.{IsFormed, IsFirstBroken};
 ghost use Rattle.alg_model.specs.Bounds.{ExpressionAtMost};
@@ -72,16 +72,9 @@ impl Alg {
         ensures formed { IfOk result (λ _. IsFormed (expression_of tree)) }
         ensures broken { IfErr result (IsFirstBroken (expression_of tree)) }
     {
-        if !meets_ranges(&tree) {
-            Err(Shape::Range)
-        } else if !meets_carriers(&tree) {
-            Err(Shape::Carriers)
-        } else if room_behind(&tree, MAX_TREE_NODES).is_none() {
-            Err(Shape::Size)
-        } else if !meets_names(&tree) {
-            Err(Shape::Names)
-        } else {
-            Ok(Alg { tree })
+        match first_broken(&tree) {
+            Some(rule) => Err(rule),
+            None => Ok(Alg { tree }),
         }
     }
 
@@ -102,5 +95,23 @@ impl Alg {
         ensures formed { IsFormed self.now }
     {
         &self.tree
+    }
+}
+
+// The first formation rule that the tree breaks.
+fn first_broken(tree: &Tree) -> Option<Shape>
+    requires { ExpressionAtMost MAX_NUMBER (expression_of tree.now) }
+    ensures { MatchOption result (IsFormed (expression_of tree.now)) (IsFirstBroken (expression_of tree.now)) }
+{
+    if !meets_ranges(tree) {
+        Some(Shape::Range)
+    } else if !meets_carriers(tree) {
+        Some(Shape::Carriers)
+    } else if room_behind(tree, MAX_TREE_NODES).is_none() {
+        Some(Shape::Size)
+    } else if !meets_names(tree) {
+        Some(Shape::Names)
+    } else {
+        None
     }
 }

@@ -30,31 +30,40 @@ pub(crate) fn is_member(tree: &Tree, value: &Value) -> bool
     requires { MeetsRanges (expression_of tree.now) }
     ensures { (result ≡ true) ↔ In (carrier_of (expression_of tree.now)) (pure_value value.now) }
 {
-    match (tree, value) {
-        (Tree::Add { .. }, Value::Number(_)) | (Tree::Gate, Value::Unit) => true,
-        (
-            Tree::Cap { top, .. }
-            | Tree::Worst { top, .. }
-            | Tree::Width { top, .. }
-            | Tree::Pref { top }
-            | Tree::Orig { top },
-            Value::Number(n),
-        ) => n <= top,
-        (Tree::Seq { symbols }, Value::Symbols(ns)) => are_below(*symbols, ns.as_slice()),
-        (Tree::SimSeq { symbols }, Value::Symbols(ns)) => is_simple(*symbols, ns.as_slice()),
-        (Tree::Tags { count } | Tree::Guard { count }, Value::Marks(marks)) => {
-            is_set_below(*count, *marks)
-        }
-        (Tree::Table(table), Value::Name(place)) => {
-            usize::from(*place) < table.names.as_slice().len()
-        }
-        (Tree::Lex(a, b) | Tree::Scoped(a, b), Value::Pair(u, v)) => {
-            is_member(a, u) && is_member(b, v)
-        }
-        (Tree::Union(a, _) | Tree::Sum(a, _), Value::First(u)) => is_member(a, u),
-        (Tree::Union(_, b) | Tree::Sum(_, b), Value::Second(v)) => is_member(b, v),
-        (Tree::Plus(a, _) | Tree::Left(a) | Tree::Right(a), _) => is_member(a, value),
-        _ => false,
+    match tree {
+        Tree::Add { .. } => matches!(value, Value::Number(_)),
+        Tree::Cap { top, .. }
+        | Tree::Worst { top, .. }
+        | Tree::Width { top, .. }
+        | Tree::Pref { top }
+        | Tree::Orig { top } => matches!(value, Value::Number(n) if n <= top),
+        Tree::Seq { symbols } => match value {
+            Value::Symbols(ns) => are_below(*symbols, ns.as_slice()),
+            _ => false,
+        },
+        Tree::SimSeq { symbols } => match value {
+            Value::Symbols(ns) => is_simple(*symbols, ns.as_slice()),
+            _ => false,
+        },
+        Tree::Tags { count } | Tree::Guard { count } => match value {
+            Value::Marks(marks) => is_set_below(*count, *marks),
+            _ => false,
+        },
+        Tree::Gate => matches!(value, Value::Unit),
+        Tree::Table(table) => match value {
+            Value::Name(place) => usize::from(*place) < table.names.as_slice().len(),
+            _ => false,
+        },
+        Tree::Lex(a, b) | Tree::Scoped(a, b) => match value {
+            Value::Pair(u, v) => is_member(a, u) && is_member(b, v),
+            _ => false,
+        },
+        Tree::Union(a, b) | Tree::Sum(a, b) => match value {
+            Value::First(u) => is_member(a, u),
+            Value::Second(v) => is_member(b, v),
+            _ => false,
+        },
+        Tree::Plus(a, _) | Tree::Left(a) | Tree::Right(a) => is_member(a, value),
     }
 }
 
@@ -62,32 +71,54 @@ pub(crate) fn is_label(tree: &Tree, label: &Label) -> bool
     requires { MeetsRanges (expression_of tree.now) }
     ensures { (result ≡ true) ↔ IsLabel (expression_of tree.now) (pure_label label.now) }
 {
-    match (tree, label) {
-        (
-            Tree::Add { low, high }
-            | Tree::Cap { low, high, .. }
-            | Tree::Worst { low, high, .. }
-            | Tree::Width { low, high, .. },
-            Label::Number(n),
-        ) => low <= n && n <= high,
-        (Tree::Pref { top }, Label::Number(n)) => n <= top,
-        (Tree::Orig { .. } | Tree::Tags { .. } | Tree::Right(_), Label::Keep) => true,
-        (Tree::Seq { symbols } | Tree::SimSeq { symbols }, Label::Symbol(n)) => n < symbols,
-        (Tree::Tags { count }, Label::Mark(k) | Label::Unmark(k))
-        | (Tree::Guard { count }, Label::Need(k) | Label::Bar(k)) => u64::from(*k) < *count,
-        (Tree::Gate, Label::Allow | Label::Deny) => true,
-        (Tree::Table(table), Label::Row(place)) => {
-            usize::from(*place) < table.rows.as_slice().len()
+    match tree {
+        Tree::Add { low, high }
+        | Tree::Cap { low, high, .. }
+        | Tree::Worst { low, high, .. }
+        | Tree::Width { low, high, .. } => {
+            matches!(label, Label::Number(n) if low <= n && n <= high)
         }
-        (Tree::Lex(a, b), Label::Pair(l, m)) | (Tree::Sum(a, b), Label::Both(l, m)) => {
-            is_label(a, l) && is_label(b, m)
+        Tree::Pref { top } => matches!(label, Label::Number(n) if n <= top),
+        Tree::Orig { .. } | Tree::Right(_) => matches!(label, Label::Keep),
+        Tree::Seq { symbols } | Tree::SimSeq { symbols } => {
+            matches!(label, Label::Symbol(n) if n < symbols)
         }
-        (Tree::Scoped(a, b), Label::Outer(l, v)) => is_label(a, l) && is_member(b, v),
-        (Tree::Scoped(_, b), Label::Inner(m)) => is_label(b, m),
-        (Tree::Union(a, _) | Tree::Plus(a, _), Label::First(l)) => is_label(a, l),
-        (Tree::Union(_, b) | Tree::Plus(_, b), Label::Second(m)) => is_label(b, m),
-        (Tree::Left(a), Label::Const(v)) => is_member(a, v),
-        _ => false,
+        Tree::Tags { count } => match label {
+            Label::Keep => true,
+            Label::Mark(k) | Label::Unmark(k) => u64::from(*k) < *count,
+            _ => false,
+        },
+        Tree::Guard { count } => match label {
+            Label::Need(k) | Label::Bar(k) => u64::from(*k) < *count,
+            _ => false,
+        },
+        Tree::Gate => matches!(label, Label::Allow | Label::Deny),
+        Tree::Table(table) => match label {
+            Label::Row(place) => usize::from(*place) < table.rows.as_slice().len(),
+            _ => false,
+        },
+        Tree::Lex(a, b) => match label {
+            Label::Pair(l, m) => is_label(a, l) && is_label(b, m),
+            _ => false,
+        },
+        Tree::Scoped(a, b) => match label {
+            Label::Outer(l, v) => is_label(a, l) && is_member(b, v),
+            Label::Inner(m) => is_label(b, m),
+            _ => false,
+        },
+        Tree::Union(a, b) | Tree::Plus(a, b) => match label {
+            Label::First(l) => is_label(a, l),
+            Label::Second(m) => is_label(b, m),
+            _ => false,
+        },
+        Tree::Sum(a, b) => match label {
+            Label::Both(l, m) => is_label(a, l) && is_label(b, m),
+            _ => false,
+        },
+        Tree::Left(a) => match label {
+            Label::Const(v) => is_member(a, v),
+            _ => false,
+        },
     }
 }
 

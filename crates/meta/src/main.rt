@@ -41,19 +41,34 @@ fn read_args<R: AllocGlobal + Env>(rt: &R) -> Result<Vec<Text>, WordsError> {
     Ok(words)
 }
 
+// Carries the words out over the system's files, and answers the status.
+fn carry_out<R: AllocGlobal + Files + Print>(
+    rt: &R,
+    words: &[Text],
+    out: &mut OutSink<'_, R>,
+) -> u8 {
+    let mut shelf = FileShelf::new(rt);
+    let ended = run_meta(rt, words, &mut shelf, out, &OpenGate);
+    let status = status(&ended.answer);
+    // By a call: a drop in place is proved here, field by field.
+    drop(ended);
+    status
+}
+
+// Refuses words that aren't UTF-8, and answers the status.
+fn refuse_words<R: Print>(out: &mut OutSink<'_, R>) -> u8 {
+    match put_all(out, b"words refused: C2\n") {
+        Ok(()) => 1,
+        Err(_) => 6,
+    }
+}
+
 // What the program does, and the status that it ends with.
 fn run<R: AllocGlobal + Env + Files + Print>(rt: &R) -> u8 {
     let mut out = OutSink::new(rt);
     match read_args(rt) {
-        Ok(words) => {
-            let mut shelf = FileShelf::new(rt);
-            let ended = run_meta(rt, &words, &mut shelf, &mut out, &OpenGate);
-            status(&ended.answer)
-        }
-        Err(WordsError::NotText) => match put_all(&mut out, b"words refused: C2\n") {
-            Ok(()) => 1,
-            Err(_) => 6,
-        },
+        Ok(words) => carry_out(rt, &words, &mut out),
+        Err(WordsError::NotText) => refuse_words(&mut out),
         Err(WordsError::NoMemory) => 7,
     }
 }

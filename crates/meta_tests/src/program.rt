@@ -37,7 +37,9 @@ fn status_of_run<S: Shelf, K: Sink>(
     out: &mut K,
 ) -> u8 {
     let ended = run_meta(rt, words, shelf, out, &OpenGate);
-    status(&ended.answer)
+    let status = status(&ended.answer);
+    drop(ended);
+    status
 }
 
 // A run of these words.

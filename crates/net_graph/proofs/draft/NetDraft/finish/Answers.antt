@@ -17,8 +17,8 @@ from_parts-requires-clause-known c =
     let known = c.self.inside.known in
     let lines = c.in_ok-lines.lines in
     filed_known known.alg known.nodes known.dests c.self.inside.arcs.items c.self.inside.origins.items
-        lines.out.groups lines.out.spots.items lines.homes.groups lines.homes.spots.items known.arc_pairs known.origin_pairs
-        c.in_ok-lines.ensures.out.stand c.in_ok-lines.ensures.homes.stand c.self.invariant
+    lines.out.groups lines.out.spots.items lines.homes.groups lines.homes.spots.items known.arc_pairs known.origin_pairs
+    c.in_ok-lines.ensures.out.stand c.in_ok-lines.ensures.homes.stand c.self.invariant
 
 pub from_parts-requires-clause-filed : goal.from_parts-requires-clause-filed
 from_parts-requires-clause-filed c =
@@ -26,10 +26,10 @@ from_parts-requires-clause-filed c =
     let lines = c.in_ok-lines.lines in
     let told = c.in_ok-lines.ensures in
     filed_net known.alg known.nodes known.dests c.self.inside.arcs.items c.self.inside.origins.items
-        lines.out.groups lines.out.spots.items lines.heard lines.homes.groups lines.homes.spots.items
-        (told.out.count ∙ c.count.ensures) told.out.filed told.out.stand
-        (told.heard.count ∙ c.count.ensures) told.heard.listed
-        (told.homes.count ∙ c.count-2.ensures) told.homes.filed told.homes.stand
+    lines.out.groups lines.out.spots.items lines.heard lines.homes.groups lines.homes.spots.items
+    (told.out.count ∙ c.count.ensures) told.out.filed told.out.stand
+    (told.heard.count ∙ c.count.ensures) told.heard.listed
+    (told.homes.count ∙ c.count-2.ensures) told.homes.filed told.homes.stand
 
 pub returns : goal.returns
 returns c =
