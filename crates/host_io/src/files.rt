@@ -13,6 +13,7 @@ pub struct FileShelf<'a, R: Files> {
     file: Option<R::File>,
     taken: u64,
     ended: bool,
+    begun: u64,
     faults: u64,
 }
 
@@ -21,6 +22,7 @@ impl<'a, R: Files> FileShelf<'a, R> {
     pub fn new(rt: &'a R) -> Self
         ensures taken { result.taken ≡ 0 }
         ensures ended { result.ended ≡ false }
+        ensures begun { result.begun ≡ 0 }
         ensures faults { result.faults ≡ 0 }
     {
         FileShelf {
@@ -28,6 +30,7 @@ impl<'a, R: Files> FileShelf<'a, R> {
             file: None,
             taken: 0,
             ended: false,
+            begun: 0,
             faults: 0,
         }
     }
@@ -36,11 +39,12 @@ impl<'a, R: Files> FileShelf<'a, R> {
 impl<'a, R: Files> Shelf for FileShelf<'a, R> {
     ghost use Rattle.host_io.specs.Outside.{silent_shelf};
 
-    ghost now_is = { λ s. silent_shelf s.taken s.ended s.faults };
+    ghost now_is = { λ s. silent_shelf s.taken s.ended s.begun s.faults };
 
     fn begin(&mut self, name: &str) -> Result<(), Failed> {
         self.taken = 0;
         self.ended = false;
+        self.begun = self.begun.saturating_add(1);
         self.file = fs::open(self.rt, name).ok();
         if self.file.is_some() {
             return Ok(());

@@ -29,5 +29,6 @@ moment_of s = record {
   rest = drop s.at (option_map_or (bytes_at s.files) s.begun []);
   taken = s.taken;
   ended = s.ended;
+  begun = s.tries;
   faults = s.calls.faults;
 }

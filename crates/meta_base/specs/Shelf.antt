@@ -14,6 +14,8 @@ pub record Moment : Type 0 where
   -- how many bytes were taken since the last begin, and whether the end was found since
   pub taken : ℕ
   pub ended : Bool
+  -- how many files were begun, or tried
+  pub begun : ℕ
   -- the count of faults
   pub faults : ℕ
 
@@ -21,11 +23,17 @@ pub record Moment : Type 0 where
 abbrev pub IsAbsent : Moment → List ℕ → Type 0
 IsAbsent m name = IsTrue m.tells × (m.file name ≡ None)
 
--- no call changes the files or whether they are told, and the count never falls
+-- no call changes the files or whether they are told, and the counts never fall
 pub record Keeps (old new : Moment) : Type 0 where
   pub tells : new.tells ≡ old.tells
   pub file : (name : List ℕ) → new.file name ≡ old.file name
   pub faults : old.faults ≤ new.faults
+  pub begun : old.begun ≤ new.begun
+
+-- a call that doesn't fail leaves the count of faults
+abbrev pub KeepsFaults : {A E : Type 0} → Moment → Result A E → Moment → Type 0
+KeepsFaults old (Ok _) new = new.faults ≡ old.faults
+KeepsFaults old (Err _) new = Unit {0}
 
 -- the file is there and all of it is left; or no file is begun, with the cause of that
 abbrev pub HasBegun : {A : Type 0} → Moment → List ℕ → Moment → Result A Failed → Type 0
@@ -37,7 +45,9 @@ pub record Begins {A : Type 0} (old : Moment) (name : List ℕ) (new : Moment) (
   pub keeps : Keeps old new
   pub taken : new.taken ≡ 0
   pub ended : new.ended ≡ false
-  pub begun : HasBegun old name new result
+  pub has_begun : HasBegun old name new result
+  pub begun : new.begun ≡ raised old.begun 1
+  pub no_fault : KeepsFaults old result new
 
 -- the first n bytes of what was left stand at the front of the buffer
 pub record Moved (old : Moment) (before : List ℕ) (n : ℕ) (new : Moment) (after : List ℕ) : Type 0 where
@@ -50,6 +60,8 @@ pub record Moved (old : Moment) (before : List ℕ) (n : ℕ) (new : Moment) (af
 -- what a read of n bytes does
 pub record Read (old : Moment) (before : List ℕ) (n : ℕ) (new : Moment) (after : List ℕ) : Type 0 where
   pub fits : n ≤ length before
+  pub begun : new.begun ≡ old.begun
+  pub no_fault : new.faults ≡ old.faults
   pub taken : new.taken ≡ raised old.taken n
   pub found : n ≡ 0 → 0 < length before → new.ended ≡ true
   pub not_found : 0 < n ⊎ (length before ≡ 0) → new.ended ≡ old.ended
@@ -58,6 +70,7 @@ pub record Read (old : Moment) (before : List ℕ) (n : ℕ) (new : Moment) (aft
 -- what a read that failed does
 pub record NotRead (old new : Moment) : Type 0 where
   pub risen : HasRisen old.faults new.faults
+  pub begun : new.begun ≡ old.begun
   pub taken : new.taken ≡ old.taken
   pub ended : new.ended ≡ old.ended
   pub rest : IsTrue old.tells → new.rest ≡ old.rest

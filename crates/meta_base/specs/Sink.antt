@@ -16,11 +16,9 @@ pub record Held : Type 0 where
 pub record Took (old : Held) (piece : List ℕ) (n : ℕ) (new : Held) : Type 0 where
   pub fits : n ≤ length piece
   pub some : 0 < length piece → 0 < n
-  pub faults : old.faults ≤ new.faults
+  pub faults : new.faults ≡ old.faults
   pub tells : new.tells ≡ old.tells
   pub bytes : IsTrue old.tells → new.bytes ≡ old.bytes ++ take n piece
-  -- an empty piece changes nothing
-  pub unchanged : length piece ≡ 0 → new.faults ≡ old.faults
 
 -- nothing was taken of a piece that isn't empty
 pub record Refused (old : Held) (piece : List ℕ) (new : Held) : Type 0 where
@@ -34,9 +32,9 @@ abbrev pub HasWritten : Held → List ℕ → Result ℕ Failed → Held → Typ
 HasWritten old piece (Ok n) new = Took old piece n new
 HasWritten old piece (Err _) new = Refused old piece new
 
--- the whole piece was appended
+-- the whole piece was appended, and no write failed
 pub record Appended (old : Held) (piece : List ℕ) (new : Held) : Type 0 where
-  pub faults : old.faults ≤ new.faults
+  pub faults : new.faults ≡ old.faults
   pub tells : new.tells ≡ old.tells
   pub bytes : IsTrue old.tells → new.bytes ≡ old.bytes ++ piece
 
@@ -51,9 +49,9 @@ abbrev pub Puts : {A : Type 0} → Held → List ℕ → Result A Failed → Hel
 Puts old piece (Ok _) new = Appended old piece new
 Puts old piece (Err _) new = AppendedPart old piece new
 
--- the first n bytes of the piece have been appended
+-- the first n bytes of the piece have been appended, and no write failed
 pub record HasFront (old : Held) (piece : List ℕ) (n : ℕ) (new : Held) : Type 0 where
   pub within : n ≤ length piece
-  pub faults : old.faults ≤ new.faults
+  pub faults : new.faults ≡ old.faults
   pub tells : new.tells ≡ old.tells
   pub bytes : IsTrue old.tells → new.bytes ≡ old.bytes ++ take n piece

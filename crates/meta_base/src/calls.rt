@@ -36,6 +36,13 @@ impl Calls {
         self.failing.as_slice().contains(&call)
     }
 
+    // How many calls failed.
+    pub fn faults(&self) -> u64
+        ensures { result ≡ self.now.faults }
+    {
+        self.faults
+    }
+
     // Counts a fault.
     pub fn fault(&mut self) -> Failed
         ensures made { self.new.made ≡ self.old.made }

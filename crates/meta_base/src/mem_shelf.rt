@@ -1,4 +1,4 @@
-ghost use Rattle.std.specs.Prelude.{◌≡◌, ◌&&◌, List, [], ◌∷◌, ℕ, length, min, IfOk, is_ok, is_some, not, option_map, if◌then◌else◌};
+ghost use Rattle.std.specs.Prelude.{◌≡◌, ◌&&◌, false, List, [], ◌∷◌, ℕ, length, min, IfOk, is_ok, is_some, not, option_map, if◌then◌else◌};
 ghost use Rattle.std.specs.Option.{option_map_or};
 ghost use Rattle.meta_base.specs.Count.{raised};
 ghost use Rattle.meta_base.specs.Shelf.{Begins, Keeps, HasRead};
@@ -26,6 +26,8 @@ pub struct MemShelf {
     at: usize,
     taken: u64,
     ended: bool,
+    // How many files were begun, or tried.
+    tries: u64,
 }
 
 impl MemShelf {
@@ -39,7 +41,10 @@ impl MemShelf {
         ensures failing { failing_of result ≡ failing }
         ensures calls { calls_of result ≡ 0 }
         ensures rest { (moment_of result).rest ≡ [] }
+        ensures taken { (moment_of result).taken ≡ 0 }
+        ensures ended { (moment_of result).ended ≡ false }
         ensures faults { (moment_of result).faults ≡ 0 }
+        ensures begun { (moment_of result).begun ≡ 0 }
     {
         MemShelf {
             files,
@@ -48,7 +53,15 @@ impl MemShelf {
             at: 0,
             taken: 0,
             ended: false,
+            tries: 0,
         }
+    }
+
+    /// How many calls failed.
+    pub fn faults(&self) -> u64
+        ensures { result ≡ (moment_of self.now).faults }
+    {
+        self.calls.faults()
     }
 }
 
@@ -91,6 +104,7 @@ impl Shelf for MemShelf {
         self.ended = false;
         self.at = 0;
         self.begun = None;
+        self.tries = self.tries.saturating_add(1);
         if self.calls.count() {
             return Err(self.calls.fault());
         }

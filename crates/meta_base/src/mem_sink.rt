@@ -54,6 +54,13 @@ impl MemSink {
     {
         &self.buffer[..self.len]
     }
+
+    /// How many writes failed.
+    pub fn faults(&self) -> u64
+        ensures { result ≡ (held_by self.now).faults }
+    {
+        self.calls.faults()
+    }
 }
 
 impl Sink for MemSink {
@@ -65,6 +72,7 @@ impl Sink for MemSink {
         ensures written { HasWritten (held_by self.old) piece.now result (held_by self.new) }
         ensures answer { is_ok result ≡ (length piece.now == 0 || not (refuses_now self.old)) }
         ensures amount { IfOk result (λ n. n ≡ min (min (length piece.now) (bite_of self.old)) (room_of self.old - length (taken_by self.old))) }
+        ensures faults { (held_by self.new).faults ≡ (if length piece.now == 0 then (held_by self.old).faults else (if refuses_now self.old then raised (held_by self.old).faults 1 else (held_by self.old).faults)) }
         ensures writes { writes_of self.new ≡ (if length piece.now == 0 then writes_of self.old else raised (writes_of self.old) 1) }
         ensures failing { failing_of self.new ≡ failing_of self.old }
         ensures room { room_of self.new ≡ room_of self.old }

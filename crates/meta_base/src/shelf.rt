@@ -6,7 +6,8 @@ use crate::Failed;
 ///
 /// A shelf shows at every moment whether it tells its contents, the bytes of its named files and what
 /// is left of the file that was begun, how many bytes were taken since the last `begin`, whether the
-/// end was found since then, and a count of faults that never falls and stops at the greatest `u64`.
+/// end was found since then, how many files were begun or tried, and a count of faults; both counts
+/// never fall and stop at the greatest `u64`. A call that doesn't fail leaves the count of faults.
 pub trait Shelf {
     /// What the shelf shows.
     ghost now_is: { Self → Moment };
@@ -14,8 +15,8 @@ pub trait Shelf {
     /// Begins the file of that name, in place of the one begun before.
     ///
     /// It fails only where the count of faults rose, or where the shelf tells that it has no file of
-    /// that name; then no file is begun. Whatever it answers, the number of bytes taken is 0 and the
-    /// end isn't found.
+    /// that name; then no file is begun. Whatever it answers, the number of bytes taken is 0, the end
+    /// isn't found, and the count of files rises by one.
     fn begin(&mut self, name: &str) -> Result<(), Failed>
         ensures { Begins (now_is self.old) name.now (now_is self.new) result };
 

@@ -13,8 +13,8 @@ pub trait Sink {
     /// Takes bytes from the front of the piece, at least one where it isn't empty, and answers how
     /// many.
     ///
-    /// It fails only on a piece that isn't empty, where the count of faults rose; it has then taken
-    /// nothing. An empty piece changes nothing.
+    /// It fails only on a piece that isn't empty, where the count of faults rises; it has then taken
+    /// nothing. A call that doesn't fail leaves the count, and one with an empty piece changes nothing.
     fn write(&mut self, piece: &[u8]) -> Result<usize, Failed>
         ensures { HasWritten (holds self.old) piece.now result (holds self.new) };
 }

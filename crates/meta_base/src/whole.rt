@@ -1,5 +1,5 @@
 ghost use Rattle.std.specs.Prelude.{◌≡◌, ◌⊎◌, ◌<◌, ◌≤◌, ℕ, List, Some, None, true, length, IfOk, OnOk, IsTrue, IsErrOf};
-ghost use Rattle.meta_base.specs.Count.{HasRisen};
+ghost use Rattle.meta_base.specs.Count.{HasRisen, raised};
 ghost use Rattle.meta_base.specs.Shelf.{Keeps, IsAbsent};
 ghost use Rattle.meta_base.specs.Sink.{Puts};
 
@@ -11,10 +11,10 @@ const CHUNK: usize = 16384;
 
 /// Takes all bytes of the file `name`, which may have at most `limit` of them.
 ///
-/// Each read is offered a buffer of 16,384 bytes. [`TakeError::Fault`] comes only where the shelf's
-/// count of faults rose or where the shelf tells that it has no such file, and
-/// [`TakeError::TooLong`] exactly where more than `limit` bytes were taken. The file stays begun,
-/// read as far as the answer needed.
+/// It begins one file, and each read is offered a buffer of 16,384 bytes. [`TakeError::Fault`] comes only
+/// where the shelf's count of faults rose or where the shelf tells that it has no such file; after any
+/// other answer the count is as it was. [`TakeError::TooLong`] comes exactly where more than `limit`
+/// bytes were taken. The file stays begun, read as far as the answer needed.
 pub fn take_all<S: Shelf>(
     alloc: Global,
     shelf: &mut S,
@@ -23,6 +23,12 @@ pub fn take_all<S: Shelf>(
 ) -> Result<List<u8>, TakeError>
     requires { limit ≤ MAX_FILE_BYTES }
     ensures keeps { Keeps (S.now_is shelf.old) (S.now_is shelf.new) }
+
+    // It begins one file, and no call failed unless that is answered.
+    ensures begins { (S.now_is shelf.new).begun ≡ raised (S.now_is shelf.old).begun 1 }
+    ensures no_fault { IfOk result (λ _. (S.now_is shelf.new).faults ≡ (S.now_is shelf.old).faults) }
+    ensures no_fault_long { IsErrOf result TakeError.TooLong → (S.now_is shelf.new).faults ≡ (S.now_is shelf.old).faults }
+    ensures no_fault_memory { IsErrOf result TakeError.NoMemory → (S.now_is shelf.new).faults ≡ (S.now_is shelf.old).faults }
 
     // Each refusal has its cause.
     ensures fault { IsErrOf result TakeError.Fault →
@@ -55,8 +61,8 @@ pub fn take_all<S: Shelf>(
 
 /// Writes the whole piece, in as many writes as the sink needs: each offers all that is left.
 ///
-/// It fails only where the sink's count of faults rose; a front of the piece that isn't all of it was
-/// then appended.
+/// It fails only where the sink's count of faults rose, and a front of the piece that isn't all of it was
+/// then appended; where it doesn't fail the count is as it was.
 pub fn put_all<K: Sink>(out: &mut K, piece: &[u8]) -> Result<(), Failed>
     ensures { Puts (K.holds out.old) piece.now result (K.holds out.new) }
 {

@@ -67,11 +67,24 @@ fn whole_files(rt: HostRuntime) -> Result<(), Fail> {
     Ok(())
 }
 
+// Call 0 begins the file, and the longest one is read and found to end by the 1,025 calls behind it, as
+// long as each takes 4,096 bytes at least.
+#[test]
+fn reads_are_large(rt: HostRuntime) -> Result<(), Fail> {
+    let file = vec![in rt.alloc(); b'a'; MAX_FILE_BYTES]?;
+    let mut shelf = shelf_of(rt.alloc(), &file, &[1026])?;
+    let bytes = taken_from(rt.alloc(), &mut shelf, "f", MAX_FILE_BYTES)?;
+    assert_eq!(rt; bytes.as_slice().len(), MAX_FILE_BYTES);
+    assert_eq!(rt; shelf.faults(), 0);
+    Ok(())
+}
+
 #[test]
 fn whole_pieces(rt: HostRuntime) -> Result<(), Fail> {
     let mut out = MemSink::new(rt.alloc(), 3, 9, List::new(rt.alloc()))?;
     assert_eq!(rt; put_all(&mut out, b"abcde"), Err(Failed));
     assert_eq!(rt; out.taken(), b"abc".as_slice());
+    assert_eq!(rt; out.faults(), 1);
     let mut out = MemSink::new(rt.alloc(), 9, 2, List::new(rt.alloc()))?;
     assert_eq!(rt; put_all(&mut out, b"abcde"), Ok(()));
     assert_eq!(rt; out.taken(), b"abcde".as_slice());

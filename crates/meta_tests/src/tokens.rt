@@ -129,11 +129,18 @@ fn the_longest_source(rt: HostRuntime) -> Result<(), Fail> {
         }
     );
 
+    // So is a token alone that is as long as that.
     let digits = vec![in rt.alloc(); b'0'; MAX_FILE_BYTES]?;
     let mut tokens = Tokens::new(&digits);
     match tokens.next() {
         Some(Ok(token)) => assert_eq!(rt; token.kind, TokenKind::Number(0)),
         _ => panic!(rt; "no number"),
+    }
+    let letters = vec![in rt.alloc(); b'a'; MAX_FILE_BYTES]?;
+    let mut tokens = Tokens::new(&letters);
+    match tokens.next() {
+        Some(Ok(token)) => assert_eq!(rt; token.kind, TokenKind::Word),
+        _ => panic!(rt; "no word"),
     }
     Ok(())
 }

@@ -1,6 +1,6 @@
 -- What reading a file comes to: what its bytes mean, or the cause of a refusal.
-use Rattle.std.specs.Prelude.{◌≡◌, ℕ, ◌<◌, ◌≤◌, ◌⊎◌, List, Some, Result, Ok, Err, true, IsTrue, length}
-use Rattle.meta_base.specs.Count.{HasRisen}
+use Rattle.std.specs.Prelude.{◌≡◌, ◌≢◌, ℕ, ◌<◌, ◌≤◌, ◌⊎◌, List, Some, Result, Ok, Err, true, IsTrue, length}
+use Rattle.meta_base.specs.Count.{HasRisen, raised}
 use Rattle.meta_base.specs.Shelf.{Moment, Keeps, IsAbsent}
 use Rattle.meta_base.specs.declared.ids.Which.{Which}
 use Rattle.meta_base.specs.declared.ids.Which.TheVariants.{Expr, Network}
@@ -33,6 +33,9 @@ pub record Takes (which : Which) (name : List ℕ) (old : Moment) (result : Resu
   pub keeps : Keeps old new
   -- what was too much is always refused
   pub too_long : MAX_FILE_BYTES < new.taken → result ≡ Err (TooLong which)
+  -- one file is begun, and no call fails unless that is answered
+  pub begun : new.begun ≡ raised old.begun 1
+  pub no_fault : result ≢ Err (ReadFault which) → new.faults ≡ old.faults
   pub taken : IsTakenAs which name old result new
 
 -- why there is no algebra
@@ -48,6 +51,9 @@ IsExpressionAs name old (Err answer) new = HasNoAlgebra name old new answer
 pub record ReadsExpression (name : List ℕ) (old : Moment) (result : Result Expression Answer) (new : Moment) : Type 0 where
   pub keeps : Keeps old new
   pub too_long : MAX_FILE_BYTES < new.taken → result ≡ Err (TooLong Expr)
+  -- one file is begun, and no call fails unless that is answered
+  pub begun : new.begun ≡ raised old.begun 1
+  pub no_fault : result ≢ Err (ReadFault Expr) → new.faults ≡ old.faults
   pub read : IsExpressionAs name old result new
 
 -- why there is no network over the algebra
@@ -64,4 +70,7 @@ IsNetworkAs a name old (Err answer) new = HasNoNetwork a name old new answer
 pub record ReadsNetwork (a : Expression) (name : List ℕ) (old : Moment) (result : Result PureNet Answer) (new : Moment) : Type 0 where
   pub keeps : Keeps old new
   pub too_long : MAX_FILE_BYTES < new.taken → result ≡ Err (TooLong Network)
+  -- one file is begun, and no call fails unless that is answered
+  pub begun : new.begun ≡ raised old.begun 1
+  pub no_fault : result ≢ Err (ReadFault Network) → new.faults ≡ old.faults
   pub read : IsNetworkAs a name old result new
