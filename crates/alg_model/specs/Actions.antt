@@ -1,6 +1,6 @@
 -- What a label needs to act on a value.
-use Rattle.std.specs.Prelude.{◌^◌}
 use Rattle.meta_base.specs.declared.limits.TheConstants.{MAX_NUMBER}
+use Rattle.alg_model.specs.declared.alg.TheConstants.{MAX_VALUE_NUMBER}
 use Rattle.alg_model.specs.Expressions.{Expression, PureLabel, PureValue}
 use Rattle.alg_model.specs.Carriers.{carrier_of, In}
 use Rattle.alg_model.specs.Application.{IsLabel}
@@ -14,4 +14,4 @@ pub record MayAct (a : Expression) (l : PureLabel) (v : PureValue) : Type 0 wher
   pub label : IsLabel a l
   pub value : In (carrier_of a) v
   pub small_label : LabelAtMost MAX_NUMBER l
-  pub small_value : AtMost (2 ^ 62) v
+  pub small_value : AtMost MAX_VALUE_NUMBER v

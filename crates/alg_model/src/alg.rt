@@ -4,8 +4,8 @@ ghost use Rattle.alg_model.specs.Formation.{IsFormed, IsFirstBroken};
 ghost use Rattle.alg_model.specs.Bounds.{ExpressionAtMost};
 ghost use Rattle.meta_base.specs.declared.limits.TheConstants.{MAX_NUMBER};
 
-use crate::Tree;
 use crate::formation::{meets_carriers, meets_names, meets_ranges, room_behind};
+use crate::{Amount, Tree};
 use meta_base::NoMemory;
 use std::alloc::Global;
 use std::marker::Model;
@@ -22,6 +22,13 @@ pub const MAX_SIMPLE_SYMBOLS: u64 = 1024;
 
 /// The most numbers of sets: they are the bits of a word.
 pub const MAX_MARKS: u64 = 64;
+
+/// The greatest number of a value that a label may be applied to: the numbers of images leave room
+/// above it.
+pub const MAX_VALUE_NUMBER: Amount = 1 << 120;
+
+/// The greatest number of the values of an instance.
+pub const MAX_INSTANCE_NUMBER: Amount = 1 << 66;
 
 /// The first formation rule that a tree breaks, in this order.
 #[derive(Clone, Copy, Debug, PartialEq, Eq, Error)]

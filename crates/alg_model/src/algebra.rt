@@ -1,5 +1,6 @@
 ghost use Rattle.std.specs.Prelude.{◌≡◌, ◌≤◌, ◌^◌, ◌+◌, ℕ, IfOk, IfSome, option_map};
 ghost use Rattle.meta_base.specs.declared.limits.TheConstants.{MAX_NUMBER};
+ghost use Rattle.alg_model.specs.declared.alg.TheConstants.{MAX_VALUE_NUMBER};
 ghost use Rattle.alg_model.specs.Expressions.{Expression, PureValue, PureLabel};
 ghost use Rattle.alg_model.specs.Views.{pure_value, pure_label};
 ghost use Rattle.alg_model.specs.Carriers.{carrier_of, In, Order};
@@ -61,7 +62,7 @@ pub trait Algebra: Sync {
         requires second { is_sig self.now b.now }
         ensures { result ≡ Order (carrier_of (expression self.now)) (sig_value self.now a.now) (sig_value self.now b.now) };
 
-    /// What the label makes of the value, no number of which is above 2^62: a value, or `None` where
+    /// What the label makes of the value, no number of which is above [`crate::MAX_VALUE_NUMBER`]: a value, or `None` where
     /// it prohibits it. No number of the result is above the greatest of the value plus
     /// [`meta_base::MAX_NUMBER`].
     fn apply(
@@ -72,7 +73,7 @@ pub trait Algebra: Sync {
     ) -> Result<Option<Self::Sig>, NoMemory>
         requires lab { (l : PureLabel) × stands_for self.now lab.now l }
         requires sig { is_sig self.now sig.now }
-        requires small { AtMost (2 ^ 62) (sig_value self.now sig.now) }
+        requires small { AtMost MAX_VALUE_NUMBER (sig_value self.now sig.now) }
         ensures sig { IfOk result (λ image. IfSome image (is_sig self.now)) }
         ensures image { (l : PureLabel) → stands_for self.now lab.now l →
             IfOk result (λ image. option_map (sig_value self.now) image ≡ App (expression self.now) l (sig_value self.now sig.now)) }

@@ -1,6 +1,7 @@
 ghost use Rattle.std.specs.Prelude.{◌≡◌, ◌≤◌, ◌<◌, ◌==◌, ◌^◌, ◌+◌, ◌++◌, [], ◌∷◌, ℕ, Some, IfOk, IfSome, option_map};
 ghost use Rattle.std.specs.List.{list_any};
 ghost use Rattle.meta_base.specs.declared.limits.TheConstants.{MAX_NUMBER};
+ghost use Rattle.alg_model.specs.declared.alg.TheConstants.{MAX_VALUE_NUMBER};
 ghost use Rattle.alg_model.specs.Expressions.{lex, scoped, union, sum, number, number_label, pair, first, second};
 ghost use Rattle.alg_model.specs.Views.{expression_of, pure_value, pure_label};
 ghost use Rattle.alg_model.specs.Carriers.{carrier_of, In};
@@ -16,8 +17,9 @@ use std::alloc::Global;
 /// What the label makes of the value: a value, or `None` where it prohibits it.
 ///
 /// The label and the value are the algebra's, and so is the result. No number of the label is above
-/// [`meta_base::MAX_NUMBER`] and none of the value above 2^62; no number of the result is above the
-/// greatest of the value plus [`meta_base::MAX_NUMBER`]. It is refused for want of memory alone.
+/// [`meta_base::MAX_NUMBER`] and none of the value above [`crate::MAX_VALUE_NUMBER`]; no number of the result
+/// is above the greatest of the value plus [`meta_base::MAX_NUMBER`]. It is refused for want of memory
+/// alone.
 pub fn apply(
     alloc: Global,
     alg: &Alg,
@@ -27,7 +29,7 @@ pub fn apply(
     requires label { IsLabel alg.now (pure_label label.now) }
     requires value { In (carrier_of alg.now) (pure_value value.now) }
     requires small_label { LabelAtMost MAX_NUMBER (pure_label label.now) }
-    requires small_value { AtMost (2 ^ 62) (pure_value value.now) }
+    requires small_value { AtMost MAX_VALUE_NUMBER (pure_value value.now) }
     ensures image { IfOk result (λ image. option_map pure_value image ≡ App alg.now (pure_label label.now) (pure_value value.now)) }
     ensures value { IfOk result (λ image. IfSome image (λ v. In (carrier_of alg.now) (pure_value v))) }
     ensures bound { (n : ℕ) → AtMost n (pure_value value.now) →
@@ -200,12 +202,13 @@ fn sum_image(
 // What the label n makes of the number m, where numbers are values and labels.
 fn number_image(tree: &Tree, n: u64, m: Amount) -> Option<Amount>
     requires label { n ≤ MAX_NUMBER }
-    requires value { m ≤ 2 ^ 62 }
+    requires value { m ≤ MAX_VALUE_NUMBER }
     ensures { option_map number result ≡ App (expression_of tree.now) (number_label n) (number m) }
 {
+    let n = Amount::from(n);
     match tree {
         Tree::Add { .. } => Some(m + n),
-        Tree::Cap { top, .. } if m + n <= *top => Some(m + n),
+        Tree::Cap { top, .. } if m + n <= Amount::from(*top) => Some(m + n),
         Tree::Worst { .. } => Some(m.max(n)),
         Tree::Width { .. } => Some(m.min(n)),
         Tree::Pref { .. } => Some(n),

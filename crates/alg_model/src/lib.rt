@@ -15,7 +15,10 @@ mod membership;
 mod preference;
 mod tree;
 
-pub use alg::{Alg, MAX_MARKS, MAX_SIMPLE_SYMBOLS, MAX_TABLE_NAMES, MAX_TREE_NODES, Shape};
+pub use alg::{
+    Alg, MAX_INSTANCE_NUMBER, MAX_MARKS, MAX_SIMPLE_SYMBOLS, MAX_TABLE_NAMES, MAX_TREE_NODES,
+    MAX_VALUE_NUMBER, Shape,
+};
 pub use algebra::{Algebra, TreeAlgebra};
 pub use application::apply;
 pub use carrier::{carrier_of, have_same_carrier, same_carrier};

@@ -8,7 +8,7 @@ ghost use Rattle.alg_model.specs.Application.{IsLabel};
 ghost use Rattle.alg_model.specs.Formation.{MeetsRanges};
 ghost use Rattle.alg_model.specs.declared.alg.TheConstants.{MAX_SIMPLE_SYMBOLS};
 
-use crate::{Alg, Label, MAX_MARKS, MAX_SIMPLE_SYMBOLS, Tree, Value};
+use crate::{Alg, Amount, Label, MAX_MARKS, MAX_SIMPLE_SYMBOLS, Tree, Value};
 
 /// Whether the value is in the algebra's carrier. It takes no memory, and time in proportion to the
 /// value and the algebra's tree.
@@ -36,7 +36,7 @@ pub(crate) fn is_member(tree: &Tree, value: &Value) -> bool
         | Tree::Worst { top, .. }
         | Tree::Width { top, .. }
         | Tree::Pref { top }
-        | Tree::Orig { top } => matches!(value, Value::Number(n) if n <= top),
+        | Tree::Orig { top } => matches!(value, Value::Number(n) if *n <= Amount::from(*top)),
         Tree::Seq { symbols } => match value {
             Value::Symbols(ns) => are_below(*symbols, ns.as_slice()),
             _ => false,

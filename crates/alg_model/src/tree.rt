@@ -1,7 +1,7 @@
 use meta_base::{List, Text};
 
 /// The numbers inside values: sums of labels' numbers along a path.
-pub type Amount = u64;
+pub type Amount = u128;
 
 /// The tree of an expression of the Routing Algebra Meta-Language (Griffin and Sobrinho 2005; `Union`
 /// and `Sum` are this project's own). In what follows, small numbers are preferred unless great ones

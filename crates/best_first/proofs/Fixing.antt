@@ -1,4 +1,5 @@
 -- The step from one state to the next, as the code makes it.
+use Rattle.alg_model.specs.declared.alg.TheConstants.{MAX_VALUE_NUMBER}
 use Rattle.std.proofs.Common.{◌≡◌, ℕ, ◌+◌, ◌^◌, ◌<◌, zero, suc, List, ◌∷◌, Option, Some, None, Ok, Err, IfOk, option_map, length, get_or, replicate, refl, sym, ap, ◌∙◌, arith}
 use Rattle.std.proofs.Math.ListN.{set}
 use Rattle.std.proofs.lemmas.List.{length-map, length-set, map-set, length-replicate}
@@ -55,7 +56,7 @@ module _ {S : Type 0} (value : S → PureValue) (net : PureNet) (dest : ℕ) (ro
         let f : offer_at open_offers i ≡ Some next = offer-read open_offers i x open_within there ∙ e in
         rw f at (h i)
 
-    pub next_small : (next : Offer S) → x ≡ Some next → AtMost (2 ^ 62) (value next.value)
+    pub next_small : (next : Offer S) → x ≡ Some next → AtMost MAX_VALUE_NUMBER (value next.value)
     next_small next e = open_small net dest (routes_of value rows) (routes_of value open_offers) i (route_of value next) n st (told next e)
 
     fewer : (next : Offer S) → x ≡ Some next → none_count (routes_of value (set rows i (Some next))) + 1 ≡ none_count (routes_of value rows)

@@ -4,6 +4,8 @@ use Rattle.std.proofs.Math.ListN.{set}
 use Rattle.std.proofs.lemmas.Bool.{cases_lt, false≢true}
 use Rattle.std.proofs.lemmas.Bool.Decides.{nat_tests}
 use Rattle.meta_base.specs.declared.limits.TheConstants.{MAX_NUMBER}
+use Rattle.alg_model.specs.declared.alg.TheConstants.{MAX_VALUE_NUMBER}
+use Rattle.net_graph.specs.declared.route.TheConstants.{MAX_ROW_NUMBER}
 use Rattle.alg_model.specs.Expressions.{PureCarrier, PureValue, PureLabel}
 use Rattle.alg_model.specs.Carriers.{In}
 use Rattle.alg_model.specs.Bounds.{AtMost}
@@ -420,7 +422,7 @@ last_state net dest rows open_routes n st none = record { table_of = table; orde
         let few : length r.path ≤ 512 = omega arith in
         record {
           value_in = h.value_in;
-          bound = at_most_more (MAX_NUMBER * length r.path) (2 ^ 61) r.value (omega arith) h.bound;
+          bound = at_most_more (MAX_NUMBER * length r.path) MAX_ROW_NUMBER r.value (omega arith) h.bound;
           path = omega arith;
         }
 
@@ -435,19 +437,19 @@ last_state net dest rows open_routes n st none = record { table_of = table; orde
 
 -- the numbers of what is open are small
 pub open_small : (net : PureNet) (dest : ℕ) (rows open_routes : List (Option PureRoute)) (i : ℕ) (r : PureRoute) → IsNet net → IsState net dest rows open_routes → found_at open_routes i ≡ Some r
-    → AtMost (2 ^ 62) r.value
+    → AtMost MAX_VALUE_NUMBER r.value
 open_small net dest rows open_routes i r n st told =
     let within : i < length net.nodes = elim (cases_lt i (length net.nodes)) [
       | inl l ↦ l
       | inr l ↦ absurd (let e = list_past open_routes i (let h = st.open_count in omega arith) in cc)
     ] in
-    at_most_more (MAX_NUMBER * length r.path) (2 ^ 62) r.value (few within (is_among st.before i) refl) (kept within (is_among st.before i) refl).bound
+    at_most_more (MAX_NUMBER * length r.path) MAX_VALUE_NUMBER r.value (few within (is_among st.before i) refl) (kept within (is_among st.before i) refl).bound
   where
     kept : i < length net.nodes → (b : Bool) → is_among st.before i ≡ b → IsKept net (i ∷ st.before) r
     kept l true e = absurd (let f = st.shut i e in cc)
     kept l false e = offer_kept net dest (rows_from dest 0 rows) st.before i r n (λ j s f. st.kept j s (sym (row-found dest 0 rows j) ∙ f)) (rw told at (st.chosen i l e)).0
 
-    few : i < length net.nodes → (b : Bool) → is_among st.before i ≡ b → MAX_NUMBER * length r.path ≤ 2 ^ 62
+    few : i < length net.nodes → (b : Bool) → is_among st.before i ≡ b → MAX_NUMBER * length r.path ≤ MAX_VALUE_NUMBER
     few l b e =
         let short = (kept l b e).short in
         let room = st.room in

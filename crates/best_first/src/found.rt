@@ -4,6 +4,7 @@ ghost use Rattle.meta_base.specs.declared.limits.TheConstants.{MAX_NUMBER};
 ghost use Rattle.alg_model.specs.Expressions.{PureValue};
 ghost use Rattle.alg_model.specs.Carriers.{carrier_of};
 ghost use Rattle.alg_model.specs.Application.{App, IsLabel};
+ghost use Rattle.alg_model.specs.declared.alg.TheConstants.{MAX_VALUE_NUMBER};
 ghost use Rattle.alg_model.specs.Bounds.{AtMost, LabelAtMost};
 ghost use Rattle.alg_model.specs.Views.{pure_label};
 ghost use Rattle.net_graph.specs.Nets.{IsNet};
@@ -76,7 +77,7 @@ pub(crate) fn arc_offer<A: Algebra>(
     requires label { IsLabel (A.expression algebra.now) (pure_label arc.now.label) }
     requires small_label { LabelAtMost MAX_NUMBER (pure_label arc.now.label) }
     requires sig { A.is_sig algebra.now next.now.value }
-    requires small { AtMost (2 ^ 62) (A.sig_value algebra.now next.now.value) }
+    requires small { AtMost MAX_VALUE_NUMBER (A.sig_value algebra.now next.now.value) }
     ensures sig { IfOk result (λ offer. IfSome offer (λ o. A.is_sig algebra.now o.value)) }
     ensures offer { IfOk result (λ offer. option_map (route_of (A.sig_value algebra.now)) offer ≡
         option_map (λ (v : PureValue). record { value = v; path = arc.now.tail.0 ∷ numbers next.now.path.items }) (App (A.expression algebra.now) (pure_label arc.now.label) (A.sig_value algebra.now next.now.value))) }

@@ -1,4 +1,5 @@
 ghost use Rattle.std.specs.Prelude.{◌≡◌, ◌<◌, ◌^◌, ℕ, None, length, vec_len, IfOk, IfSome, OnOk, option_map, replicate};
+ghost use Rattle.alg_model.specs.declared.alg.TheConstants.{MAX_VALUE_NUMBER};
 ghost use Rattle.alg_model.specs.Bounds.{AtMost};
 ghost use Rattle.alg_model.specs.Carriers.{carrier_of};
 ghost use Rattle.net_graph.specs.Nets.{IsNet};
@@ -39,7 +40,7 @@ fn relax<A: Algebra>(
     requires net { IsNet net.now }
     requires node { node.0 < length net.now.nodes }
     requires next { A.is_sig algebra.now next.now.value }
-    requires small { AtMost (2 ^ 62) (A.sig_value algebra.now next.now.value) }
+    requires small { AtMost MAX_VALUE_NUMBER (A.sig_value algebra.now next.now.value) }
     requires rows { vec_len rows.now ≡ length net.now.nodes }
     requires count { vec_len open.old ≡ length net.now.nodes }
     requires sigs { AreSigs (A.is_sig algebra.now) open.old.items }

@@ -2,6 +2,7 @@
 // algebras. Labels and values are written as literals.
 ghost use Rattle.std.specs.Prelude.{◌≤◌, ◌^◌};
 ghost use Rattle.meta_base.specs.declared.limits.TheConstants.{MAX_NUMBER};
+ghost use Rattle.alg_model.specs.declared.alg.TheConstants.{MAX_VALUE_NUMBER};
 ghost use Rattle.alg_model.specs.Views.{pure_value, pure_label};
 ghost use Rattle.alg_model.specs.Carriers.{carrier_of, In};
 ghost use Rattle.alg_model.specs.Application.{IsLabel};
@@ -103,7 +104,7 @@ fn worse_image<A: Algebra>(
     requires label { IsLabel (A.expression algebra.now) (pure_label label.now) }
     requires value { In (carrier_of (A.expression algebra.now)) (pure_value value.now) }
     requires small_label { LabelAtMost MAX_NUMBER (pure_label label.now) }
-    requires small_value { AtMost (2 ^ 62) (pure_value value.now) }
+    requires small_value { AtMost MAX_VALUE_NUMBER (pure_value value.now) }
 {
     let sig = algebra.sig_of(alloc, value)?;
     let sig = algebra.copy(alloc, &sig)?;

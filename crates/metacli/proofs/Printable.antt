@@ -1,5 +1,6 @@
 -- Verdicts that are exact and have small numbers can be printed.
 use Rattle.std.proofs.Common.{ℕ, ◌≤◌, ◌^◌, Option, Some, None, lit≤}
+use Rattle.alg_model.specs.declared.alg.TheConstants.{MAX_INSTANCE_NUMBER, MAX_VALUE_NUMBER}
 use Rattle.alg_model.specs.Expressions.{Expression, PureValue, PureLabel}
 use Rattle.alg_model.specs.Laws.{at_most_more}
 use Rattle.alg_model.specs.Properties as properties
@@ -13,18 +14,18 @@ SecondAtMost-le m n h None b = tt
 SecondAtMost-le m n h (Some v) b = at_most_more m n v h b
 
 printable_verdict : (p : PureProperty) (a : Expression) (S : PureLabel → Type 0) (v : PureVerdict)
-    → IsExact p a S v → VerdictAtMost (2 ^ 33) v → CanPrintVerdict a v
+    → IsExact p a S v → VerdictAtMost MAX_INSTANCE_NUMBER v → CanPrintVerdict a v
 printable_verdict p a S holds e b = tt
 printable_verdict p a S (fails x) e b = record {
   is_of = e.2.is_of;
   bound = record {
     label = b.label;
-    first = at_most_more (2 ^ 33) (2 ^ 62) x.first (lit≤ tt) b.first;
-    second = SecondAtMost-le (2 ^ 33) (2 ^ 62) (lit≤ tt) x.second b.second;
+    first = at_most_more MAX_INSTANCE_NUMBER MAX_VALUE_NUMBER x.first (lit≤ tt) b.first;
+    second = SecondAtMost-le MAX_INSTANCE_NUMBER MAX_VALUE_NUMBER (lit≤ tt) x.second b.second;
   };
 }
 
-pub printable : (a : Expression) (S : PureLabel → Type 0) (v : PureVerdicts) → ExactFor a S v → VerdictsAtMost (2 ^ 33) v → CanPrintVerdicts a v
+pub printable : (a : Expression) (S : PureLabel → Type 0) (v : PureVerdicts) → ExactFor a S v → VerdictsAtMost MAX_INSTANCE_NUMBER v → CanPrintVerdicts a v
 printable a S v e b = record {
   monotone = printable_verdict properties.monotone a S v.monotone e.monotone b.monotone;
   strict = printable_verdict properties.strict a S v.strict e.strict b.strict;

@@ -1,6 +1,7 @@
 -- What a run comes to, by its words.
 use Rattle.std.specs.Prelude.{◌≡◌, ℕ, ◌+◌, ◌^◌, List, [], ◌∷◌, ◌++◌, length, map, Option, Some, None, Result, Ok, Err, slice_index_or}
 use Rattle.meta_base.specs.Shelf.{Moment}
+use Rattle.alg_model.specs.declared.alg.TheConstants.{MAX_INSTANCE_NUMBER}
 use Rattle.alg_model.specs.Expressions.{Expression}
 use Rattle.alg_model.specs.Application.{IsLabel}
 use Rattle.alg_model.specs.Verdicts.{ExactFor}
@@ -21,7 +22,7 @@ use Rattle.metacli.specs.declared.ended.Answer.TheVariants.{Done, BadWords, NoMe
 
 -- the verdicts are exact for all labels of the algebra, and the numbers of instances are small
 abbrev pub AreVerdictsOn : Expression → Option Verdicts → Type 0
-AreVerdictsOn a (Some v) = ExactFor a (IsLabel a) (pure_verdicts v) × VerdictsAtMost (2 ^ 33) (pure_verdicts v)
+AreVerdictsOn a (Some v) = ExactFor a (IsLabel a) (pure_verdicts v) × VerdictsAtMost MAX_INSTANCE_NUMBER (pure_verdicts v)
 AreVerdictsOn a None = ⊥
 
 -- what was decided on an algebra: its verdicts, unless memory was refused

@@ -4,6 +4,7 @@ use Rattle.std.specs.List.{concat, AllByRecursion}
 use Rattle.meta_base.specs.Sink.{Held, Appended, AppendedPart}
 use Rattle.meta_base.specs.declared.ids.Which.{Which}
 use Rattle.meta_base.specs.declared.ids.Which.TheVariants.{Expr, Network}
+use Rattle.alg_model.specs.declared.alg.TheConstants.{MAX_VALUE_NUMBER}
 use Rattle.alg_model.specs.Expressions.{Expression, PureCarrier, PureValue, PureLabel}
 use Rattle.alg_model.specs.Carriers.{carrier_of}
 use Rattle.alg_model.specs.Application.{App}
@@ -103,7 +104,7 @@ TextOf e = text_for e e.decided
 -- the instance is the algebra's, and its images can be computed
 pub record CanPrint (a : Expression) (x : PureInstance) : Type 0 where
   pub is_of : IsInstanceOf a x
-  pub bound : InstanceAtMost (2 ^ 62) x
+  pub bound : InstanceAtMost MAX_VALUE_NUMBER x
 
 abbrev pub CanPrintVerdict : Expression → PureVerdict → Type 0
 CanPrintVerdict a holds = Unit {0}

@@ -1,4 +1,5 @@
 ghost use Rattle.std.specs.Prelude.{◌≤◌, ◌^◌, IfOk};
+ghost use Rattle.alg_model.specs.declared.alg.TheConstants.{MAX_INSTANCE_NUMBER};
 ghost use Rattle.alg_model.specs.Expressions.{add};
 ghost use Rattle.alg_model.specs.Application.{IsLabel};
 ghost use Rattle.alg_model.specs.Properties.{strict};
@@ -13,11 +14,12 @@ use meta_base::NoMemory;
 use std::alloc::Global;
 
 /// The exact verdicts on an additive algebra: a property holds of all its labels, or an instance shows
-/// that one of them lacks it. No number of an instance is above 2^33.
+/// that one of them lacks it. No number of an instance is above
+/// [`alg_model::MAX_INSTANCE_NUMBER`].
 pub fn verdicts(_alloc: Global, alg: &Alg) -> Result<Verdicts, NoMemory>
     requires { IsPlainAdd alg.now }
     ensures exact { IfOk result (λ verdicts. ExactFor alg.now (IsLabel alg.now) (pure_verdicts verdicts)) }
-    ensures bound { IfOk result (λ verdicts. VerdictsAtMost (2 ^ 33) (pure_verdicts verdicts)) }
+    ensures bound { IfOk result (λ verdicts. VerdictsAtMost MAX_INSTANCE_NUMBER (pure_verdicts verdicts)) }
 {
     match alg.tree() {
         Tree::Add { low, high } => Ok(additive_verdicts(*low, *high)),
@@ -29,7 +31,7 @@ pub fn verdicts(_alloc: Global, alg: &Alg) -> Result<Verdicts, NoMemory>
 fn additive_verdicts(low: u64, high: u64) -> Verdicts
     requires { low ≤ high }
     ensures exact { ExactFor (add low high) (IsLabel (add low high)) (pure_verdicts result) }
-    ensures bound { VerdictsAtMost (2 ^ 33) (pure_verdicts result) }
+    ensures bound { VerdictsAtMost MAX_INSTANCE_NUMBER (pure_verdicts result) }
 {
     Verdicts {
         monotone: Verdict::Yes,
@@ -45,7 +47,7 @@ fn additive_verdicts(low: u64, high: u64) -> Verdicts
 fn additive_strictness(low: u64, high: u64) -> Verdict
     requires { low ≤ high }
     ensures exact { IsExact strict (add low high) (IsLabel (add low high)) (pure_verdict result) }
-    ensures bound { VerdictAtMost (2 ^ 33) (pure_verdict result) }
+    ensures bound { VerdictAtMost MAX_INSTANCE_NUMBER (pure_verdict result) }
 {
     if low == 0 {
         Verdict::No(Instance {

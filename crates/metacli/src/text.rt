@@ -1,6 +1,7 @@
 // The texts that are printed.
 ghost use Rattle.std.specs.Prelude.{◌≡◌, true, map, ◌<◌, ◌≤◌, ◌++◌, ◌^◌, length, codes, decimal, string_bytes, option_copied, OnOk, IfOk};
 ghost use Rattle.meta_base.specs.declared.limits.TheConstants.{MAX_NUMBER};
+ghost use Rattle.alg_model.specs.declared.alg.TheConstants.{MAX_VALUE_NUMBER};
 ghost use Rattle.meta_base.specs.Sink.{Puts};
 ghost use Rattle.alg_model.specs.Views.{pure_value, pure_label};
 ghost use Rattle.alg_model.specs.Bounds.{AtMost, LabelAtMost};
@@ -15,9 +16,9 @@ ghost use Rattle.metacli.specs.Texts.{CanPrint, CanPrintVerdict, CanPrintVerdict
 
 use crate::{Answer, Instance, Verdict, Verdicts};
 use alg_model::{Alg, Label, Value, apply};
-use meta_base::{DestId, Failed, NoMemory, NodeId, Sink, Text, Which, put_all};
+use meta_base::{DestId, Failed, NoMemory, NodeId, Sink, Text, Which, push_number, put_all};
 use net_graph::{Net, RouteRow};
-use sig_text::{push_label, push_number, push_value};
+use sig_text::{push_label, push_value};
 use std::alloc::Global;
 use std::str;
 
@@ -32,7 +33,7 @@ fn push_image(
     requires label { IsLabel alg.now (pure_label label.now) }
     requires value { In (carrier_of alg.now) (pure_value value.now) }
     requires small_label { LabelAtMost MAX_NUMBER (pure_label label.now) }
-    requires small_value { AtMost (2 ^ 62) (pure_value value.now) }
+    requires small_value { AtMost MAX_VALUE_NUMBER (pure_value value.now) }
     ensures { OnOk result (string_bytes out.new ≡ string_bytes out.old
         ++ image_text (carrier_of alg.now) (App alg.now (pure_label label.now) (pure_value value.now))) }
 {
@@ -192,23 +193,23 @@ pub fn refusal_line(alloc: Global, answer: Answer) -> Result<Text, NoMemory>
         Answer::Done | Answer::WriteFault => {}
         Answer::BadWords(fault) => {
             out.push_str("words refused: C")?;
-            push_number(&mut out, u64::from(fault.number()))?;
+            push_number(&mut out, u128::from(fault.number()))?;
             out.push_str("\n")?;
         }
         Answer::BadExpr(fault) => {
             out.push_str("expression refused: X")?;
-            push_number(&mut out, u64::from(fault.kind.number()))?;
+            push_number(&mut out, u128::from(fault.kind.number()))?;
             out.push_str(" at ")?;
-            push_number(&mut out, u64::from(fault.place.line))?;
+            push_number(&mut out, u128::from(fault.place.line))?;
             out.push_str(":")?;
-            push_number(&mut out, u64::from(fault.place.column))?;
+            push_number(&mut out, u128::from(fault.place.column))?;
             out.push_str("\n")?;
         }
         Answer::BadNet(fault) => {
             out.push_str("network refused: N")?;
-            push_number(&mut out, u64::from(fault.kind.number()))?;
+            push_number(&mut out, u128::from(fault.kind.number()))?;
             out.push_str(" at line ")?;
-            push_number(&mut out, u64::from(fault.line))?;
+            push_number(&mut out, u128::from(fault.line))?;
             out.push_str("\n")?;
         }
         Answer::ReadFault(which) => {

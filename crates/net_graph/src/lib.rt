@@ -14,4 +14,4 @@ mod route;
 pub use draft::NetDraft;
 pub use net::Net;
 pub use parts::{Arc, Origin};
-pub use route::{DestTable, Route, RouteRow};
+pub use route::{DestTable, MAX_ROW_NUMBER, Route, RouteRow};

@@ -1,8 +1,11 @@
 ghost use Rattle.std.specs.Prelude.{◌≡◌, IfOk};
 
-use alg_model::Value;
+use alg_model::{Amount, Value};
 use meta_base::{DestId, List, NoMemory, NodeId};
 use std::alloc::Global;
+
+/// The greatest number of the value of a row: the next arc's label may still be applied to it.
+pub const MAX_ROW_NUMBER: Amount = 1 << 119;
 
 /// A route: a value, and the path from the node itself to the origin.
 #[derive(Drop)]

@@ -9,8 +9,7 @@ use crate::heads::{
     Counted, Paired, Ranged, Single, counted_word, paired_word, ranged_word, single_word,
 };
 use alg_model::{Alg, TableRow, TableSpec, Tree};
-use itoa::Buffer;
-use meta_base::{NoMemory, Text};
+use meta_base::{NoMemory, Text, push_number};
 use std::alloc::Global;
 
 /// The text of an algebra as a file of one `main`. It means that algebra
@@ -52,20 +51,13 @@ fn push_tree(out: &mut String, tree: &Tree) -> Result<(), NoMemory>
     }
 }
 
-fn push_number(out: &mut String, n: u64) -> Result<(), NoMemory>
-    ensures { OnOk result (string_bytes out.new ≡ string_bytes out.old ++ decimal n) }
-{
-    out.push_str(Buffer::new().format(n))?;
-    Ok(())
-}
-
 fn push_add(out: &mut String, low: u64, high: u64) -> Result<(), NoMemory>
     ensures { OnOk result (string_bytes out.new ≡ string_bytes out.old ++ codes "add(" ++ decimal low ++ codes ".." ++ decimal high ++ codes ")") }
 {
     out.push_str("add(")?;
-    push_number(out, low)?;
+    push_number(out, u128::from(low))?;
     out.push_str("..")?;
-    push_number(out, high)?;
+    push_number(out, u128::from(high))?;
     out.push_str(")")?;
     Ok(())
 }
@@ -81,11 +73,11 @@ fn push_ranged(
 {
     out.push_str(ranged_word(head))?;
     out.push_str("(")?;
-    push_number(out, top)?;
+    push_number(out, u128::from(top))?;
     out.push_str(";")?;
-    push_number(out, low)?;
+    push_number(out, u128::from(low))?;
     out.push_str("..")?;
-    push_number(out, high)?;
+    push_number(out, u128::from(high))?;
     out.push_str(")")?;
     Ok(())
 }
@@ -95,7 +87,7 @@ fn push_counted(out: &mut String, head: Counted, n: u64) -> Result<(), NoMemory>
 {
     out.push_str(counted_word(head))?;
     out.push_str("(")?;
-    push_number(out, n)?;
+    push_number(out, u128::from(n))?;
     out.push_str(")")?;
     Ok(())
 }

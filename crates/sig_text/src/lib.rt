@@ -17,5 +17,5 @@ pub use laws::{
     labels_are_unique, printed_labels_are_read_back, printed_values_are_read_back,
     spelled_labels_are_not_refused, spelled_values_are_not_refused, values_are_unique,
 };
-pub use print::{print_label, print_value, push_label, push_number, push_value};
+pub use print::{print_label, print_value, push_label, push_value};
 pub use read::{read_label, read_value};

@@ -8,8 +8,7 @@ ghost use Rattle.sig_text.specs.Listed.{separator};
 ghost use Rattle.alg_model.specs.declared.alg.TheConstants.{MAX_MARKS};
 
 use alg_model::{Alg, Label, MAX_MARKS, TableRow, Tree, Value};
-use itoa::Buffer;
-use meta_base::{NoMemory, Text};
+use meta_base::{NoMemory, Text, push_number};
 use std::alloc::Global;
 
 /// The printed text of a value of the algebra: [`crate::read_value`] reads it back. It is refused for
@@ -48,14 +47,6 @@ pub fn push_label(out: &mut String, alg: &Alg, label: &Label) -> Result<(), NoMe
     ensures { OnOk result (string_bytes out.new ≡ string_bytes out.old ++ label_text alg.now (pure_label label.now)) }
 {
     push_tree_label(out, alg.tree(), label)
-}
-
-/// Appends a number in base ten, with no leading zero.
-pub fn push_number(out: &mut String, n: u64) -> Result<(), NoMemory>
-    ensures { OnOk result (string_bytes out.new ≡ string_bytes out.old ++ decimal n) }
-{
-    out.push_str(Buffer::new().format(n))?;
-    Ok(())
 }
 
 fn push_tree_value(out: &mut String, tree: &Tree, value: &Value) -> Result<(), NoMemory>
@@ -114,11 +105,14 @@ fn push_tree_label(out: &mut String, tree: &Tree, label: &Label) -> Result<(), N
             | Tree::Width { .. }
             | Tree::Pref { .. },
             Label::Number(n),
-        ) => push_number(out, *n),
+        ) => push_number(out, u128::from(*n)),
         (Tree::Orig { .. } | Tree::Tags { .. } | Tree::Right(_), Label::Keep) => {
             push_word(out, "keep")
         }
-        (Tree::Seq { .. } | Tree::SimSeq { .. }, Label::Symbol(n)) => push_number(out, *n),
+        (Tree::Seq { .. } | Tree::SimSeq { .. }, Label::Symbol(n)) => push_number(
+            out,
+            u128::from(*n),
+        ),
         (Tree::Tags { .. }, Label::Mark(k)) => push_marked(out, "+", *k),
         (Tree::Tags { .. }, Label::Unmark(k)) => push_marked(out, "-", *k),
         (Tree::Guard { .. }, Label::Need(k)) => push_marked(out, "?", *k),
@@ -176,7 +170,7 @@ fn push_marked(out: &mut String, mark: &str, k: u8) -> Result<(), NoMemory>
     ensures { OnOk result (string_bytes out.new ≡ string_bytes out.old ++ (mark.now ++ decimal k)) }
 {
     out.push_str(mark)?;
-    push_number(out, u64::from(k))
+    push_number(out, u128::from(k))
 }
 
 fn push_name(out: &mut String, names: &[Text], place: u8) -> Result<(), NoMemory>
@@ -218,7 +212,7 @@ fn push_next(out: &mut String, follows: bool, n: u64) -> Result<(), NoMemory>
     ensures { OnOk result (string_bytes out.new ≡ (string_bytes out.old ++ separator follows) ++ decimal n) }
 {
     out.push_str(separator(follows))?;
-    push_number(out, n)
+    push_number(out, u128::from(n))
 }
 
 fn separator(follows: bool) -> &'static str

@@ -17,7 +17,7 @@ ghost use Rattle.sig_text.specs.Reading.{kept, take_number, take_word, take_list
 use crate::LitFault;
 use crate::faults::{Stop, both};
 use crate::parts::{Side, list_at, mark_at, number_at, side_at, word_at};
-use alg_model::{MAX_MARKS, MAX_TABLE_NAMES, Tree, Value};
+use alg_model::{Amount, MAX_MARKS, MAX_TABLE_NAMES, Tree, Value};
 use meta_base::{List, NoMemory, Text};
 use std::alloc::Global;
 
@@ -98,7 +98,7 @@ fn whole_at(text: &[u8]) -> Result<(Result<Value, LitFault>, &[u8]), Stop>
     ensures none { result ≡ Err NoShape → take_number (parts_of text.now) ≡ None }
 {
     let (n, rest) = number_at(text)?;
-    Ok((Ok(Value::Number(n)), rest))
+    Ok((Ok(Value::Number(Amount::from(n))), rest))
 }
 
 fn bounded_at(top: u64, text: &[u8]) -> Result<(Result<Value, LitFault>, &[u8]), Stop>
@@ -113,7 +113,7 @@ fn number_up_to(top: u64, n: u64) -> Result<Value, LitFault>
     ensures { value_outcome result ≡ where_true (nat_le n top) NotInCarrier (number n) }
 {
     if n <= top {
-        Ok(Value::Number(n))
+        Ok(Value::Number(Amount::from(n)))
     } else {
         Err(LitFault::NotInCarrier)
     }

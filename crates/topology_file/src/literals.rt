@@ -9,7 +9,7 @@ ghost use Rattle.topology_file.specs.Literals.{number_of_word, number_in as numb
 
 use crate::bytes::is_digit_byte;
 use crate::texts::split_word;
-use alg_model::{Alg, Label, Tree, Value};
+use alg_model::{Alg, Amount, Label, Tree, Value};
 use meta_base::MAX_NUMBER;
 
 // The number that a word of digits spells, unless it is above the greatest of a text. Past that bound
@@ -71,7 +71,7 @@ pub fn value_in(alg: &Alg, literal: &[u8]) -> Option<Value>
 {
     let number = number_in(literal);
     match alg.tree() {
-        Tree::Add { .. } => Some(Value::Number(number?)),
+        Tree::Add { .. } => Some(Value::Number(Amount::from(number?))),
         _ => None,
     }
 }
