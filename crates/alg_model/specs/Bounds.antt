@@ -3,7 +3,7 @@ use Rattle.std.specs.Prelude.{ℕ, ◌≤◌}
 use Rattle.std.specs.List.{AllByRecursion}
 use Rattle.alg_model.specs.Expressions.{Expression, add, cap, worst, width, pref, orig, seq, simseq, tags, guard, gate, table, lex, scoped, union, sum, plus, left, right}
 use Rattle.alg_model.specs.Expressions.{PureValue, number, symbols, marks, unit, name, pair, first, second}
-use Rattle.alg_model.specs.Expressions.{PureLabel, number_label, symbol_label, pair_label, both_label, first_label, second_label, const_label, outer, inner}
+use Rattle.alg_model.specs.Expressions.{PureLabel, number_label, keep, symbol_label, mark, unmark, need, bar, allow, deny, row_label, pair_label, both_label, first_label, second_label, const_label, outer, inner}
 
 -- no number of the expression is above n
 abbrev pub ExpressionAtMost : ℕ → Expression → Type 0
@@ -49,4 +49,11 @@ LabelAtMost n (second_label m) = LabelAtMost n m
 LabelAtMost n (const_label v) = AtMost n v
 LabelAtMost n (outer l v) = LabelAtMost n l × AtMost n v
 LabelAtMost n (inner m) = LabelAtMost n m
-LabelAtMost n _ = Unit {0}
+LabelAtMost n keep = Unit {0}
+LabelAtMost n (mark k) = Unit {0}
+LabelAtMost n (unmark k) = Unit {0}
+LabelAtMost n (need k) = Unit {0}
+LabelAtMost n (bar k) = Unit {0}
+LabelAtMost n allow = Unit {0}
+LabelAtMost n deny = Unit {0}
+LabelAtMost n (row_label r) = Unit {0}

@@ -53,17 +53,26 @@ In _ _ = ⊥
 -- how two values of the carrier compare: Less if the first is preferred, Equal if they are equivalent
 abbrev pub Order : PureCarrier → PureValue → PureValue → Ordering
 Order whole (number m) (number n) = nat_cmp m n
+Order whole _ _ = Equal
 Order (up_to top) (number m) (number n) = nat_cmp m n
+Order (up_to top) _ _ = Equal
 Order (down_from top) (number m) (number n) = nat_cmp n m
+Order (down_from top) _ _ = Equal
 Order (seqs k) (symbols ms) (symbols ns) = nat_cmp (length ms) (length ns)
+Order (seqs k) _ _ = Equal
 Order (simseqs k) (symbols ms) (symbols ns) = nat_cmp (length ms) (length ns)
+Order (simseqs k) _ _ = Equal
+Order (sets k) _ _ = Equal
+Order one _ _ = Equal
 Order (named names ranks) (name j) (name k) = nat_cmp (slice_index ranks j) (slice_index ranks k)
+Order (named names ranks) _ _ = Equal
 Order (pairs c d) (pair u v) (pair x y) = ordering_then (Order c u x) (Order d v y)
+Order (pairs c d) _ _ = Equal
 Order (sides c d) (first u) (first x) = Order c u x
 Order (sides c d) (first u) (second y) = Less
 Order (sides c d) (second v) (first x) = Greater
 Order (sides c d) (second v) (second y) = Order d v y
-Order _ _ _ = Equal
+Order (sides c d) _ _ = Equal
 
 -- the same with none, which is worse than every value
 abbrev pub OrderOrNone : PureCarrier → Option PureValue → Option PureValue → Ordering

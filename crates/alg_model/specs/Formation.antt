@@ -65,6 +65,18 @@ MeetsRanges (right a) = MeetsRanges a
 
 -- the rule on carriers: both sides of a plus have the same
 abbrev pub MeetsCarriers : Expression → Type 0
+MeetsCarriers (add low high) = Unit {0}
+MeetsCarriers (cap top low high) = Unit {0}
+MeetsCarriers (worst top low high) = Unit {0}
+MeetsCarriers (width top low high) = Unit {0}
+MeetsCarriers (pref top) = Unit {0}
+MeetsCarriers (orig top) = Unit {0}
+MeetsCarriers (seq n) = Unit {0}
+MeetsCarriers (simseq n) = Unit {0}
+MeetsCarriers (tags n) = Unit {0}
+MeetsCarriers (guard n) = Unit {0}
+MeetsCarriers gate = Unit {0}
+MeetsCarriers (table t) = Unit {0}
 MeetsCarriers (lex a b) = MeetsCarriers a × MeetsCarriers b
 MeetsCarriers (scoped a b) = MeetsCarriers a × MeetsCarriers b
 MeetsCarriers (union a b) = MeetsCarriers a × MeetsCarriers b
@@ -72,10 +84,21 @@ MeetsCarriers (sum a b) = MeetsCarriers a × MeetsCarriers b
 MeetsCarriers (plus a b) = MeetsCarriers a × MeetsCarriers b × (carrier_of a ≡ carrier_of b)
 MeetsCarriers (left a) = MeetsCarriers a
 MeetsCarriers (right a) = MeetsCarriers a
-MeetsCarriers _ = Unit {0}
 
 -- how many nodes the tree has; a table is one
 abbrev pub node_count : Expression → ℕ
+node_count (add low high) = 1
+node_count (cap top low high) = 1
+node_count (worst top low high) = 1
+node_count (width top low high) = 1
+node_count (pref top) = 1
+node_count (orig top) = 1
+node_count (seq n) = 1
+node_count (simseq n) = 1
+node_count (tags n) = 1
+node_count (guard n) = 1
+node_count gate = 1
+node_count (table t) = 1
 node_count (lex a b) = 1 + node_count a + node_count b
 node_count (scoped a b) = 1 + node_count a + node_count b
 node_count (union a b) = 1 + node_count a + node_count b
@@ -83,7 +106,6 @@ node_count (sum a b) = 1 + node_count a + node_count b
 node_count (plus a b) = 1 + node_count a + node_count b
 node_count (left a) = 1 + node_count a
 node_count (right a) = 1 + node_count a
-node_count _ = 1
 
 -- a name of a table: a word other than `none`
 abbrev pub is_table_name : List ℕ → Bool
@@ -104,6 +126,17 @@ row_name row = row.name
 
 -- the rule on names
 abbrev pub MeetsNames : Expression → Type 0
+MeetsNames (add low high) = Unit {0}
+MeetsNames (cap top low high) = Unit {0}
+MeetsNames (worst top low high) = Unit {0}
+MeetsNames (width top low high) = Unit {0}
+MeetsNames (pref top) = Unit {0}
+MeetsNames (orig top) = Unit {0}
+MeetsNames (seq n) = Unit {0}
+MeetsNames (simseq n) = Unit {0}
+MeetsNames (tags n) = Unit {0}
+MeetsNames (guard n) = Unit {0}
+MeetsNames gate = Unit {0}
 MeetsNames (table t) = (are_named (λ name. name) t.names && are_named row_name t.rows) ≡ true
 MeetsNames (lex a b) = MeetsNames a × MeetsNames b
 MeetsNames (scoped a b) = MeetsNames a × MeetsNames b
@@ -112,7 +145,6 @@ MeetsNames (sum a b) = MeetsNames a × MeetsNames b
 MeetsNames (plus a b) = MeetsNames a × MeetsNames b
 MeetsNames (left a) = MeetsNames a
 MeetsNames (right a) = MeetsNames a
-MeetsNames _ = Unit {0}
 
 -- the expression is that of an algebra: it breaks no rule, and its numbers are those of a text
 pub record IsFormed (a : Expression) : Type 0 where

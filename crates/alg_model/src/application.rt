@@ -212,7 +212,21 @@ fn number_image(tree: &Tree, n: u64, m: Amount) -> Option<Amount>
         Tree::Worst { .. } => Some(m.max(n)),
         Tree::Width { .. } => Some(m.min(n)),
         Tree::Pref { .. } => Some(n),
-        _ => None,
+        Tree::Cap { .. }
+        | Tree::Orig { .. }
+        | Tree::Seq { .. }
+        | Tree::SimSeq { .. }
+        | Tree::Tags { .. }
+        | Tree::Guard { .. }
+        | Tree::Gate
+        | Tree::Table(_)
+        | Tree::Lex(_, _)
+        | Tree::Scoped(_, _)
+        | Tree::Union(_, _)
+        | Tree::Sum(_, _)
+        | Tree::Plus(_, _)
+        | Tree::Left(_)
+        | Tree::Right(_) => None,
     }
 }
 

@@ -108,7 +108,18 @@ pub fn meets_carriers(tree: &Tree) -> bool
         }
         Tree::Plus(a, b) => meets_carriers(a) && meets_carriers(b) && have_same_carrier(a, b),
         Tree::Left(a) | Tree::Right(a) => meets_carriers(a),
-        _ => true,
+        Tree::Add { .. }
+        | Tree::Cap { .. }
+        | Tree::Worst { .. }
+        | Tree::Width { .. }
+        | Tree::Pref { .. }
+        | Tree::Orig { .. }
+        | Tree::Seq { .. }
+        | Tree::SimSeq { .. }
+        | Tree::Tags { .. }
+        | Tree::Guard { .. }
+        | Tree::Gate
+        | Tree::Table(_) => true,
     }
 }
 
@@ -125,7 +136,18 @@ pub fn room_behind(tree: &Tree, room: usize) -> Option<usize>
         | Tree::Sum(a, b)
         | Tree::Plus(a, b) => room_behind(b, room_behind(a, room)?),
         Tree::Left(a) | Tree::Right(a) => room_behind(a, room),
-        _ => Some(room),
+        Tree::Add { .. }
+        | Tree::Cap { .. }
+        | Tree::Worst { .. }
+        | Tree::Width { .. }
+        | Tree::Pref { .. }
+        | Tree::Orig { .. }
+        | Tree::Seq { .. }
+        | Tree::SimSeq { .. }
+        | Tree::Tags { .. }
+        | Tree::Guard { .. }
+        | Tree::Gate
+        | Tree::Table(_) => Some(room),
     }
 }
 
@@ -200,6 +222,16 @@ pub fn meets_names(tree: &Tree) -> bool
         | Tree::Sum(a, b)
         | Tree::Plus(a, b) => meets_names(a) && meets_names(b),
         Tree::Left(a) | Tree::Right(a) => meets_names(a),
-        _ => true,
+        Tree::Add { .. }
+        | Tree::Cap { .. }
+        | Tree::Worst { .. }
+        | Tree::Width { .. }
+        | Tree::Pref { .. }
+        | Tree::Orig { .. }
+        | Tree::Seq { .. }
+        | Tree::SimSeq { .. }
+        | Tree::Tags { .. }
+        | Tree::Guard { .. }
+        | Tree::Gate => true,
     }
 }

@@ -21,31 +21,45 @@ fn compare(tree: &Tree, u: &Value, v: &Value) -> Ordering
     requires second { In (carrier_of (expression_of tree.now)) (pure_value v.now) }
     ensures { result ≡ Order (carrier_of (expression_of tree.now)) (pure_value u.now) (pure_value v.now) }
 {
-    match (tree, u, v) {
-        (
-            Tree::Add { .. } | Tree::Cap { .. } | Tree::Worst { .. } | Tree::Orig { .. },
-            Value::Number(m),
-            Value::Number(n),
-        ) => m.cmp(n),
-        (Tree::Width { .. } | Tree::Pref { .. }, Value::Number(m), Value::Number(n)) => n.cmp(m),
-        (Tree::Seq { .. } | Tree::SimSeq { .. }, Value::Symbols(ms), Value::Symbols(ns)) => {
-            ms.as_slice().len().cmp(&ns.as_slice().len())
+    match tree {
+        Tree::Add { .. } | Tree::Cap { .. } | Tree::Worst { .. } | Tree::Orig { .. } => {
+            match (u, v) {
+                (Value::Number(m), Value::Number(n)) => m.cmp(n),
+                _ => Ordering::Equal,
+            }
         }
-        (Tree::Table(table), Value::Name(j), Value::Name(k)) => {
-            let ranks = table.ranks.as_slice();
-            rank(ranks, *j).cmp(&rank(ranks, *k))
-        }
-        (Tree::Lex(a, b) | Tree::Scoped(a, b), Value::Pair(u1, u2), Value::Pair(v1, v2)) => {
-            compare(a, u1, v1).then(compare(b, u2, v2))
-        }
-        (Tree::Union(a, _) | Tree::Sum(a, _), Value::First(u), Value::First(v)) => compare(a, u, v),
-        (Tree::Union(_, b) | Tree::Sum(_, b), Value::Second(u), Value::Second(v)) => {
-            compare(b, u, v)
-        }
-        (Tree::Union(_, _) | Tree::Sum(_, _), Value::First(_), _) => Ordering::Less,
-        (Tree::Union(_, _) | Tree::Sum(_, _), _, _) => Ordering::Greater,
-        (Tree::Plus(a, _) | Tree::Left(a) | Tree::Right(a), _, _) => compare(a, u, v),
-        _ => Ordering::Equal,
+        Tree::Width { .. } | Tree::Pref { .. } => match (u, v) {
+            (Value::Number(m), Value::Number(n)) => n.cmp(m),
+            _ => Ordering::Equal,
+        },
+        Tree::Seq { .. } | Tree::SimSeq { .. } => match (u, v) {
+            (Value::Symbols(ms), Value::Symbols(ns)) => {
+                ms.as_slice().len().cmp(&ns.as_slice().len())
+            }
+            _ => Ordering::Equal,
+        },
+        Tree::Tags { .. } | Tree::Guard { .. } | Tree::Gate => Ordering::Equal,
+        Tree::Table(table) => match (u, v) {
+            (Value::Name(j), Value::Name(k)) => {
+                let ranks = table.ranks.as_slice();
+                rank(ranks, *j).cmp(&rank(ranks, *k))
+            }
+            _ => Ordering::Equal,
+        },
+        Tree::Lex(a, b) | Tree::Scoped(a, b) => match (u, v) {
+            (Value::Pair(u1, u2), Value::Pair(v1, v2)) => {
+                compare(a, u1, v1).then(compare(b, u2, v2))
+            }
+            _ => Ordering::Equal,
+        },
+        Tree::Union(a, b) | Tree::Sum(a, b) => match (u, v) {
+            (Value::First(u), Value::First(v)) => compare(a, u, v),
+            (Value::First(_), Value::Second(_)) => Ordering::Less,
+            (Value::Second(_), Value::First(_)) => Ordering::Greater,
+            (Value::Second(u), Value::Second(v)) => compare(b, u, v),
+            _ => Ordering::Equal,
+        },
+        Tree::Plus(a, _) | Tree::Left(a) | Tree::Right(a) => compare(a, u, v),
     }
 }
 

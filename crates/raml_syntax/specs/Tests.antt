@@ -2,7 +2,7 @@
 use Rattle.std.specs.Prelude.{ℕ, List, [], ◌∷◌, Bool, true, false, ◌&&◌, ◌==◌, nat_le}
 use Rattle.std.specs.Str.{bytes_eq}
 use Rattle.alg_model.specs.declared.alg.TheConstants.{MAX_SIMPLE_SYMBOLS, MAX_MARKS}
-use Rattle.alg_model.specs.Expressions.{Expression, add, cap, worst, width, seq, simseq, tags, guard}
+use Rattle.alg_model.specs.Expressions.{Expression, add, cap, worst, width, pref, orig, seq, simseq, tags, guard, gate, table, lex, scoped, union, sum, plus, left, right}
 use Rattle.alg_model.specs.Expressions.{PureCarrier, whole, up_to, down_from, seqs, simseqs, sets, one, named, pairs, sides}
 
 -- a base algebra of numbers meets the rule on ranges
@@ -15,7 +15,17 @@ is_in_range (seq n) = nat_le 1 n
 is_in_range (simseq n) = nat_le 1 n && nat_le n MAX_SIMPLE_SYMBOLS
 is_in_range (tags n) = nat_le 1 n && nat_le n MAX_MARKS
 is_in_range (guard n) = nat_le 1 n && nat_le n MAX_MARKS
-is_in_range _ = true
+is_in_range (pref top) = true
+is_in_range (orig top) = true
+is_in_range gate = true
+is_in_range (table t) = true
+is_in_range (lex a b) = true
+is_in_range (scoped a b) = true
+is_in_range (union a b) = true
+is_in_range (sum a b) = true
+is_in_range (plus a b) = true
+is_in_range (left a) = true
+is_in_range (right a) = true
 
 -- the lists hold the same texts
 abbrev pub are_same_texts : List (List ℕ) → List (List ℕ) → Bool
