@@ -1,6 +1,7 @@
 // Tests of `alg_model`: what labels make of values, which values are preferred, and which trees are no
 // algebras. Labels and values are written as literals.
-ghost use Rattle.std.specs.Prelude.{◌≤◌, ◌^◌};
+ghost use Rattle.alg_model.specs.Expressions.{add};
+ghost use Rattle.std.specs.Prelude.{◌≡◌, ◌≤◌, ◌^◌};
 ghost use Rattle.meta_base.specs.declared.limits.TheConstants.{MAX_NUMBER};
 ghost use Rattle.alg_model.specs.declared.alg.TheConstants.{MAX_VALUE_NUMBER};
 ghost use Rattle.alg_model.specs.Views.{pure_value, pure_label};
@@ -24,71 +25,73 @@ use std::test::Fail;
 fn image_text(alloc: Global, alg: &Alg, label: &str, value: &str) -> Result<Option<Text>, Fail> {
     let label = read_label(alloc, alg, label.as_bytes())?;
     let value = read_value(alloc, alg, value.as_bytes())?;
-    match apply(alloc, alg, &label, &value)? {
+    let image = apply(alloc, alg, &label, &value);
+    drop(label);
+    drop(value);
+    match image? {
         Some(image) => Ok(Some(print_value(alloc, alg, &image)?)),
         None => Ok(None),
     }
 }
 
-fn is_image(image: Option<Text>, expected: Option<&str>) -> bool {
-    match (&image, expected) {
-        (Some(text), Some(expected)) => text.as_str() == expected,
-        (None, None) => true,
-        _ => false,
+fn is_image(image: Option<Text>, expected: &str) -> bool {
+    match &image {
+        Some(text) => text.as_str() == expected,
+        None => expected == "none",
     }
 }
 
 const RELATION: &str = "table { customer < peer; up: customer -> peer }";
 
+// An expression, a label, a value, and what the label makes of the value.
+const IMAGES: &str = "add(1..10) | 3 | 4 | 7
+cap(15; 1..1) | 1 | 15 | none
+worst(9; 0..9) | 3 | 2 | 3
+width(9; 0..9) | 3 | 2 | 2
+lp(9) | 3 | 2 | 3
+op(9) | keep | 2 | 2
+seq(9) | 5 | [5] | [5,5]
+simseq(9) | 5 | [5] | none
+simseq(9) | 8 | [5] | [5,8]
+tags(3) | +1 | {0,2} | {0,1,2}
+tags(3) | -2 | {0,2} | {0}
+guard(3) | ?2 | {0,2} | {0,2}
+guard(3) | ?1 | {0,2} | none
+guard(3) | !2 | {0,2} | none
+gate | allow | unit | unit
+gate | deny | unit | none
+table { customer < peer; up: customer -> peer } | up | customer | peer
+table { customer < peer; up: customer -> peer } | up | peer | none
+lex(add(0..9), add(0..9)) | (3,4) | (1,2) | (4,6)
+scoped(add(0..9), add(0..9)) | out(3,7) | (1,2) | (4,7)
+scoped(add(0..9), add(0..9)) | in(4) | (1,2) | (1,6)
+union(add(0..9), add(0..9)) | l:3 | l:2 | l:5
+union(add(0..9), add(0..9)) | l:3 | r:2 | none
+sum(add(0..9), add(0..9)) | (3|4) | r:2 | r:6
+plus(add(0..9), add(0..9)) | r:4 | 2 | 6
+left(add(0..9)) | 7 | 2 | 7
+right(add(0..9)) | keep | 2 | 2";
+
+// The cases, in a call, so that no proof looks into them.
+fn image_cases() -> &'static str {
+    IMAGES
+}
+
+// Whether the label of a case makes of the value what the case says.
+fn is_image_case(alloc: Global, case: &str) -> Result<bool, Fail> {
+    let (expression, rest) = case.split_once(" | ").ok_or("no label")?;
+    let (label, rest) = rest.split_once(" | ").ok_or("no value")?;
+    let (value, image) = rest.split_once(" | ").ok_or("no image")?;
+    let alg = algebra(alloc, expression)?;
+    let text = image_text(alloc, &alg, label, value);
+    drop(alg);
+    Ok(is_image(text?, image))
+}
+
 #[test]
 fn images(rt: HostRuntime) -> Result<(), Fail> {
-    let alloc = rt.alloc();
-    let cases = [
-        ("add(1..10)", "3", "4", Some("7")),
-        ("cap(15; 1..1)", "1", "15", None),
-        ("worst(9; 0..9)", "3", "2", Some("3")),
-        ("width(9; 0..9)", "3", "2", Some("2")),
-        ("lp(9)", "3", "2", Some("3")),
-        ("op(9)", "keep", "2", Some("2")),
-        ("seq(9)", "5", "[5]", Some("[5,5]")),
-        ("simseq(9)", "5", "[5]", None),
-        ("simseq(9)", "8", "[5]", Some("[5,8]")),
-        ("tags(3)", "+1", "{0,2}", Some("{0,1,2}")),
-        ("tags(3)", "-2", "{0,2}", Some("{0}")),
-        ("guard(3)", "?2", "{0,2}", Some("{0,2}")),
-        ("guard(3)", "?1", "{0,2}", None),
-        ("guard(3)", "!2", "{0,2}", None),
-        ("gate", "allow", "unit", Some("unit")),
-        ("gate", "deny", "unit", None),
-        (RELATION, "up", "customer", Some("peer")),
-        (RELATION, "up", "peer", None),
-        ("lex(add(0..9), add(0..9))", "(3,4)", "(1,2)", Some("(4,6)")),
-        (
-            "scoped(add(0..9), add(0..9))",
-            "out(3,7)",
-            "(1,2)",
-            Some("(4,7)"),
-        ),
-        (
-            "scoped(add(0..9), add(0..9))",
-            "in(4)",
-            "(1,2)",
-            Some("(1,6)"),
-        ),
-        ("union(add(0..9), add(0..9))", "l:3", "l:2", Some("l:5")),
-        ("union(add(0..9), add(0..9))", "l:3", "r:2", None),
-        ("sum(add(0..9), add(0..9))", "(3|4)", "r:2", Some("r:6")),
-        ("plus(add(0..9), add(0..9))", "r:4", "2", Some("6")),
-        ("left(add(0..9))", "7", "2", Some("7")),
-        ("right(add(0..9))", "keep", "2", Some("2")),
-    ];
-    for (expression, label, value, expected) in cases {
-        let alg = algebra(alloc, expression)?;
-        let image = image_text(alloc, &alg, label, value)?;
-        assert!(rt;
-            is_image(image, expected),
-            "{label} on {value} in {expression}"
-        );
+    for case in image_cases().lines() {
+        assert!(rt; is_image_case(rt.alloc(), case)?, "{case}");
     }
     Ok(())
 }
@@ -117,14 +120,27 @@ fn worse_image<A: Algebra>(
     }
 }
 
+// Whether 1 makes 2^64 and 1 of 2^64, where numbers are added.
+fn sums_pass_a_word(alloc: Global, alg: &Alg) -> Result<bool, NoMemory>
+    requires { alg.now ≡ add 1 1 }
+{
+    let image = worse_image(
+        alloc,
+        &TreeAlgebra::new(alg),
+        &Label::Number(1),
+        &Value::Number(18_446_744_073_709_551_616),
+    )?;
+    Ok(matches!(image, Some(Value::Number(18_446_744_073_709_551_617))))
+}
+
 #[test]
 fn trees_are_carried_out(rt: HostRuntime) -> Result<(), Fail> {
-    let alg = Alg::checked(Tree::Add { low: 1, high: 10 })?;
-    let algebra = TreeAlgebra::new(&alg);
-    let image = worse_image(rt.alloc(), &algebra, &Label::Number(3), &Value::Number(4))?;
-    assert!(rt; matches!(image, Some(Value::Number(7))));
-    let copied = alg.copy_part(rt.alloc(), alg.tree())?;
-    assert!(rt; matches!(copied.tree(), Tree::Add { low: 1, high: 10 }));
+    let alg = Alg::checked(Tree::Add { low: 1, high: 1 })?;
+    let copied = alg.copy_part(rt.alloc(), alg.tree());
+    let is_sum = sums_pass_a_word(rt.alloc(), &alg);
+    drop(alg);
+    assert!(rt; is_sum?);
+    assert!(rt; matches!(copied?.tree(), Tree::Add { low: 1, high: 1 }));
     Ok(())
 }
 
@@ -135,10 +151,18 @@ fn order_of(alloc: Global, alg: &Alg, first: &str, second: &str) -> Result<Order
     Ok(order(alg, &first, &second))
 }
 
+// How two values of the algebra of the expression compare.
+fn order_in(alloc: Global, expression: &str, first: &str, second: &str) -> Result<Ordering, Fail> {
+    let alg = algebra(alloc, expression)?;
+    let order = order_of(alloc, &alg, first, second);
+    drop(alg);
+    order
+}
+
 #[test]
 fn orders(rt: HostRuntime) -> Result<(), Fail> {
     let alloc = rt.alloc();
-    let cases = [
+    let cases: &[(&str, &str, &str, Ordering)] = &[
         ("width(9; 0..9)", "5", "3", Ordering::Less),
         (RELATION, "peer", "customer", Ordering::Greater),
         ("tags(3)", "{0,2}", "{1}", Ordering::Equal),
@@ -157,9 +181,8 @@ fn orders(rt: HostRuntime) -> Result<(), Fail> {
         ("union(add(0..9), add(0..9))", "l:9", "r:0", Ordering::Less),
     ];
     for (expression, first, second, expected) in cases {
-        let alg = algebra(alloc, expression)?;
-        let order = order_of(alloc, &alg, first, second)?;
-        assert_eq!(rt; order, expected, "{first} and {second} in {expression}");
+        let order = order_in(alloc, *expression, *first, *second)?;
+        assert_eq!(rt; order, *expected, "{first} and {second} in {expression}");
     }
     Ok(())
 }

@@ -33,11 +33,39 @@ fn is_answer(answer: Result<Text, LitFault>, expected: Result<&str, LitFault>) -
     }
 }
 
+// Whether the text of a value is answered so in the algebra of the expression.
+fn answers_value(
+    alloc: Global,
+    expression: &str,
+    text: &str,
+    expected: Result<&str, LitFault>,
+) -> Result<bool, Fail> {
+    let alg = algebra(alloc, expression)?;
+    let answer = value_again(alloc, &alg, text);
+    drop(alg);
+    Ok(is_answer(answer?, expected))
+}
+
+// The same of a label.
+fn answers_label(
+    alloc: Global,
+    expression: &str,
+    text: &str,
+    expected: Result<&str, LitFault>,
+) -> Result<bool, Fail> {
+    let alg = algebra(alloc, expression)?;
+    let answer = label_again(alloc, &alg, text);
+    drop(alg);
+    Ok(is_answer(answer?, expected))
+}
+
+const SCOPED: &str = "scoped(add(1..5), cap(9; 1..5))";
+
 const CUSTOMERS: &str = "lex(table { c < r < p; C: c -> c; P: c -> p, r -> p, p -> p }, add(1..1))";
 
 #[test]
 fn values(rt: HostRuntime) -> Result<(), Fail> {
-    let cases = [
+    let cases: &[(&str, &str, Result<&str, LitFault>)] = &[
         ("seq(3)", " [0 , 2]", Ok("[0,2]")),
         ("seq(3)", "[3]", Err(NotInCarrier)),
         ("seq(3)", "[0", Err(BadText)),
@@ -49,29 +77,26 @@ fn values(rt: HostRuntime) -> Result<(), Fail> {
         (CUSTOMERS, "(c,4294967296)", Err(BadText)),
     ];
     for (expression, text, expected) in cases {
-        let alg = algebra(rt.alloc(), expression)?;
-        let answer = value_again(rt.alloc(), &alg, text)?;
-        assert!(rt; is_answer(answer, expected), "{text} in {expression}");
+        let is_answered = answers_value(rt.alloc(), *expression, *text, *expected)?;
+        assert!(rt; is_answered, "{text} in {expression}");
     }
     Ok(())
 }
 
 #[test]
 fn labels(rt: HostRuntime) -> Result<(), Fail> {
-    let scoped = "scoped(add(1..5), cap(9; 1..5))";
-    let cases = [
+    let cases: &[(&str, &str, Result<&str, LitFault>)] = &[
         ("plus(tags(4), guard(4))", "r:?2", Ok("r:?2")),
         ("plus(tags(4), guard(4))", "r:?4", Err(NotALabel)),
-        (scoped, "out(3, 4)", Ok("out(3,4)")),
+        (SCOPED, "out(3, 4)", Ok("out(3,4)")),
         // The label is further left than the value.
-        (scoped, "out(6,10)", Err(NotALabel)),
-        (scoped, "out(5,10)", Err(NotInCarrier)),
+        (SCOPED, "out(6,10)", Err(NotALabel)),
+        (SCOPED, "out(5,10)", Err(NotInCarrier)),
         (CUSTOMERS, "(P,1)", Ok("(P,1)")),
     ];
     for (expression, text, expected) in cases {
-        let alg = algebra(rt.alloc(), expression)?;
-        let answer = label_again(rt.alloc(), &alg, text)?;
-        assert!(rt; is_answer(answer, expected), "{text} in {expression}");
+        let is_answered = answers_label(rt.alloc(), *expression, *text, *expected)?;
+        assert!(rt; is_answered, "{text} in {expression}");
     }
     Ok(())
 }

@@ -72,7 +72,10 @@ fn routes_are_copied(rt: HostRuntime) -> Result<(), Fail> {
 // The number of the first bad line of a text, or 0 where there is none.
 fn bad_line(alloc: Global, text: &[u8; 27]) -> Result<u32, Fail> {
     match read_net(alloc, algebra(alloc, "add(1..9)")?, text) {
-        Ok(_) => Ok(0),
+        Ok(net) => {
+            drop(net);
+            Ok(0)
+        }
         Err(NetError::Bad(fault)) => Ok(fault.line),
         Err(NetError::NoMemory) => Err("out of memory".into()),
     }

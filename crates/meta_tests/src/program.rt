@@ -14,6 +14,11 @@ struct Outcome {
     taken: Vec<u8>,
 }
 
+// Whether the run wrote this text, and ended with this status.
+fn ended_with(outcome: Outcome, text: &[u8], status: u8) -> bool {
+    outcome.taken.as_slice() == text && outcome.status == status
+}
+
 // What stands around a run: the bytes of the expression file `f` and of the network file `n`, the
 // calls of the shelf and of the sink that fail, and how much the sink takes at a time.
 #[derive(Clone, Copy)]
@@ -98,9 +103,7 @@ fn all_five_hold(rt: HostRuntime) -> Result<(), Fail> {
         b"main add(1..10); # all",
         b"let a = add(1..10); main a;",
     ] {
-        let outcome = run(&rt, &["check", "f"], file)?;
-        assert_eq!(rt; outcome.taken.as_slice(), ALL_HOLD);
-        assert_eq!(rt; outcome.status, 0);
+        assert!(rt; ended_with(run(&rt, &["check", "f"], file)?, ALL_HOLD, 0));
     }
     Ok(())
 }
@@ -134,8 +137,7 @@ fn words_are_refused(rt: HostRuntime) -> Result<(), Fail> {
         &["route", "f", "n", "n"],
     ] {
         let outcome = run(&rt, words, b"main add(1..10);")?;
-        assert_eq!(rt; outcome.taken.as_slice(), b"words refused: C2\n".as_slice());
-        assert_eq!(rt; outcome.status, 1);
+        assert!(rt; ended_with(outcome, b"words refused: C2\n", 1));
     }
     Ok(())
 }
@@ -144,71 +146,69 @@ fn words_are_refused(rt: HostRuntime) -> Result<(), Fail> {
 #[test]
 fn expressions_are_refused(rt: HostRuntime) -> Result<(), Fail> {
     let refused: &[(&[u8], &[u8])] = &[
-        (b"", b"X3 at 1:1"),
-        (b"main add(5..4);", b"X7 at 1:13"),
-        (b"main add(1..4294967296);", b"X4 at 1:13"),
-        (b"main add(1..10)\0;", b"X1 at 1:16"),
-        (b"main add(1. .10);", b"X1 at 1:11"),
-        (b"main add(1..10);;", b"X11 at 1:17"),
-        (b"main lex(add(1..10)", b"X3 at 1:20"),
-        (b"main plus(add(1..2), seq(3));", b"X8 at 1:28"),
+        (b"", b"expression refused: X3 at 1:1\n"),
+        (b"main add(5..4);", b"expression refused: X7 at 1:13\n"),
+        (
+            b"main add(1..4294967296);",
+            b"expression refused: X4 at 1:13\n",
+        ),
+        (b"main add(1..10)\0;", b"expression refused: X1 at 1:16\n"),
+        (b"main add(1. .10);", b"expression refused: X1 at 1:11\n"),
+        (b"main add(1..10);;", b"expression refused: X11 at 1:17\n"),
+        (b"main lex(add(1..10)", b"expression refused: X3 at 1:20\n"),
+        (
+            b"main plus(add(1..2), seq(3));",
+            b"expression refused: X8 at 1:28\n",
+        ),
         // An algebra that isn't one `add` isn't served yet; a fault comes first.
-        (b"main gate;", b"X2 at 1:1"),
-        (b"main gate", b"X3 at 1:10"),
+        (b"main gate;", b"expression refused: X2 at 1:1\n"),
+        (b"main gate", b"expression refused: X3 at 1:10\n"),
     ];
-    for (file, fault) in refused {
-        let outcome = run(&rt, &["check", "f"], *file)?;
-        let rest = outcome
-            .taken
-            .strip_prefix(b"expression refused: ".as_slice());
-        let Some(rest) = rest else {
-            return Err("not refused".into());
-        };
-        assert_eq!(rt; rest.strip_suffix(b"\n".as_slice()), Some(*fault));
-        assert_eq!(rt; outcome.status, 2);
+    for (file, text) in refused {
+        assert!(rt; ended_with(run(&rt, &["check", "f"], *file)?, *text, 2));
     }
     Ok(())
+}
+
+// A comment of so many bytes.
+fn comment(alloc: Global, bytes: usize) -> Result<Vec<u8>, NoMemory> {
+    Ok(vec![in alloc; b'#'; bytes]?)
 }
 
 #[test]
 fn long_files(rt: HostRuntime) -> Result<(), Fail> {
-    let mut file = vec![in rt.alloc(); b'#'; MAX_FILE_BYTES]?;
-    let outcome = run(&rt, &["check", "f"], &file)?;
-    assert_eq!(rt;
-        outcome.taken.as_slice(),
-        b"expression refused: X3 at 1:4194305\n".as_slice()
-    );
-    file.push(b'#')?;
-    let outcome = run(&rt, &["check", "f"], &file)?;
-    assert_eq!(rt;
-        outcome.taken.as_slice(),
-        b"too long: the expression\n".as_slice()
-    );
-    assert_eq!(rt; outcome.status, 8);
+    let cases: &[(usize, &[u8], u8)] = &[
+        (MAX_FILE_BYTES, b"expression refused: X3 at 1:4194305\n", 2),
+        (MAX_FILE_BYTES + 1, b"too long: the expression\n", 8),
+    ];
+    for (bytes, text, status) in cases {
+        let file = comment(rt.alloc(), *bytes)?;
+        let outcome = run(&rt, &["check", "f"], &file);
+        drop(file);
+        assert!(rt; ended_with(outcome?, *text, *status));
+    }
     Ok(())
 }
 
-// The file is begun by call 0, read whole by call 1, and found to end by call 2.
+// A run of `check` on the file of this name, where that call of the shelf fails.
+fn run_failing(rt: &impl AllocGlobal, name: &str, call: u64) -> Result<Outcome, Fail> {
+    let around = Around {
+        file: b"main add(1..10);",
+        net: b"",
+        failing_calls: &[call],
+        failing_writes: &[],
+        bite: 100,
+    };
+    run_around(rt, &["check", name], around)
+}
+
+// The file is begun by call 0, read whole by call 1, and found to end by call 2; another name has no
+// file.
 #[test]
 fn reading_fails(rt: HostRuntime) -> Result<(), Fail> {
-    let mut outcomes = Vec::new(rt.alloc());
-    outcomes.push(run(&rt, &["check", "g"], b"main add(1..10);")?)?;
-    for call in 0..3 {
-        let around = Around {
-            file: b"main add(1..10);",
-            net: b"",
-            failing_calls: &[call],
-            failing_writes: &[],
-            bite: 100,
-        };
-        outcomes.push(run_around(&rt, &["check", "f"], around)?)?;
-    }
-    for outcome in &outcomes {
-        assert_eq!(rt;
-            outcome.taken.as_slice(),
-            b"read fault on the expression\n".as_slice()
-        );
-        assert_eq!(rt; outcome.status, 5);
+    for (name, call) in [("f", 0), ("f", 1), ("f", 2), ("g", 9)] {
+        let outcome = run_failing(&rt, name, call)?;
+        assert!(rt; ended_with(outcome, b"read fault on the expression\n", 5));
     }
     Ok(())
 }
@@ -226,8 +226,8 @@ fn writing_fails(rt: HostRuntime) -> Result<(), Fail> {
             bite: 5,
         };
         let outcome = run_around(&rt, &["check", "f"], around)?;
-        assert_eq!(rt; Some(outcome.taken.as_slice()), ALL_HOLD.get(..*length));
-        assert_eq!(rt; outcome.status, 6);
+        let text = ALL_HOLD.get(..*length).unwrap_or_default();
+        assert!(rt; ended_with(outcome, text, 6));
     }
     Ok(())
 }
@@ -253,8 +253,7 @@ fn routes_are_found(rt: HostRuntime) -> Result<(), Fail> {
     ];
     for (net, routes) in cases {
         let outcome = run_on(&rt, &["route", "f", "n"], b"main add(1..2);", *net)?;
-        assert_eq!(rt; outcome.taken.as_slice(), *routes);
-        assert_eq!(rt; outcome.status, 0);
+        assert!(rt; ended_with(outcome, *routes, 0));
     }
     Ok(())
 }
@@ -262,7 +261,6 @@ fn routes_are_found(rt: HostRuntime) -> Result<(), Fail> {
 // The network file is begun only once the expression is read.
 #[test]
 fn network_files_are_read_second(rt: HostRuntime) -> Result<(), Fail> {
-    let long = vec![in rt.alloc(); b'#'; MAX_FILE_BYTES + 1]?;
     let cases: &[(&str, &[u8], &[u8], &[u8], u8)] = &[
         (
             "n",
@@ -285,19 +283,20 @@ fn network_files_are_read_second(rt: HostRuntime) -> Result<(), Fail> {
             b"read fault on the network\n",
             5,
         ),
-        (
-            "n",
-            b"main add(1..10);",
-            &long,
-            b"too long: the network\n",
-            8,
-        ),
     ];
     for (name, file, net, text, status) in cases {
         let outcome = run_on(&rt, &["route", "f", *name], *file, *net)?;
-        assert_eq!(rt; outcome.taken.as_slice(), *text);
-        assert_eq!(rt; outcome.status, *status);
+        assert!(rt; ended_with(outcome, *text, *status));
     }
+    Ok(())
+}
+
+#[test]
+fn long_networks(rt: HostRuntime) -> Result<(), Fail> {
+    let net = comment(rt.alloc(), MAX_FILE_BYTES + 1)?;
+    let outcome = run_on(&rt, &["route", "f", "n"], b"main add(1..10);", &net);
+    drop(net);
+    assert!(rt; ended_with(outcome?, b"too long: the network\n", 8));
     Ok(())
 }
 
@@ -393,37 +392,37 @@ fn add_arcs(net: &mut Vec<u8>, first: u8) -> Result<(), Fail> {
     Ok(())
 }
 
-// What `route` writes on this network.
-fn routes_on(rt: &impl AllocGlobal, net: &[u8]) -> Result<Vec<u8>, Fail> {
-    let outcome = run_on(rt, &["route", "f", "n"], b"main add(1..9);", net)?;
-    Ok(outcome.taken)
+// Whether `route` is refused at this line of the network with one line more, and not without it.
+fn is_full(rt: &impl AllocGlobal, net: Vec<u8>, line: &[u8], text: &[u8]) -> Result<bool, Fail> {
+    let mut net = net;
+    let is_open = run_on(rt, &["route", "f", "n"], b"main add(1..9);", &net)?.status == 0;
+    net.extend_from_slice(line)?;
+    let outcome = run_on(rt, &["route", "f", "n"], b"main add(1..9);", &net)?;
+    Ok(is_open && ended_with(outcome, text, 2))
 }
 
 #[test]
-fn nodes_and_arcs_have_a_limit(rt: HostRuntime) -> Result<(), Fail> {
-    let mut net = most_nodes(rt.alloc())?;
-    assert_eq!(rt; routes_on(&rt, &net)?.as_slice(), b"".as_slice());
-    net.extend_from_slice(b"node z")?;
-    assert_eq!(rt;
-        routes_on(&rt, &net)?.as_slice(),
-        b"network refused: N1 at line 17\n".as_slice()
-    );
-    let mut net = most_nodes(rt.alloc())?;
-    for first in b"abcdefghijklmnop" {
-        add_arcs(&mut net, *first)?;
-    }
-    assert_eq!(rt; routes_on(&rt, &net)?.as_slice(), b"".as_slice());
-    net.extend_from_slice(b"link aa ab : 1")?;
-    assert_eq!(rt;
-        routes_on(&rt, &net)?.as_slice(),
-        b"network refused: N1 at line 8209\n".as_slice()
-    );
+fn nodes_have_a_limit(rt: HostRuntime) -> Result<(), Fail> {
+    let net = most_nodes(rt.alloc())?;
+    let text = b"network refused: N1 at line 17\n";
+    assert!(rt; is_full(&rt, net, b"node z", text)?);
     Ok(())
 }
 
 #[test]
-fn destinations_have_a_limit(rt: HostRuntime) -> Result<(), Fail> {
-    let mut net = Vec::from_slice(rt.alloc(), b"node a\n".as_slice())?;
+fn arcs_have_a_limit(rt: HostRuntime) -> Result<(), Fail> {
+    let mut net = most_nodes(rt.alloc())?;
+    for first in b"abcdefghijklmnop" {
+        add_arcs(&mut net, *first)?;
+    }
+    let text = b"network refused: N1 at line 8209\n";
+    assert!(rt; is_full(&rt, net, b"link aa ab : 1", text)?);
+    Ok(())
+}
+
+// 64 destinations at one node, a line each.
+fn most_dests(alloc: Global) -> Result<Vec<u8>, Fail> {
+    let mut net = Vec::from_slice(alloc, b"node a\n".as_slice())?;
     for first in b"ab" {
         for second in b"abcdefghijklmnopqrstuvwxyz012345" {
             net.extend_from_slice(b"origin ")?;
@@ -431,12 +430,13 @@ fn destinations_have_a_limit(rt: HostRuntime) -> Result<(), Fail> {
             net.extend_from_slice(b" at a : 0\n")?;
         }
     }
-    let outcome = run_on(&rt, &["route", "f", "n"], b"main add(1..9);", &net)?;
-    assert_eq!(rt; outcome.status, 0);
-    net.extend_from_slice(b"origin z at a : 0")?;
-    assert_eq!(rt;
-        routes_on(&rt, &net)?.as_slice(),
-        b"network refused: N1 at line 66\n".as_slice()
-    );
+    Ok(net)
+}
+
+#[test]
+fn destinations_have_a_limit(rt: HostRuntime) -> Result<(), Fail> {
+    let net = most_dests(rt.alloc())?;
+    let text = b"network refused: N1 at line 66\n";
+    assert!(rt; is_full(&rt, net, b"origin z at a : 0", text)?);
     Ok(())
 }
