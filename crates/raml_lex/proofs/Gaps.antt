@@ -1,9 +1,12 @@
 -- The spaces and comments at the front.
-use Rattle.std.proofs.Common.{◌≡◌, inl, inr, ℕ, ◌+◌, ◌<◌, ◌==◌, Bool, true, false, not, cond, List, [], ◌∷◌, ◌++◌, length, get_or, take, drop, Some, None, refl, ap, sym, ◌∙◌, arith}
-use Rattle.std.proofs.lemmas.List.{append_assoc, at_drop_more, drop_more, take_more}
+use Rattle.std.proofs.Common.{◌≡◌, inl, inr, ℕ, zero, suc, ◌+◌, ◌<◌, ◌≤◌, ◌==◌, Bool, true, false, not, cond, List, [], ◌∷◌, ◌++◌, length, get_or, take, drop, refl, ap, sym, ◌∙◌, arith, length-drop}
+use Rattle.std.proofs.Math.Seq.{take-add}
+use Rattle.std.proofs.Math.ListN.{drop_of_length-le}
+use Rattle.std.proofs.lemmas.List.{append_assoc, append-nil, at_drop_more, drop_more, drop-drop, get_or-drop, take_more}
+use Rattle.std.proofs.lemmas.Bool.{eqb-true}
 use Rattle.std.proofs.lemmas.Bool.Decides.{nat_tests}
 use Rattle.meta_base.specs.Bytes.{is_line_feed, is_space}
-use Rattle.raml_lex.specs.Gaps.{gap_of, behind_gap, gap_step, IsGap}
+use Rattle.raml_lex.specs.Gaps.{gap_of, behind_gap, IsGap, IsLine}
 
 -- a text is its gap and what comes behind it
 pub gap_split : (b : Bool) (text : List ℕ) → gap_of b text ++ behind_gap b text ≡ text
@@ -31,49 +34,79 @@ gap_is_gap false (c ∷ cs) = by (c == 35) (is_space c) refl refl (gap_is_gap tr
     by false true p q h k = inr (q, k)
     by false false p q h k = tt
 
--- a gap goes on over a byte of it
-pub gap_more : (b next : Bool) (cs : List ℕ) (i : ℕ) → i < length cs → gap_step b (get_or cs i 0) ≡ Some next
-    → (gap_of b (drop i cs) ≡ get_or cs i 0 ∷ gap_of next (drop (i + 1) cs)) × (behind_gap b (drop i cs) ≡ behind_gap next (drop (i + 1) cs))
-gap_more b next cs i h e =
-    let t = by b next (get_or cs i 0) (drop (i + 1) cs) e in
-    (at_drop_more (gap_of b) cs i 0 h ∙ t.0, at_drop_more (behind_gap b) cs i 0 h ∙ t.1)
+-- a gap of a text goes on from one place to another
+pub record GapOver (cs : List ℕ) (i j : ℕ) : Type 0 where
+  pub gap : take j cs ++ gap_of false (drop j cs) ≡ take i cs ++ gap_of false (drop i cs)
+  pub left : behind_gap false (drop j cs) ≡ behind_gap false (drop i cs)
+
+no_mark : (c : ℕ) → is_space c ≡ true → (c == 35) ≡ false
+no_mark c h = by (c == 35) refl
   where
-    test : (d s next : Bool) (c : ℕ) (rest : List ℕ) → cond d (Some true) (cond s (Some false) None) ≡ Some next
-        → (cond d (c ∷ gap_of true rest) (cond s (c ∷ gap_of false rest) []) ≡ c ∷ gap_of next rest) × (cond d (behind_gap true rest) (cond s (behind_gap false rest) (c ∷ rest)) ≡ behind_gap next rest)
-    test true s next c rest e = let k : true ≡ next = cc in (ap (λ x. c ∷ gap_of x rest) k, ap (λ x. behind_gap x rest) k)
-    test false true next c rest e = let k : false ≡ next = cc in (ap (λ x. c ∷ gap_of x rest) k, ap (λ x. behind_gap x rest) k)
-    test false false next c rest e = absurd (cc)
+    by : (b : Bool) → (c == 35) ≡ b → b ≡ false
+    by true e = absurd (let k : is_space 35 ≡ true = ap is_space (sym (eqb-true c 35 e)) ∙ h in cc)
+    by false e = refl
 
-    by : (b next : Bool) (c : ℕ) (rest : List ℕ) → gap_step b c ≡ Some next → (gap_of b (c ∷ rest) ≡ c ∷ gap_of next rest) × (behind_gap b (c ∷ rest) ≡ behind_gap next rest)
-    by true next c rest e = let k : not (is_line_feed c) ≡ next = cc in (ap (λ x. c ∷ gap_of x rest) k, ap (λ x. behind_gap x rest) k)
-    by false next c rest e = test (c == 35) (is_space c) next c rest e
+-- over a space
+pub over_space : (cs : List ℕ) (i : ℕ) → i < length cs → is_space (get_or cs i 0) ≡ true → GapOver cs i (i + 1)
+over_space cs i h s =
+    let c = get_or cs i 0 in
+    let mark = no_mark c s in
+    let gap : gap_of false (drop i cs) ≡ c ∷ gap_of false (drop (i + 1) cs) = at_drop_more (gap_of false) cs i 0 h ∙ rw (mark, s) refl in
+    record {
+      gap = ap (λ x. x ++ gap_of false (drop (i + 1) cs)) (take_more cs i 0 h) ∙ append_assoc (take i cs) (c ∷ []) (gap_of false (drop (i + 1) cs)) ∙ ap (λ x. take i cs ++ x) (sym gap);
+      left = sym (at_drop_more (behind_gap false) cs i 0 h ∙ rw (mark, s) refl);
+    }
 
--- and ends at a byte that is no part of it
-pub gap_none : (b : Bool) (cs : List ℕ) (i : ℕ) → i < length cs → gap_step b (get_or cs i 0) ≡ None
-    → (gap_of b (drop i cs) ≡ []) × (behind_gap b (drop i cs) ≡ drop i cs)
-gap_none b cs i h e =
-    let t = by b (get_or cs i 0) (drop (i + 1) cs) e in
-    (at_drop_more (gap_of b) cs i 0 h ∙ t.0, at_drop_more (behind_gap b) cs i 0 h ∙ t.1 ∙ sym (drop_more cs i 0 h))
-  where
-    test : (d s : Bool) (c : ℕ) (rest : List ℕ) → cond d (Some true) (cond s (Some false) None) ≡ None
-        → (cond d (c ∷ gap_of true rest) (cond s (c ∷ gap_of false rest) []) ≡ []) × (cond d (behind_gap true rest) (cond s (behind_gap false rest) (c ∷ rest)) ≡ c ∷ rest)
-    test true s c rest e = absurd (cc)
-    test false true c rest e = absurd (cc)
-    test false false c rest e = (refl, refl)
+-- and ends at another byte
+pub at_other : (cs : List ℕ) (i : ℕ) → i < length cs → is_space (get_or cs i 0) ≡ false → (get_or cs i 0 == 35) ≡ false
+    → (gap_of false (drop i cs) ≡ []) × (behind_gap false (drop i cs) ≡ drop i cs)
+at_other cs i h s mark = (at_drop_more (gap_of false) cs i 0 h ∙ rw (mark, s) refl, at_drop_more (behind_gap false) cs i 0 h ∙ rw (mark, s) refl ∙ sym (drop_more cs i 0 h))
 
-    by : (b : Bool) (c : ℕ) (rest : List ℕ) → gap_step b c ≡ None → (gap_of b (c ∷ rest) ≡ []) × (behind_gap b (c ∷ rest) ≡ c ∷ rest)
-    by true c rest e = absurd (cc)
-    by false c rest e = test (c == 35) (is_space c) c rest e
+-- the bytes of a line in a comment
+line_read : (cs : List ℕ) (n : ℕ) → IsLine cs n → (gap_of true cs ≡ take n cs ++ gap_of false (drop n cs)) × (behind_gap true cs ≡ behind_gap false (drop n cs))
+line_read [] zero l = (refl, refl)
+line_read [] (suc n) l = (refl, refl)
+line_read (c ∷ cs) zero l =
+    let feed : c ≡ 10 = eqb-true c 10 (l.ends (omega arith)) in
+    rw feed (refl, refl)
+line_read (c ∷ cs) (suc n) l =
+    let inside : is_line_feed c ≡ false = l.in_line 0 (omega arith) in
+    let more = line_read cs n (record { within = omega (arith, l.within); in_line = λ k h. l.in_line (suc k) (omega (arith, h)); ends = λ h. l.ends (omega (arith, h)) }) in
+    rw inside (ap (λ x. c ∷ x) more.0, more.1)
 
--- what was read of a gap, one byte on
-pub gap_read_more : (b next : Bool) (cs all left : List ℕ) (i : ℕ) → i < length cs → gap_step b (get_or cs i 0) ≡ Some next
-    → take i cs ++ gap_of b (drop i cs) ≡ all → behind_gap b (drop i cs) ≡ left
-    → (take (i + 1) cs ++ gap_of next (drop (i + 1) cs) ≡ all) × (behind_gap next (drop (i + 1) cs) ≡ left)
-gap_read_more b next cs all left i h e p q =
-    let more = gap_more b next cs i h e in (
-      ap (λ x. x ++ gap_of next (drop (i + 1) cs)) (take_more cs i 0 h)
-          ∙ append_assoc (take i cs) (get_or cs i 0 ∷ []) (gap_of next (drop (i + 1) cs))
-          ∙ ap (λ x. take i cs ++ x) (sym more.0)
-          ∙ p,
-      sym more.1 ∙ q,
+-- a comment is a mark and the rest of its line
+comment_read : (cs : List ℕ) (n : ℕ) → IsLine cs n → 0 < length cs → get_or cs 0 0 ≡ 35 → (0 < n) × (gap_of false cs ≡ take n cs ++ gap_of false (drop n cs)) × (behind_gap false cs ≡ behind_gap false (drop n cs))
+comment_read [] n l some mark = absurd (omega arith)
+comment_read (c ∷ cs) zero l some mark = absurd (let feed = l.ends some in let other : is_line_feed c ≡ false = ap is_line_feed mark in cc)
+comment_read (c ∷ cs) (suc n) l some mark =
+    let more = line_read cs n (record { within = omega (arith, l.within); in_line = λ k h. l.in_line (suc k) (omega (arith, h)); ends = λ h. l.ends (omega (arith, h)) }) in
+    rw mark (omega arith, ap (λ x. 35 ∷ x) more.0, more.1)
+
+-- over a comment
+pub over_comment : (cs : List ℕ) (i n : ℕ) → i < length cs → get_or cs i 0 ≡ 35 → IsLine (drop i cs) n → (0 < n) × GapOver cs i (i + n)
+over_comment cs i n h mark l =
+    let first : get_or (drop i cs) 0 0 ≡ 35 = get_or-drop i cs 0 0 ∙ ap (λ k. get_or cs k 0) (omega arith) ∙ mark in
+    let read = comment_read (drop i cs) n l (omega (arith, length-drop i cs, h)) first in (
+      read.0,
+      record {
+        gap = ap (λ x. x ++ gap_of false (drop (i + n) cs)) (take-add i n cs) ∙ append_assoc (take i cs) (take n (drop i cs)) (gap_of false (drop (i + n) cs))
+            ∙ ap (λ x. take i cs ++ x) (ap (λ x. take n (drop i cs) ++ gap_of false x) (sym (drop-drop n i cs)) ∙ sym read.1);
+        left = ap (behind_gap false) (sym (drop-drop n i cs)) ∙ sym read.2;
+      },
     )
+
+-- one part of a gap behind another
+pub over_more : (cs : List ℕ) (i j k : ℕ) → GapOver cs i j → GapOver cs j k → GapOver cs i k
+over_more cs i j k a b = record { gap = b.gap ∙ a.gap; left = b.left ∙ a.left }
+
+pub over_none : (cs : List ℕ) (i : ℕ) → GapOver cs i i
+over_none cs i = record { gap = refl; left = refl }
+
+-- where the gap ends it was read
+pub gap_over : (cs : List ℕ) (i j : ℕ) → GapOver cs i j → gap_of false (drop j cs) ≡ [] → behind_gap false (drop j cs) ≡ drop j cs
+    → (take j cs ≡ take i cs ++ gap_of false (drop i cs)) × (drop j cs ≡ behind_gap false (drop i cs))
+gap_over cs i j g none left = (sym (append-nil (take j cs)) ∙ ap (λ x. take j cs ++ x) (sym none) ∙ g.gap, sym left ∙ g.left)
+
+-- nothing is left at the end
+pub at_end : (cs : List ℕ) (i : ℕ) → length cs ≤ i → (gap_of false (drop i cs) ≡ []) × (behind_gap false (drop i cs) ≡ drop i cs)
+at_end cs i h = let e : drop i cs ≡ [] = drop_of_length-le cs h in rw e (refl, refl)

@@ -1,7 +1,7 @@
 -- Places behind more bytes.
-use Rattle.std.proofs.Common.{◌≡◌, ℕ, ◌+◌, ◌≤◌, ◌<◌, Bool, true, false, not, cond, ◌&&◌, suc, List, [], ◌∷◌, ◌++◌, length, get_or, take, count_by, refl, ap, sym, ◌∙◌, zero-add, arith}
+use Rattle.std.proofs.Common.{◌≡◌, ℕ, ◌+◌, ◌≤◌, Bool, true, false, not, cond, ◌&&◌, suc, List, [], ◌∷◌, ◌++◌, length, count_by, refl, ap, sym, ◌∙◌, zero-add, arith}
 use Rattle.std.specs.List.{list_all, suffix_len, prefix_len}
-use Rattle.std.proofs.lemmas.List.{reverse-append, append_assoc, append-nil, take_more}
+use Rattle.std.proofs.lemmas.List.{reverse-append, append_assoc, append-nil}
 use Rattle.std.proofs.lemmas.List.Sums.{suffix_len-le-length, count_by-le-length, sum_by-append}
 use Rattle.meta_base.specs.declared.ids.Place.{Place}
 use Rattle.meta_base.specs.Bytes.{is_line_feed}
@@ -50,15 +50,3 @@ line_le xs = omega (arith, count_by-le-length is_line_feed xs)
 
 pub column_le : (xs : List ℕ) → (place_after xs).column ≤ 1 + length xs
 column_le xs = omega (arith, suffix_len-le-length (λ c. not (is_line_feed c)) xs)
-
--- one byte more of a text
-pub moved_over-take : (p : Place) (xs : List ℕ) (i : ℕ) → i < length xs → moved_over p (take (i + 1) xs) ≡ moved (moved_over p (take i xs)) (get_or xs i 0)
-moved_over-take p xs i h = ap (moved_over p) (take_more xs i 0 h) ∙ moved_over-append (take i xs) (get_or xs i 0 ∷ []) p
-
--- one byte moves a line and a column by one at most
-pub moved_le : (p : Place) (c : ℕ) → ((moved p c).line ≤ p.line + 1) × ((moved p c).column ≤ p.column + 1)
-moved_le p c = by (is_line_feed c)
-  where
-    by : (b : Bool) → ((cond b (record_of (p.line + 1) 1) (record_of p.line (p.column + 1))).line ≤ p.line + 1) × ((cond b (record_of (p.line + 1) 1) (record_of p.line (p.column + 1))).column ≤ p.column + 1)
-    by true = (omega arith, omega arith)
-    by false = (omega arith, omega arith)

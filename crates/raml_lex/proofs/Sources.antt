@@ -1,14 +1,17 @@
 -- Going on in a source.
-use Rattle.std.proofs.Common.{◌≡◌, false, ℕ, ◌+◌, ◌≤◌, List, [], ◌++◌, length, take, drop, Option, None, refl, ap, sym, ◌∙◌, arith, length-drop, append_assoc}
+use Rattle.std.specs.List.{list_all}
+use Rattle.std.proofs.Common.{◌≡◌, true, false, not, ℕ, zero, suc, ◌+◌, ◌-◌, ◌≤◌, ◌<◌, ◌∷◌, get_or, List, [], ◌++◌, length, take, drop, Option, None, refl, ap, sym, ◌∙◌, arith, length-drop, append_assoc}
 use Rattle.std.proofs.Math.Seq.{take-add}
-use Rattle.std.proofs.lemmas.List.{drop-drop, length-take-le, take-append-drop, append-nil}
+use Rattle.std.proofs.lemmas.List.{drop-drop, drop_more, length-take-le, take-append-drop, append-nil}
 use Rattle.meta_base.specs.declared.ids.Place.{Place}
 use Rattle.raml_lex.specs.declared.token.Token.{Token}
 use Rattle.raml_lex.specs.declared.token.LexFault.{LexFault}
 use Rattle.raml_lex.specs.Gaps.{gap_of, behind_gap}
 use Rattle.raml_lex.specs.Lexers.{Found, Ended}
 use Rattle.raml_lex.specs.Places.{place_after, moved_over}
-use Rattle.raml_lex.specs.Sources.{IsSource}
+use Rattle.meta_base.specs.Bytes.{is_line_feed}
+use Rattle.raml_lex.specs.declared.cursor.Cursor.{Cursor}
+use Rattle.raml_lex.specs.Sources.{IsSource, IsCursor, place_at}
 use Rattle.raml_lex.specs.Tokens.{token_at, token}
 use Rattle.raml_lex.specs.Views.{tok_of, IsWithin}
 use Rattle.raml_lex.proofs.Gaps.{gap_split, gap_is_gap}
@@ -22,13 +25,41 @@ IsSource-more s a n p i h = record {
   place = ap (λ q. moved_over q (take n (drop a s))) i.place ∙ sym (place_after-append (take n (drop a s)) (take a s)) ∙ ap place_after (sym (take-add a n s));
 }
 
--- a token's bytes on
-pub IsSource-token : (s : List ℕ) (a n : ℕ) (p : Place) → IsSource s a p → IsWithin n (drop a s) → IsSource s (a + n) (record { line = p.line; column = p.column + n })
-IsSource-token s a n p i w =
-    let more = IsSource-more s a n p i w.within in
-    let column : moved_over p (take n (drop a s)) ≡ record { line = p.line; column = p.column + n }
-    = moved_over-line (take n (drop a s)) p w.one_line ∙ ap (λ m. record { line = p.line; column = p.column + m }) (length-take-le n (drop a s) w.within) in
-    record { short = more.short; within = more.within; place = sym column ∙ more.place }
+-- a cursor moves over bytes of its line, and over a line feed
+pub IsCursor-line : (s : List ℕ) (c : Cursor) (n : ℕ) → IsCursor s c → n ≤ length (drop c.at s) → list_all (λ b. not (is_line_feed b)) (take n (drop c.at s)) ≡ true
+    → IsCursor s (record { at = c.at + n; line = c.line; line_start = c.line_start })
+IsCursor-line s c n i within line =
+    let more = IsSource-more s c.at n (place_at c) i.here within in
+    let start = i.start in
+    let column : moved_over (place_at c) (take n (drop c.at s)) ≡ record { line = c.line; column = c.at + n - c.line_start + 1 }
+    = moved_over-line (take n (drop c.at s)) (place_at c) line ∙ ap (λ m. record { line = c.line; column = m }) (let e = length-take-le n (drop c.at s) within in omega arith) in
+    record {
+      here = record { short = more.short; within = more.within; place = sym column ∙ more.place };
+      start = omega arith;
+    }
+
+pub IsCursor-feed : (s : List ℕ) (c : Cursor) → IsCursor s c → c.at < length s → is_line_feed (get_or s c.at 0) ≡ true
+    → IsCursor s (record { at = c.at + 1; line = c.line + 1; line_start = c.at + 1 })
+IsCursor-feed s c i h feed =
+    let within : 1 ≤ length (drop c.at s) = omega (arith, length-drop c.at s, h) in
+    let more = IsSource-more s c.at 1 (place_at c) i.here within in
+    let bytes : take 1 (drop c.at s) ≡ get_or s c.at 0 ∷ [] = first_taken s c.at h in
+    let place : moved_over (place_at c) (take 1 (drop c.at s)) ≡ record { line = c.line + 1; column = c.at + 1 - (c.at + 1) + 1 }
+    = ap (moved_over (place_at c)) bytes ∙ rw feed (ap (λ m. record { line = c.line + 1; column = m }) (omega arith)) in
+    record {
+      here = record { short = more.short; within = more.within; place = sym place ∙ more.place };
+      start = omega arith;
+    }
+  where
+    first_taken : (s : List ℕ) (i : ℕ) → i < length s → take 1 (drop i s) ≡ get_or s i 0 ∷ []
+    first_taken s i h = ap (take 1) (drop_more s i 0 h)
+
+-- no byte before the end of a line is a line feed
+pub all_in_line : (cs : List ℕ) (n : ℕ) → ((k : ℕ) → k < n → is_line_feed (get_or cs k 0) ≡ false) → list_all (λ b. not (is_line_feed b)) (take n cs) ≡ true
+all_in_line [] zero h = refl
+all_in_line [] (suc n) h = refl
+all_in_line (c ∷ cs) zero h = refl
+all_in_line (c ∷ cs) (suc n) h = rw (h 0 (omega arith)) (all_in_line cs n (λ k l. h (suc k) (omega (arith, l))))
 
 -- nothing was left behind the gap
 pub Ended-at : (s : List ℕ) (a b greatest : ℕ) (fault : Option LexFault) → fault ≡ None → take b s ≡ take a s ++ gap_of false (drop a s) → drop b s ≡ behind_gap false (drop a s) → drop b s ≡ []

@@ -1,7 +1,7 @@
 -- What stands between two tokens: spaces, and comments. A comment runs from a `#` to the line feed that
 -- ends its line, or to the end of the text, and may hold any bytes. The first argument says whether a
 -- comment is open.
-use Rattle.std.specs.Prelude.{◌≡◌, ◌⊎◌, ℕ, List, [], ◌∷◌, Bool, true, false, not, ◌==◌, IsTrue, Option, Some, None, if◌then◌else◌}
+use Rattle.std.specs.Prelude.{◌≡◌, ◌⊎◌, ◌<◌, ◌≤◌, ℕ, List, [], ◌∷◌, length, slice_index, Bool, true, false, not, ◌==◌, IsTrue, if◌then◌else◌}
 use Rattle.meta_base.specs.Bytes.{is_space, is_line_feed}
 
 -- the spaces and comments at the front
@@ -16,10 +16,11 @@ behind_gap in_comment [] = []
 behind_gap true (c ∷ cs) = behind_gap (not (is_line_feed c)) cs
 behind_gap false (c ∷ cs) = if c == 35 then behind_gap true cs else (if is_space c then behind_gap false cs else c ∷ cs)
 
--- whether a comment is open behind a byte, or none where the byte is no part of a gap
-abbrev pub gap_step : Bool → ℕ → Option Bool
-gap_step true c = Some (not (is_line_feed c))
-gap_step false c = if c == 35 then Some true else (if is_space c then Some false else None)
+-- so many bytes stand before the first line feed, or all of them
+pub record IsLine (text : List ℕ) (count : ℕ) : Type 0 where
+  pub within : count ≤ length text
+  pub in_line : (k : ℕ) → k < count → is_line_feed (slice_index text k) ≡ false
+  pub ends : count < length text → is_line_feed (slice_index text count) ≡ true
 
 -- the first list holds only spaces and whole comments, where the second comes behind it: a comment that
 -- no line feed ends has nothing behind it

@@ -4,10 +4,10 @@
 #![tactic(auto)]
 
 mod bytes;
+mod cursor;
 mod front;
 mod gap;
 mod laws;
-mod place;
 mod token;
 mod tokens;
 

@@ -1,5 +1,6 @@
 ghost use Rattle.std.specs.Prelude.{◌≡◌, ◌≤◌, [], length, IfSome, IfOk, IfErr, IfNone, IsNone, OnSome, Some, None, Ok, Err};
 
+use crate::cursor::Cursor;
 use crate::front::{Front, token_at_front};
 use crate::gap::gap_end;
 use crate::{LexFault, Token};
@@ -13,10 +14,8 @@ use std::marker::Model;
 #[derive(Drop)]
 pub struct Tokens<'a> {
     source: &'a [u8],
-    // How many bytes of the source were taken.
-    at: usize,
-    // The place behind them.
-    place: Place,
+    // Where it stands, behind the bytes that were taken.
+    here: Cursor,
     greatest: u64,
     fault: Option<LexFault>,
 }
@@ -24,14 +23,13 @@ pub struct Tokens<'a> {
 impl<'a> Model for Tokens<'a> {
     ghost use Rattle.std.specs.Prelude.{take, drop, ◌≤◌, ◌≡◌, length};
     ghost use Rattle.raml_lex.specs.Lexers.{Lexer};
-    ghost use Rattle.raml_lex.specs.Places.{place_after};
-    ghost use Rattle.raml_lex.specs.Sources.{IsSource};
+    ghost use Rattle.raml_lex.specs.Sources.{IsCursor};
 
     ghost Value = { Lexer };
 
-    ghost view = { λ t. record { before = take t.at t.source.now; rest = drop t.at t.source.now; greatest = t.greatest; fault = t.fault } };
+    ghost view = { λ t. record { before = take t.here.at t.source.now; rest = drop t.here.at t.source.now; greatest = t.greatest; fault = t.fault } };
 
-    ghost invariant = { λ t. IsSource t.source.now t.at t.place };
+    ghost invariant = { λ t. IsCursor t.source.now t.here };
 }
 
 impl<'a> Tokens<'a> {
@@ -47,8 +45,7 @@ impl<'a> Tokens<'a> {
     {
         Tokens {
             source,
-            at: 0,
-            place: Place { line: 1, column: 1 },
+            here: Cursor::new(),
             greatest: MAX_NUMBER,
             fault: None,
         }
@@ -59,7 +56,7 @@ impl<'a> Tokens<'a> {
     pub fn place(&self) -> Place
         ensures { result ≡ place_after self.now.before }
     {
-        self.place
+        self.here.place()
     }
 
     /// The next token, or `None` exactly where only spaces and comments are left.
@@ -82,27 +79,29 @@ impl<'a> Tokens<'a> {
         if let Some(fault) = self.fault {
             return Some(Err(fault));
         }
-        let (start, place) = gap_end(self.source, self.at, self.place);
-        let (_, text) = self.source.split_at(start);
+        let start = gap_end(self.source, self.here);
+        let (_, text) = self.source.split_at(start.at);
         match token_at_front(text, self.greatest) {
             Front::End => {
-                self.at = start;
-                self.place = place;
+                self.here = start;
                 None
             }
             Front::Bad(kind) => {
-                let fault = LexFault { kind, place };
+                let fault = LexFault {
+                    kind,
+                    place: start.place(),
+                };
                 self.fault = Some(fault);
                 Some(Err(fault))
             }
             Front::Found(kind, len) => {
-                self.at = start + len;
-                self.place = Place {
-                    line: place.line,
-                    column: place.column + len as u32,
-                };
+                self.here = start.behind(len);
                 let (text, _) = text.split_at(len);
-                Some(Ok(Token { kind, text, place }))
+                Some(Ok(Token {
+                    kind,
+                    text,
+                    place: start.place(),
+                }))
             }
         }
     }
