@@ -1,8 +1,8 @@
 // Tests of `raml_syntax`: expression files that are read and printed, and those that are refused, with
 // the places of their faults.
 use crate::readers::algebra_of_file;
-use alg_model::{Alg, Tree};
-use meta_base::{MAX_FILE_BYTES, Text};
+use alg_model::Tree;
+use meta_base::MAX_FILE_BYTES;
 use raml_syntax::ExprKind::*;
 use raml_syntax::{AlgError, ExprFault, ExprKind, is_plain_add, print_alg, read_alg};
 use std::alloc::Global;
@@ -144,9 +144,13 @@ fn tables(rt: HostRuntime) -> Result<(), Fail> {
     Ok(())
 }
 
-// The text of an algebra, printed.
-fn printed(alloc: Global, alg: &Alg) -> Result<Text, Fail> {
-    Ok(print_alg(alloc, alg)?)
+// Whether the file's algebra is printed so, and is a single `add` or none.
+fn is_printed(alloc: Global, file: &[u8], expected: &str, is_plain: bool) -> Result<bool, Fail> {
+    let alg = algebra_of_file(alloc, file)?;
+    let is_as_plain = is_plain_add(&alg) == is_plain;
+    let text = print_alg(alloc, &alg);
+    drop(alg);
+    Ok(text?.as_str() == expected && is_as_plain)
 }
 
 #[test]
@@ -175,9 +179,7 @@ fn printed_files(rt: HostRuntime) -> Result<(), Fail> {
         ),
     ];
     for (text, expected, is_plain) in cases {
-        let alg = algebra_of_file(rt.alloc(), *text)?;
-        assert_eq!(rt; printed(rt.alloc(), &alg)?.as_str(), *expected);
-        assert_eq!(rt; is_plain_add(&alg), *is_plain);
+        assert!(rt; is_printed(rt.alloc(), *text, *expected, *is_plain)?);
     }
     Ok(())
 }

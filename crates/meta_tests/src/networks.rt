@@ -49,9 +49,9 @@ fn networks_are_filed(rt: HostRuntime) -> Result<(), Fail> {
         b"node a b\nlink a b : 3\norigin d at b : 7\n",
     )?;
     is_shared(&net);
-    assert!(rt; keeps_names(&net));
-    assert!(rt; files_arcs(&net));
-    assert!(rt; files_origins(&net));
+    let is_filed = keeps_names(&net) && files_arcs(&net) && files_origins(&net);
+    drop(net);
+    assert!(rt; is_filed);
     Ok(())
 }
 
@@ -61,8 +61,10 @@ fn routes_are_copied(rt: HostRuntime) -> Result<(), Fail> {
     path.push(NodeId(4))?;
     let value = Value::Number(7);
     let copied = Route { value, path }.copy(rt.alloc())?;
-    assert!(rt; matches!(&copied.value, Value::Number(7)));
-    assert_eq!(rt; copied.path.as_slice(), [NodeId(4)].as_slice());
+    let is_copy = matches!(&copied.value, Value::Number(7))
+        && copied.path.as_slice() == [NodeId(4)].as_slice();
+    drop(copied);
+    assert!(rt; is_copy);
     let rows = List::new(rt.alloc());
     let dest = DestId(0);
     is_sent(&DestTable { dest, rows });

@@ -1,5 +1,5 @@
 // Tests of `meta_base`: lists, texts, and files that are taken and pieces that are put whole.
-ghost use Rattle.std.specs.Prelude.{◌≤◌};
+ghost use Rattle.std.specs.Prelude.{◌<◌, ◌≤◌};
 ghost use Rattle.meta_base.specs.declared.limits.TheConstants.{MAX_FILE_BYTES};
 
 use meta_base::{
@@ -45,25 +45,42 @@ fn lists_and_texts(rt: HostRuntime) -> Result<(), Fail> {
     Ok(())
 }
 
+// Whether taking all of the file of that name is answered so.
+fn is_taken(
+    alloc: Global,
+    shelf: &mut MemShelf,
+    name: &str,
+    limit: usize,
+    expected: Result<&[u8], TakeError>,
+) -> bool
+    requires { limit ≤ MAX_FILE_BYTES }
+{
+    match (&taken_from(alloc, shelf, name, limit), expected) {
+        (Ok(bytes), Ok(expected)) => bytes.as_slice() == expected,
+        (Err(error), Err(expected)) => *error == expected,
+        _ => false,
+    }
+}
+
 #[test]
 fn whole_files(rt: HostRuntime) -> Result<(), Fail> {
     let mut shelf = shelf_of(rt.alloc(), b"abc", &[])?;
-    let bytes = taken_from(rt.alloc(), &mut shelf, "f", 3)?;
-    assert_eq!(rt; bytes.as_slice(), b"abc".as_slice());
-    assert_eq!(rt;
-        taken_from(rt.alloc(), &mut shelf, "f", 2).err(),
-        Some(TakeError::TooLong)
-    );
-    assert_eq!(rt;
-        taken_from(rt.alloc(), &mut shelf, "g", 2).err(),
-        Some(TakeError::Fault)
-    );
-    // The calls were 0 to 2, 3 and 4, and 5; call 1 of a shelf is its first read.
+    let is_whole = is_taken(rt.alloc(), &mut shelf, "f", 3, Ok(b"abc"));
+    let is_too_long = is_taken(rt.alloc(), &mut shelf, "f", 2, Err(TakeError::TooLong));
+    let is_missing = is_taken(rt.alloc(), &mut shelf, "g", 2, Err(TakeError::Fault));
+    drop(shelf);
+    assert!(rt; is_whole && is_too_long && is_missing);
+    Ok(())
+}
+
+// Call 1 of a shelf is its first read.
+#[test]
+fn reads_fail(rt: HostRuntime) -> Result<(), Fail> {
     let mut shelf = shelf_of(rt.alloc(), b"abc", &[1])?;
-    assert_eq!(rt;
-        taken_from(rt.alloc(), &mut shelf, "f", 3).err(),
-        Some(TakeError::Fault)
-    );
+    let fails = is_taken(rt.alloc(), &mut shelf, "f", 3, Err(TakeError::Fault));
+    let faults = shelf.faults();
+    drop(shelf);
+    assert!(rt; fails && faults == 1);
     Ok(())
 }
 
@@ -73,20 +90,33 @@ fn whole_files(rt: HostRuntime) -> Result<(), Fail> {
 fn reads_are_large(rt: HostRuntime) -> Result<(), Fail> {
     let file = vec![in rt.alloc(); b'a'; MAX_FILE_BYTES]?;
     let mut shelf = shelf_of(rt.alloc(), &file, &[1026])?;
-    let bytes = taken_from(rt.alloc(), &mut shelf, "f", MAX_FILE_BYTES)?;
-    assert_eq!(rt; bytes.as_slice().len(), MAX_FILE_BYTES);
-    assert_eq!(rt; shelf.faults(), 0);
+    let is_whole = is_taken(rt.alloc(), &mut shelf, "f", MAX_FILE_BYTES, Ok(&file));
+    drop(shelf);
+    drop(file);
+    assert!(rt; is_whole);
     Ok(())
+}
+
+// Whether putting five bytes into a sink with so much room, which takes a bite at a time, is answered so,
+// takes these bytes, and counts so many faults.
+fn is_put(
+    alloc: Global,
+    room: usize,
+    bite: usize,
+    expected: (Result<(), Failed>, &[u8], u64),
+) -> Result<bool, NoMemory>
+    requires { 0 < bite }
+{
+    let mut out = MemSink::new(alloc, room, bite, List::new(alloc))?;
+    let answer = put_all(&mut out, b"abcde");
+    let is_answer = answer == expected.0 && out.taken() == expected.1 && out.faults() == expected.2;
+    drop(out);
+    Ok(is_answer)
 }
 
 #[test]
 fn whole_pieces(rt: HostRuntime) -> Result<(), Fail> {
-    let mut out = MemSink::new(rt.alloc(), 3, 9, List::new(rt.alloc()))?;
-    assert_eq!(rt; put_all(&mut out, b"abcde"), Err(Failed));
-    assert_eq!(rt; out.taken(), b"abc".as_slice());
-    assert_eq!(rt; out.faults(), 1);
-    let mut out = MemSink::new(rt.alloc(), 9, 2, List::new(rt.alloc()))?;
-    assert_eq!(rt; put_all(&mut out, b"abcde"), Ok(()));
-    assert_eq!(rt; out.taken(), b"abcde".as_slice());
+    assert!(rt; is_put(rt.alloc(), 3, 9, (Err(Failed), b"abc", 1))?);
+    assert!(rt; is_put(rt.alloc(), 9, 2, (Ok(()), b"abcde", 0))?);
     Ok(())
 }

@@ -3,38 +3,43 @@ ghost use Rattle.std.specs.Prelude.{◌≤◌, length};
 ghost use Rattle.meta_base.specs.declared.limits.TheConstants.{MAX_FILE_BYTES};
 
 use meta_base::{MAX_FILE_BYTES, Place};
-use raml_lex::{LexFault, LexKind, TokenKind, Tokens};
+use raml_lex::{LexFault, LexKind, Token, TokenKind, Tokens};
 use std::process::Abort;
 use std::test::Fail;
 
-// The tokens of the source are of these kinds, with these texts, at these lines and columns, and
-// then comes the end of them.
-fn check(
-    rt: &impl Abort,
-    source: &[u8],
-    expected: &[(TokenKind, &[u8], u32, u32)],
-    end: Option<LexFault>,
-)
+// A kind, a text, a line and a column.
+type Expected<'a> = (TokenKind, &'a [u8], u32, u32);
+
+fn is_token(found: Option<Result<Token<'_>, LexFault>>, expected: &Expected<'_>) -> bool {
+    match found {
+        Some(Ok(token)) => {
+            token.kind == expected.0
+                && token.text == expected.1
+                && token.place.line == expected.2
+                && token.place.column == expected.3
+        }
+        _ => false,
+    }
+}
+
+fn is_end(found: Option<Result<Token<'_>, LexFault>>, end: Option<LexFault>) -> bool {
+    match (found, end) {
+        (None, None) => true,
+        (Some(Err(fault)), Some(expected)) => fault == expected,
+        _ => false,
+    }
+}
+
+// The tokens of the source are these, and then comes the end of them, again and again.
+fn check(rt: &impl Abort, source: &[u8], expected: &[Expected<'_>], end: Option<LexFault>)
     requires { length source.now ≤ MAX_FILE_BYTES }
 {
     let mut tokens = Tokens::new(source);
-    for (kind, text, line, column) in expected {
-        match tokens.next() {
-            Some(Ok(token)) => {
-                assert_eq!(rt; token.kind, *kind);
-                assert_eq!(rt; token.text, *text);
-                assert_eq!(rt; token.place.line, *line);
-                assert_eq!(rt; token.place.column, *column);
-            }
-            _ => panic!(rt; "a token is missing"),
-        }
+    for token in expected {
+        assert!(rt; is_token(tokens.next(), token));
     }
     for _ in 0..3 {
-        match (tokens.next(), end) {
-            (None, None) => {}
-            (Some(Err(fault)), Some(wanted)) => assert_eq!(rt; fault, wanted),
-            _ => panic!(rt; "another end"),
-        }
+        assert!(rt; is_end(tokens.next(), end));
     }
 }
 
