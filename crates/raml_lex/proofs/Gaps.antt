@@ -1,8 +1,9 @@
 -- The spaces and comments at the front.
-use Rattle.std.proofs.Common.{◌≡◌, inl, inr, ℕ, zero, suc, ◌+◌, ◌<◌, ◌≤◌, ◌==◌, Bool, true, false, not, cond, List, [], ◌∷◌, ◌++◌, length, get_or, take, drop, refl, ap, sym, ◌∙◌, arith, length-drop}
+use Rattle.std.proofs.Common.{◌≡◌, inl, inr, ℕ, zero, suc, ◌+◌, ◌<◌, ◌≤◌, ◌==◌, Bool, true, false, not, ◌&&◌, cond, List, [], ◌∷◌, ◌++◌, length, get_or, take, drop, refl, ap, sym, ◌∙◌, arith, length-drop}
 use Rattle.std.proofs.Math.Seq.{take-add}
 use Rattle.std.proofs.Math.ListN.{drop_of_length-le}
 use Rattle.std.proofs.lemmas.List.{append_assoc, append-nil, at_drop_more, drop_more, drop-drop, get_or-drop, take_more}
+use Rattle.std.specs.List.{list_all}
 use Rattle.std.proofs.lemmas.Bool.{eqb-true}
 use Rattle.std.proofs.lemmas.Bool.Decides.{nat_tests}
 use Rattle.meta_base.specs.Bytes.{is_line_feed, is_space}
@@ -110,3 +111,17 @@ gap_over cs i j g none left = (sym (append-nil (take j cs)) ∙ ap (λ x. take j
 -- nothing is left at the end
 pub at_end : (cs : List ℕ) (i : ℕ) → length cs ≤ i → (gap_of false (drop i cs) ≡ []) × (behind_gap false (drop i cs) ≡ drop i cs)
 at_end cs i h = let e : drop i cs ≡ [] = drop_of_length-le cs h in rw e (refl, refl)
+
+-- over several spaces
+pub over_spaces : (cs : List ℕ) (i n : ℕ) → i + n ≤ length cs → list_all is_space (take n (drop i cs)) ≡ true → GapOver cs i (i + n)
+over_spaces cs i zero h s = let e : i + 0 ≡ i = omega arith in rw e (over_none cs i)
+over_spaces cs i (suc n) h s =
+    let within : i < length cs = omega arith in
+    let both = and_both (is_space (get_or cs i 0)) (list_all is_space (take n (drop (i + 1) cs))) (sym (ap (λ x. list_all is_space (take (suc n) x)) (drop_more cs i 0 within)) ∙ s) in
+    let e : i + suc n ≡ i + 1 + n = omega arith in
+    rw e (over_more cs i (i + 1) (i + 1 + n) (over_space cs i within both.0) (over_spaces cs (i + 1) n (omega arith) both.1))
+  where
+    and_both : (a b : Bool) → (a && b) ≡ true → (a ≡ true) × (b ≡ true)
+    and_both true true e = (refl, refl)
+    and_both true false e = absurd (cc)
+    and_both false b e = absurd (cc)

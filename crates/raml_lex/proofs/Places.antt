@@ -50,3 +50,22 @@ line_le xs = omega (arith, count_by-le-length is_line_feed xs)
 
 pub column_le : (xs : List ℕ) → (place_after xs).column ≤ 1 + length xs
 column_le xs = omega (arith, suffix_len-le-length (λ c. not (is_line_feed c)) xs)
+
+-- each line feed is one line more
+pub moved_over-lines : (xs : List ℕ) (p : Place) → (moved_over p xs).line ≡ p.line + count_by is_line_feed xs
+moved_over-lines [] p = omega arith
+moved_over-lines (x ∷ xs) p =
+    let more : count_by is_line_feed (x ∷ xs) ≡ (0 + cond (is_line_feed x) 1 0) + count_by is_line_feed xs = sum_by-append (λ b. cond (is_line_feed b) 1 0) (x ∷ []) xs in
+    moved_over-lines xs (moved p x) ∙ by (is_line_feed x) ∙ ap (λ n. p.line + n) (sym more)
+  where
+    by : (b : Bool) → (cond b (record_of (p.line + 1) 1) (record_of p.line (p.column + 1))).line + count_by is_line_feed xs ≡ p.line + ((0 + cond b 1 0) + count_by is_line_feed xs)
+    by true = omega arith
+    by false = omega arith
+
+-- behind the last line feed the column is told by the bytes since
+pub moved_over-last : (ys zs : List ℕ) (p : Place) → list_all (λ c. not (is_line_feed c)) zs ≡ true
+    → moved_over p (ys ++ 10 ∷ zs) ≡ record { line = p.line + count_by is_line_feed (ys ++ 10 ∷ zs); column = 1 + length zs }
+moved_over-last ys zs p h =
+    let split : moved_over p (ys ++ 10 ∷ zs) ≡ moved_over (record_of ((moved_over p ys).line + 1) 1) zs = moved_over-append ys (10 ∷ zs) p in
+    let whole = split ∙ moved_over-line zs (record_of ((moved_over p ys).line + 1) 1) h in
+    whole ∙ ap (λ l. record_of l (1 + length zs)) (sym (ap (λ q. q.line) whole) ∙ moved_over-lines (ys ++ 10 ∷ zs) p)

@@ -1,6 +1,6 @@
 -- Going on in a source.
 use Rattle.std.specs.List.{list_all}
-use Rattle.std.proofs.Common.{◌≡◌, true, false, not, ℕ, zero, suc, ◌+◌, ◌-◌, ◌≤◌, ◌<◌, ◌∷◌, get_or, List, [], ◌++◌, length, take, drop, Option, None, refl, ap, sym, ◌∙◌, arith, length-drop, append_assoc}
+use Rattle.std.proofs.Common.{◌≡◌, true, false, Bool, not, ◌&&◌, count_by, ℕ, zero, suc, ◌+◌, ◌-◌, ◌≤◌, ◌<◌, ◌∷◌, get_or, List, [], ◌++◌, length, take, drop, Option, None, refl, ap, sym, ◌∙◌, arith, length-drop, append_assoc}
 use Rattle.std.proofs.Math.Seq.{take-add}
 use Rattle.std.proofs.lemmas.List.{drop-drop, drop_more, length-take-le, take-append-drop, append-nil}
 use Rattle.meta_base.specs.declared.ids.Place.{Place}
@@ -15,7 +15,7 @@ use Rattle.raml_lex.specs.Sources.{IsSource, IsCursor, place_at}
 use Rattle.raml_lex.specs.Tokens.{token_at, token}
 use Rattle.raml_lex.specs.Views.{tok_of, IsWithin}
 use Rattle.raml_lex.proofs.Gaps.{gap_split, gap_is_gap}
-use Rattle.raml_lex.proofs.Places.{place_after-append, moved_over-line}
+use Rattle.raml_lex.proofs.Places.{place_after-append, moved_over-line, moved_over-last}
 
 -- so many bytes on
 pub IsSource-more : (s : List ℕ) (a n : ℕ) (p : Place) → IsSource s a p → n ≤ length (drop a s) → IsSource s (a + n) (moved_over p (take n (drop a s)))
@@ -53,6 +53,34 @@ IsCursor-feed s c i h feed =
   where
     first_taken : (s : List ℕ) (i : ℕ) → i < length s → take 1 (drop i s) ≡ get_or s i 0 ∷ []
     first_taken s i h = ap (take 1) (drop_more s i 0 h)
+
+-- a cursor moves over bytes with line feeds, the last of which stands there
+pub IsCursor-lines : (s : List ℕ) (c : Cursor) (bytes : List ℕ) (last : ℕ) → IsCursor s c → take (length bytes) (drop c.at s) ≡ bytes → length bytes ≤ length (drop c.at s)
+    → last < length bytes → get_or bytes last 0 ≡ 10 → list_all (λ b. not (is_line_feed b)) (drop (last + 1) bytes) ≡ true
+    → IsCursor s (record { at = c.at + length bytes; line = c.line + count_by is_line_feed bytes; line_start = c.at + last + 1 })
+IsCursor-lines s c bytes last i same within h feed line =
+    let more = IsSource-more s c.at (length bytes) (place_at c) i.here within in
+    let split : take last bytes ++ 10 ∷ drop (last + 1) bytes ≡ bytes
+    = ap (λ x. take last bytes ++ x) (ap (λ b. b ∷ drop (last + 1) bytes) (sym feed) ∙ sym (drop_more bytes last 0 h)) ∙ take-append-drop last bytes in
+    let moved = moved_over-last (take last bytes) (drop (last + 1) bytes) (place_at c) line in
+    let place : moved_over (place_at c) (take (length bytes) (drop c.at s)) ≡ record { line = c.line + count_by is_line_feed bytes; column = c.at + length bytes - (c.at + last + 1) + 1 }
+    = ap (moved_over (place_at c)) (same ∙ sym split) ∙ moved ∙ ap (λ x. record { line = c.line + count_by is_line_feed x; column = 1 + length (drop (last + 1) bytes) }) split
+    ∙ ap (λ m. record { line = c.line + count_by is_line_feed bytes; column = m }) (let e = length-drop (last + 1) bytes in omega arith) in
+    record {
+      here = record { short = more.short; within = more.within; place = sym place ∙ more.place };
+      start = omega arith;
+    }
+
+-- no byte from there on is a line feed
+pub none_from : (cs : List ℕ) (n : ℕ) → ((k : ℕ) → n ≤ k → k < length cs → is_line_feed (get_or cs k 0) ≡ true → ⊥) → list_all (λ b. not (is_line_feed b)) (drop n cs) ≡ true
+none_from [] zero h = refl
+none_from [] (suc n) h = refl
+none_from (c ∷ cs) (suc n) h = none_from cs n (λ k l m. h (suc k) (omega (arith, l)) (omega (arith, m)))
+none_from (c ∷ cs) zero h = by (is_line_feed c) refl (none_from cs zero (λ k l m. h (suc k) (omega arith) (omega (arith, m))))
+  where
+    by : (b : Bool) → is_line_feed c ≡ b → list_all (λ b. not (is_line_feed b)) cs ≡ true → (not b && list_all (λ b. not (is_line_feed b)) cs) ≡ true
+    by true e rest = absurd (h 0 (omega arith) (omega arith) e)
+    by false e rest = rest
 
 -- no byte before the end of a line is a line feed
 pub all_in_line : (cs : List ℕ) (n : ℕ) → ((k : ℕ) → k < n → is_line_feed (get_or cs k 0) ≡ false) → list_all (λ b. not (is_line_feed b)) (take n cs) ≡ true

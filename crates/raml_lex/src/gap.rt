@@ -1,10 +1,12 @@
 // Spaces and comments.
-ghost use Rattle.std.specs.Prelude.{◌≡◌, ◌<◌, ◌++◌, false, take, drop, length, slice_index};
+ghost use Rattle.std.specs.Prelude.{◌≡◌, ◌+◌, ◌<◌, ◌≤◌, ◌^◌, ◌++◌, false, take, drop, length, count_by, slice_index};
+ghost use Rattle.std.specs.List.{list_all};
+ghost use Rattle.meta_base.specs.Bytes.{is_space, is_line_feed};
 ghost use Rattle.raml_lex.specs.Gaps.{gap_of, behind_gap, IsLine};
 ghost use Rattle.raml_lex.specs.Sources.{IsCursor};
 
 use crate::cursor::Cursor;
-use memchr::memchr;
+use memchr::{memchr, memrchr};
 use meta_base::bytes::is_space;
 
 // How many bytes stand before the first line feed, or all of them where there is none.
@@ -31,6 +33,69 @@ fn behind_comment(source: &[u8], here: Cursor) -> Cursor
     here.behind(line_len(comment))
 }
 
+// How many bytes of a long run of spaces are passed together.
+const BLOCK: usize = 32;
+
+// Whether all are spaces. It looks at each, so that several are looked at in one instruction.
+fn are_spaces(bytes: &[u8]) -> bool
+    ensures { result ≡ list_all is_space bytes.now }
+{
+    let mut all = true;
+    for byte in bytes {
+        all &= is_space(*byte);
+    }
+    all
+}
+
+// How many line feeds there are.
+fn line_feeds(bytes: &[u8]) -> u32
+    requires { length bytes.now < 2 ^ 32 }
+    ensures { result ≡ count_by is_line_feed bytes.now }
+{
+    let mut count = 0;
+    for byte in bytes {
+        count += u32::from(*byte == b'\n');
+    }
+    count
+}
+
+// Behind these bytes, which stand there.
+fn behind_bytes(source: &[u8], here: Cursor, bytes: &[u8]) -> Cursor
+    requires cursor { IsCursor source.now here }
+    requires bytes { take (length bytes.now) (drop here.at source.now) ≡ bytes.now }
+    requires within { length bytes.now ≤ length (drop here.at source.now) }
+    ensures cursor { IsCursor source.now result }
+    ensures at { result.at ≡ here.at + length bytes.now }
+{
+    match memrchr(b'\n', bytes) {
+        Some(last) => Cursor {
+            at: here.at + bytes.len(),
+            line: here.line + line_feeds(bytes),
+            line_start: here.at + last + 1,
+        },
+        None => here.behind(bytes.len()),
+    }
+}
+
+// Behind all whole blocks of spaces that stand from here on.
+fn behind_blocks(source: &[u8], from: Cursor) -> Cursor
+    requires { IsCursor source.now from }
+    ensures cursor { IsCursor source.now result }
+    ensures further { from.at ≤ result.at }
+    ensures gap { take result.at source.now ++ gap_of false (drop result.at source.now) ≡ take from.at source.now ++ gap_of false (drop from.at source.now) }
+    ensures behind { behind_gap false (drop result.at source.now) ≡ behind_gap false (drop from.at source.now) }
+{
+    let mut here = from;
+    while source.len() - here.at >= BLOCK {
+        let block = &source[here.at..here.at + BLOCK];
+        if !are_spaces(block) {
+            break;
+        }
+        here = behind_bytes(source, here, block);
+    }
+    here
+}
+
 // Where the spaces and comments end that stand from here on.
 pub fn gap_end(source: &[u8], from: Cursor) -> Cursor
     requires { IsCursor source.now from }
@@ -39,6 +104,7 @@ pub fn gap_end(source: &[u8], from: Cursor) -> Cursor
     ensures behind { drop result.at source.now ≡ behind_gap false (drop from.at source.now) }
 {
     let mut here = from;
+    let mut run = 0;
     while here.at < source.len() {
         let byte = source[here.at];
         if byte == b'\n' {
@@ -49,6 +115,11 @@ pub fn gap_end(source: &[u8], from: Cursor) -> Cursor
             here = behind_comment(source, here);
         } else {
             break;
+        }
+        run += 1;
+        if run == BLOCK {
+            here = behind_blocks(source, here);
+            run = 0;
         }
     }
     here

@@ -1,4 +1,4 @@
-use Rattle.std.proofs.Common.{◌-◌, length}
+use Rattle.std.proofs.Common.{◌-◌, ◌<◌, length}
 use Rattle.raml_lex.specs.Sources.{IsCursor}
 use Rattle.raml_lex.proofs.Gaps.{GapOver}
 use Rattle.raml_lex.proofs.gap.gap_end.Given as goal
@@ -8,6 +8,7 @@ abbrev pub invariant-loop-here : goal.invariant-loop-here
 invariant-loop-here l = record {
   cursor : IsCursor l.source l.here;
   over : GapOver l.source l.fn.from.at l.here.at;
+  run : l.run < 32;
 }
 
 abbrev pub decreases-loop-here : goal.decreases-loop-here
