@@ -1,7 +1,10 @@
 // Tests of `host_io`: that real files are taken and real pieces printed.
 use host_io::{FileShelf, OutSink};
-use meta_base::{Sink, TakeError, put_all, take_all};
+use meta_base::{Failed, Sink, TakeError, put_all, take_all};
+use std::fmt::Display;
 use std::fs;
+use std::io;
+use std::io::ErrorKind;
 use std::test::Fail;
 
 #[test]
@@ -13,6 +16,35 @@ fn files_are_taken(rt: HostRuntime) -> Result<(), Fail> {
     let absent = take_all(rt.alloc(), &mut shelf, "other.raml", 16);
     assert_eq!(rt; absent.err(), Some(TakeError::Fault));
     Ok(())
+}
+
+// An output that takes this line, and fails on all else.
+struct OneLine;
+
+const LINE: &[u8] = b"a line\n";
+
+impl Print for OneLine {
+    fn print<D: Display + Drop>(&self, _value: D) -> io::Result<()> {
+        Err(ErrorKind::BrokenPipe.into())
+    }
+
+    fn println<D: Display + Drop>(&self, _value: D) -> io::Result<()> {
+        Err(ErrorKind::BrokenPipe.into())
+    }
+
+    fn write_all(&self, bytes: &[u8]) -> io::Result<()> {
+        if bytes == LINE {
+            return Ok(());
+        }
+        Err(ErrorKind::BrokenPipe.into())
+    }
+}
+
+#[test]
+fn pieces_reach_the_output(rt: HostRuntime) {
+    let mut out = OutSink::new(&OneLine);
+    assert_eq!(rt; out.write(LINE), Ok(7));
+    assert_eq!(rt; out.write(b"a "), Err(Failed));
 }
 
 #[test]
