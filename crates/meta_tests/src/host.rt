@@ -2,10 +2,9 @@
 use host_io::{FileShelf, OutSink};
 use meta_base::{Failed, Sink, TakeError, put_all, take_all};
 use std::fmt::Display;
-use std::fs;
-use std::io;
 use std::io::ErrorKind;
 use std::test::Fail;
+use std::{fs, io};
 
 #[test]
 fn files_are_taken(rt: HostRuntime) -> Result<(), Fail> {
