@@ -1,36 +1,40 @@
--- Values of carriers.
-use Rattle.std.proofs.Common.{◌≡◌, ◌<◌, length, true, arith}
+-- The carriers of algebras.
+use Rattle.std.proofs.Common.{◌≡◌, ◌&&◌, true, arith}
 use Rattle.std.proofs.lemmas.Bool.Decides.{nat_tests}
 use Rattle.alg_model.specs.declared.tree.TableSpec.{TableSpec}
-use Rattle.alg_model.specs.Expressions.{Expression, PureCarrier, add, cap, worst, width, pref, orig, seq, simseq, tags, guard, gate, table, lex, scoped, union, sum, plus, left, right}
+use Rattle.alg_model.specs.Expressions.{Expression, add, cap, worst, width, pref, orig, seq, simseq, tags, guard, gate, table, lex, scoped, union, sum, plus, left, right}
 use Rattle.alg_model.specs.Carriers.{carrier_of}
-use Rattle.alg_model.specs.Formation.{MeetsRanges, IsCarrier, HasNames, is_table}
+use Rattle.alg_model.specs.Formation.{MeetsRanges, MeetsNames, IsFormed, IsCarrier, is_table, are_values, are_named, row_name}
 
--- a table has a name
-some_name : (t : TableSpec) → is_table t ≡ true → 0 < length t.names
-some_name t h = grind (arith, nat_tests)
+-- the values of a table
+table_values : (t : TableSpec) → is_table t ≡ true → (are_named (λ name. name) t.names && are_named row_name t.rows) ≡ true → are_values t.names t.ranks ≡ true
+table_values t h n = grind (arith, nat_tests)
 
-ranges_have_names : (a : Expression) → MeetsRanges a → HasNames (carrier_of a)
-ranges_have_names (add low high) h = tt
-ranges_have_names (cap top low high) h = tt
-ranges_have_names (worst top low high) h = tt
-ranges_have_names (width top low high) h = tt
-ranges_have_names (pref top) h = tt
-ranges_have_names (orig top) h = tt
-ranges_have_names (seq n) h = tt
-ranges_have_names (simseq n) h = tt
-ranges_have_names (tags n) h = tt
-ranges_have_names (guard n) h = tt
-ranges_have_names gate h = tt
-ranges_have_names (table t) h = some_name t h
-ranges_have_names (lex a b) h = (ranges_have_names a h.0, ranges_have_names b h.1)
-ranges_have_names (scoped a b) h = (ranges_have_names a h.0, ranges_have_names b h.1)
-ranges_have_names (union a b) h = (ranges_have_names a h.0, ranges_have_names b h.1)
-ranges_have_names (sum a b) h = (ranges_have_names a h.0, ranges_have_names b h.1)
-ranges_have_names (plus a b) h = ranges_have_names a h.0
-ranges_have_names (left a) h = ranges_have_names a h
-ranges_have_names (right a) h = ranges_have_names a h
+rules_make_carriers : (a : Expression) → MeetsRanges a → MeetsNames a → IsCarrier (carrier_of a)
+rules_make_carriers (add low high) h n = tt
+rules_make_carriers (cap top low high) h n = tt
+rules_make_carriers (worst top low high) h n = tt
+rules_make_carriers (width top low high) h n = tt
+rules_make_carriers (pref top) h n = tt
+rules_make_carriers (orig top) h n = tt
+rules_make_carriers (seq k) h n = h
+rules_make_carriers (simseq k) h n = h
+rules_make_carriers (tags k) h n = h
+rules_make_carriers (guard k) h n = h
+rules_make_carriers gate h n = tt
+rules_make_carriers (table t) h n = table_values t h n
+rules_make_carriers (lex a b) h n = (rules_make_carriers a h.0 n.0, rules_make_carriers b h.1 n.1)
+rules_make_carriers (scoped a b) h n = (rules_make_carriers a h.0 n.0, rules_make_carriers b h.1 n.1)
+rules_make_carriers (union a b) h n = (rules_make_carriers a h.0 n.0, rules_make_carriers b h.1 n.1)
+rules_make_carriers (sum a b) h n = (rules_make_carriers a h.0 n.0, rules_make_carriers b h.1 n.1)
+rules_make_carriers (plus a b) h n = rules_make_carriers a h.0 n.0
+rules_make_carriers (left a) h n = rules_make_carriers a h n
+rules_make_carriers (right a) h n = rules_make_carriers a h n
 
--- each named carrier in that of an algebra has a name
-pub algebra_has_names : (c : PureCarrier) → IsCarrier c → HasNames c
-algebra_has_names c h = rw (← h.2) (ranges_have_names h.0 h.1.ranges)
+-- the carrier of an algebra is one that an algebra may have
+pub carriers_are : (a : Expression) → IsFormed a → IsCarrier (carrier_of a)
+carriers_are a f = rules_make_carriers a f.ranges f.names
+
+-- the same of an equal expression
+pub carriers_of_equal : (a b : Expression) → a ≡ b → IsFormed b → IsCarrier (carrier_of a)
+carriers_of_equal a b e f = rw e (carriers_are b f)

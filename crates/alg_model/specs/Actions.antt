@@ -1,9 +1,13 @@
--- What a label needs to act on a value.
-use Rattle.meta_base.specs.declared.limits.TheConstants.{MAX_NUMBER}
+-- What a label needs to act on a value, and what comes of it.
+use Rattle.std.specs.Prelude.{◌≡◌, Option, option_map}
+use Rattle.alg_model.specs.declared.edition.TheConstants.{MAX_LABEL_NUMBER}
 use Rattle.alg_model.specs.declared.alg.TheConstants.{MAX_VALUE_NUMBER}
 use Rattle.alg_model.specs.Expressions.{Expression, PureLabel, PureValue}
 use Rattle.alg_model.specs.Carriers.{carrier_of, In}
-use Rattle.alg_model.specs.Application.{IsLabel}
+use Rattle.alg_model.specs.Application.{IsLabel, App}
+use Rattle.alg_model.specs.Views.{pure_value, pure_label}
+use Rattle.alg_model.specs.declared.tree.Value.{Value}
+use Rattle.alg_model.specs.declared.tree.Label.{Label}
 use Rattle.alg_model.specs.Bounds.{AtMost, LabelAtMost}
 use Rattle.alg_model.specs.Formation.{MeetsRanges, MeetsCarriers}
 
@@ -13,5 +17,13 @@ pub record MayAct (a : Expression) (l : PureLabel) (v : PureValue) : Type 0 wher
   pub carriers : MeetsCarriers a
   pub label : IsLabel a l
   pub value : In (carrier_of a) v
-  pub small_label : LabelAtMost MAX_NUMBER l
+  pub small_label : LabelAtMost MAX_LABEL_NUMBER l
   pub small_value : AtMost MAX_VALUE_NUMBER v
+
+-- the same of a label and a value of the program
+abbrev pub MayActOn : Expression → Label → Value → Type 0
+MayActOn a label value = MayAct a (pure_label label) (pure_value value)
+
+-- the image is what the algebra makes of the value
+abbrev pub IsImage : Expression → Label → Value → Option Value → Type 0
+IsImage a label value image = option_map pure_value image ≡ App a (pure_label label) (pure_value value)

@@ -4,11 +4,14 @@ use Rattle.std.proofs.Common.{◌≡◌, ℕ, ◌+◌, ◌-◌, ◌^◌, ◌≤�
 use Rattle.std.specs.Prelude.{nat_le, max, min, bit_or, bit_and}
 use Rattle.std.specs.List.{AllByRecursion, list_any}
 use Rattle.alg_model.specs.declared.tree.TableSpec.{TableSpec}
+use Rattle.alg_model.specs.declared.edition.TheConstants.{MAX_LABEL_NUMBER}
+use Rattle.alg_model.specs.declared.edition.Edition.{Edition}
+use Rattle.alg_model.specs.declared.edition.Edition.TheVariants.{One, Two}
 use Rattle.alg_model.specs.Expressions.{Expression, add, cap, worst, width, pref, orig, seq, simseq, tags, guard, gate, table, lex, scoped, union, sum, plus, left, right}
 use Rattle.alg_model.specs.Expressions.{PureValue, number, symbols, marks, unit, name, pair, first, second}
 use Rattle.alg_model.specs.Expressions.{PureLabel, number_label, keep, symbol_label, mark, unmark, need, bar, allow, deny, row_label, pair_label, both_label, first_label, second_label, const_label, outer, inner}
 use Rattle.alg_model.specs.Application.{App, IsLabel, image_of, has_mark}
-use Rattle.alg_model.specs.Bounds.{AtMost, LabelAtMost}
+use Rattle.alg_model.specs.Bounds.{AtMost, LabelAtMost, greatest_number}
 use Rattle.alg_model.specs.Images.{image_same, image_where, image_unless, image_part, image_both}
 
 -- a bound on the numbers of a list may be raised
@@ -26,6 +29,31 @@ at_most_more m n (name k) h i = tt
 at_most_more m n (pair u v) h i = (at_most_more m n u h i.0, at_most_more m n v h i.1)
 at_most_more m n (first u) h i = at_most_more m n u h i
 at_most_more m n (second v) h i = at_most_more m n v h i
+
+-- a bound on a label's numbers may be raised
+pub label_at_most_more : (m n : ℕ) (l : PureLabel) → m ≤ n → LabelAtMost m l → LabelAtMost n l
+label_at_most_more m n (number_label k) h i = omega arith
+label_at_most_more m n keep h i = tt
+label_at_most_more m n (symbol_label k) h i = omega arith
+label_at_most_more m n (mark k) h i = tt
+label_at_most_more m n (unmark k) h i = tt
+label_at_most_more m n (need k) h i = tt
+label_at_most_more m n (bar k) h i = tt
+label_at_most_more m n allow h i = tt
+label_at_most_more m n deny h i = tt
+label_at_most_more m n (row_label r) h i = tt
+label_at_most_more m n (pair_label k l) h i = (label_at_most_more m n k h i.0, label_at_most_more m n l h i.1)
+label_at_most_more m n (both_label k l) h i = (label_at_most_more m n k h i.0, label_at_most_more m n l h i.1)
+label_at_most_more m n (first_label k) h i = label_at_most_more m n k h i
+label_at_most_more m n (second_label l) h i = label_at_most_more m n l h i
+label_at_most_more m n (const_label v) h i = at_most_more m n v h i
+label_at_most_more m n (outer k v) h i = (label_at_most_more m n k h i.0, at_most_more m n v h i.1)
+label_at_most_more m n (inner l) h i = label_at_most_more m n l h i
+
+-- no edition's texts hold a greater number than labels may
+pub greatest_is_bounded : (e : Edition) → greatest_number e ≤ MAX_LABEL_NUMBER
+greatest_is_bounded One = omega arith
+greatest_is_bounded Two = omega arith
 
 -- what holds of each number of a list and of one more holds of each of the list with it behind
 pub all_and_one : (P : ℕ → Type 0) (ks : List ℕ) (n : ℕ) → AllByRecursion P ks → P n → AllByRecursion P (ks ++ n ∷ [])

@@ -1,10 +1,13 @@
 -- How expressions, values and labels are stored as values of a model.
-use Rattle.std.specs.Prelude.{◌≡◌, ℕ, List, Option, refl}
+use Rattle.std.specs.Prelude.{◌≡◌, ℕ, zero, suc, List, Option, refl}
 use Rattle.std.proofs.Common.{ap, arith}
 use Rattle.std.specs.Coded.{Coded, code_by, coded×, coded_list, coded_option, coded_ℕ}
 use base.Stored.{Gv, gnil, gnum, gcons}
 use Rattle.alg_model.specs.declared.tree.TableSpec.{TableSpec}
 use Rattle.alg_model.specs.declared.tree.TableRow.{TableRow}
+use Rattle.alg_model.specs.declared.edition.Edition.{Edition}
+use Rattle.alg_model.specs.declared.edition.Edition.TheVariants.{One, Two}
+use Rattle.alg_model.specs.Expressions.{PureAlg}
 use Rattle.alg_model.specs.Expressions.{Expression, add, cap, worst, width, pref, orig, seq, simseq, tags, guard, gate, table, lex, scoped, union, sum, plus, left, right}
 use Rattle.alg_model.specs.Expressions.{PureValue, number, symbols, marks, unit, name, pair, first, second}
 use Rattle.alg_model.specs.Expressions.{PureLabel, number_label, keep, symbol_label, mark, unmark, need, bar, allow, deny, row_label, pair_label, both_label, first_label, second_label, const_label, outer, inner}
@@ -87,6 +90,26 @@ code_inj _ _ e = absurd (let k = ap kind_of e in omega arith)
 
 abbrev pub coded_expression : Coded Expression
 coded_expression = record { code = code; inj = code_inj }
+
+abbrev edition_number : Edition → ℕ
+edition_number One = 0
+edition_number Two = 1
+
+abbrev edition_numbered : ℕ → Edition
+edition_numbered zero = One
+edition_numbered (suc n) = Two
+
+pub edition_kept : (e : Edition) → edition_numbered (edition_number e) ≡ e
+edition_kept One = refl
+edition_kept Two = refl
+
+abbrev pub coded_edition : Coded Edition
+coded_edition = code_by ℕ coded_ℕ edition_number edition_numbered edition_kept
+
+abbrev pub coded_alg : Coded PureAlg
+coded_alg =
+    code_by (Expression × Edition) (coded× coded_expression coded_edition)
+    (λ a. (a.expression, a.edition)) (λ p. record { expression = p.0; edition = p.1 }) (λ _. refl)
 
 pub code_value : PureValue → Gv
 code_value (number n) = one_number 0 n

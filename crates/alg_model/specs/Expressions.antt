@@ -2,6 +2,7 @@
 -- of where a tree of the program lies in memory.
 use Rattle.std.specs.Prelude.{ℕ, List}
 use Rattle.alg_model.specs.declared.tree.TableSpec.{TableSpec}
+use Rattle.alg_model.specs.declared.edition.Edition.{Edition}
 
 pub data Expression : Type 0 where
   -- low, high
@@ -28,6 +29,11 @@ pub data Expression : Type 0 where
   plus : Expression → Expression → Expression
   left : Expression → Expression
   right : Expression → Expression
+
+-- an algebra: what it does, and the edition of its text
+pub record PureAlg : Type 0 where
+  pub expression : Expression
+  pub edition : Edition
 
 pub data PureCarrier : Type 0 where
   -- all whole numbers, small ones preferred

@@ -2,14 +2,14 @@
 use Rattle.std.specs.Prelude.{◌≡◌, ℕ, ◌+◌, ◌<◌, ◌≤◌, ◌==◌, List, [], ◌∷◌, length, Bool, true, not, ◌&&◌, ◌||◌, Option, Some, None, nat_lt, nat_le, codes}
 use Rattle.std.specs.List.{list_all, list_any}
 use Rattle.std.specs.Str.{bytes_eq}
-use Rattle.meta_base.specs.declared.limits.TheConstants.{MAX_NUMBER}
 use Rattle.meta_base.specs.Bytes.{is_word}
 use Rattle.alg_model.specs.declared.tree.TableSpec.{TableSpec}
 use Rattle.alg_model.specs.declared.tree.TableRow.{TableRow}
 use Rattle.alg_model.specs.Expressions.{Expression, add, cap, worst, width, pref, orig, seq, simseq, tags, guard, gate, table, lex, scoped, union, sum, plus, left, right}
-use Rattle.alg_model.specs.Expressions.{PureCarrier, named, pairs, sides}
+use Rattle.alg_model.specs.Expressions.{PureAlg}
+use Rattle.alg_model.specs.Expressions.{PureCarrier, whole, up_to, down_from, seqs, simseqs, sets, one, named, pairs, sides}
 use Rattle.alg_model.specs.Carriers.{carrier_of}
-use Rattle.alg_model.specs.Bounds.{ExpressionAtMost}
+use Rattle.alg_model.specs.Bounds.{ExpressionAtMost, greatest_number}
 use Rattle.alg_model.specs.declared.alg.TheConstants.{MAX_TREE_NODES, MAX_TABLE_NAMES, MAX_SIMPLE_SYMBOLS, MAX_MARKS}
 use Rattle.alg_model.specs.declared.alg.Shape.{Shape}
 use Rattle.alg_model.specs.declared.alg.Shape.TheVariants.{Range, Carriers, Size, Names}
@@ -146,13 +146,17 @@ MeetsNames (plus a b) = MeetsNames a × MeetsNames b
 MeetsNames (left a) = MeetsNames a
 MeetsNames (right a) = MeetsNames a
 
--- the expression is that of an algebra: it breaks no rule, and its numbers are those of a text
+-- the expression breaks no rule
 pub record IsFormed (a : Expression) : Type 0 where
   pub ranges : MeetsRanges a
   pub carriers : MeetsCarriers a
   pub size : node_count a ≤ MAX_TREE_NODES
   pub names : MeetsNames a
-  pub bound : ExpressionAtMost MAX_NUMBER a
+
+-- it breaks no rule, and its numbers are those of a text of its edition
+pub record IsAlg (a : PureAlg) : Type 0 where
+  pub formed : IsFormed a.expression
+  pub bound : ExpressionAtMost (greatest_number a.edition) a.expression
 
 -- this rule is broken, and those before it aren't
 abbrev pub IsFirstBroken : Expression → Shape → Type 0
@@ -161,13 +165,19 @@ IsFirstBroken a Carriers = MeetsRanges a × ¬ MeetsCarriers a
 IsFirstBroken a Size = MeetsRanges a × MeetsCarriers a × (MAX_TREE_NODES < node_count a)
 IsFirstBroken a Names = MeetsRanges a × MeetsCarriers a × (node_count a ≤ MAX_TREE_NODES) × ¬ MeetsNames a
 
--- the carrier is that of an algebra
-abbrev pub IsCarrier : PureCarrier → Type 0
-IsCarrier c = (a : Expression) × IsFormed a × (carrier_of a ≡ c)
+-- the names and ranks are those of a table's values
+abbrev pub are_values : List (List ℕ) → List ℕ → Bool
+are_values names ranks = is_table_count (length names) && length ranks == length names && are_ranks ranks && are_named (λ name. name) names
 
--- each named carrier in it has a name
-abbrev pub HasNames : PureCarrier → Type 0
-HasNames (named names ranks) = 0 < length names
-HasNames (pairs c d) = HasNames c × HasNames d
-HasNames (sides c d) = HasNames c × HasNames d
-HasNames _ = Unit {0}
+-- the carrier is one that an algebra may have
+abbrev pub IsCarrier : PureCarrier → Type 0
+IsCarrier whole = Unit {0}
+IsCarrier (up_to top) = Unit {0}
+IsCarrier (down_from top) = Unit {0}
+IsCarrier (seqs n) = 1 ≤ n
+IsCarrier (simseqs n) = (1 ≤ n) × (n ≤ MAX_SIMPLE_SYMBOLS)
+IsCarrier (sets n) = (1 ≤ n) × (n ≤ MAX_MARKS)
+IsCarrier one = Unit {0}
+IsCarrier (named names ranks) = are_values names ranks ≡ true
+IsCarrier (pairs c d) = IsCarrier c × IsCarrier d
+IsCarrier (sides c d) = IsCarrier c × IsCarrier d

@@ -10,41 +10,41 @@ use Rattle.alg_model.specs.PreferenceLaws.{each_pair}
 
 pub formed_lex : (a b : Expression) → IsFormed (lex a b) → IsFormed a × IsFormed b
 formed_lex a b f = (
-  record { ranges = f.ranges.0; carriers = f.carriers.0; size = omega (arith, f.size); names = f.names.0; bound = f.bound.0 },
-  record { ranges = f.ranges.1; carriers = f.carriers.1; size = omega (arith, f.size); names = f.names.1; bound = f.bound.1 },
+  record { ranges = f.ranges.0; carriers = f.carriers.0; size = omega (arith, f.size); names = f.names.0 },
+  record { ranges = f.ranges.1; carriers = f.carriers.1; size = omega (arith, f.size); names = f.names.1 },
 )
 
 pub formed_scoped : (a b : Expression) → IsFormed (scoped a b) → IsFormed a × IsFormed b
 formed_scoped a b f = (
-  record { ranges = f.ranges.0; carriers = f.carriers.0; size = omega (arith, f.size); names = f.names.0; bound = f.bound.0 },
-  record { ranges = f.ranges.1; carriers = f.carriers.1; size = omega (arith, f.size); names = f.names.1; bound = f.bound.1 },
+  record { ranges = f.ranges.0; carriers = f.carriers.0; size = omega (arith, f.size); names = f.names.0 },
+  record { ranges = f.ranges.1; carriers = f.carriers.1; size = omega (arith, f.size); names = f.names.1 },
 )
 
 pub formed_union : (a b : Expression) → IsFormed (union a b) → IsFormed a × IsFormed b
 formed_union a b f = (
-  record { ranges = f.ranges.0; carriers = f.carriers.0; size = omega (arith, f.size); names = f.names.0; bound = f.bound.0 },
-  record { ranges = f.ranges.1; carriers = f.carriers.1; size = omega (arith, f.size); names = f.names.1; bound = f.bound.1 },
+  record { ranges = f.ranges.0; carriers = f.carriers.0; size = omega (arith, f.size); names = f.names.0 },
+  record { ranges = f.ranges.1; carriers = f.carriers.1; size = omega (arith, f.size); names = f.names.1 },
 )
 
 pub formed_sum : (a b : Expression) → IsFormed (sum a b) → IsFormed a × IsFormed b
 formed_sum a b f = (
-  record { ranges = f.ranges.0; carriers = f.carriers.0; size = omega (arith, f.size); names = f.names.0; bound = f.bound.0 },
-  record { ranges = f.ranges.1; carriers = f.carriers.1; size = omega (arith, f.size); names = f.names.1; bound = f.bound.1 },
+  record { ranges = f.ranges.0; carriers = f.carriers.0; size = omega (arith, f.size); names = f.names.0 },
+  record { ranges = f.ranges.1; carriers = f.carriers.1; size = omega (arith, f.size); names = f.names.1 },
 )
 
 -- and both have one carrier
 pub formed_plus : (a b : Expression) → IsFormed (plus a b) → IsFormed a × IsFormed b × (carrier_of a ≡ carrier_of b)
 formed_plus a b f = (
-  record { ranges = f.ranges.0; carriers = f.carriers.0; size = omega (arith, f.size); names = f.names.0; bound = f.bound.0 },
-  record { ranges = f.ranges.1; carriers = f.carriers.1; size = omega (arith, f.size); names = f.names.1; bound = f.bound.1 },
+  record { ranges = f.ranges.0; carriers = f.carriers.0; size = omega (arith, f.size); names = f.names.0 },
+  record { ranges = f.ranges.1; carriers = f.carriers.1; size = omega (arith, f.size); names = f.names.1 },
   f.carriers.2,
 )
 
 pub formed_left : (a : Expression) → IsFormed (left a) → IsFormed a
-formed_left a f = record { ranges = f.ranges; carriers = f.carriers; size = omega (arith, f.size); names = f.names; bound = f.bound }
+formed_left a f = record { ranges = f.ranges; carriers = f.carriers; size = omega (arith, f.size); names = f.names }
 
 pub formed_right : (a : Expression) → IsFormed (right a) → IsFormed a
-formed_right a f = record { ranges = f.ranges; carriers = f.carriers; size = omega (arith, f.size); names = f.names; bound = f.bound }
+formed_right a f = record { ranges = f.ranges; carriers = f.carriers; size = omega (arith, f.size); names = f.names }
 
 -- a scoped product has the values of the union, and its labels under other names
 pub scoped_is_a_union : (a b : Expression) → IsUnscoped a b

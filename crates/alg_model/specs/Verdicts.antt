@@ -54,10 +54,18 @@ abbrev pub IsExact : PureProperty → Expression → (PureLabel → Type 0) → 
 IsExact p a S holds = (l : PureLabel) → S l → Has p a l
 IsExact p a S (fails x) = (x.property ≡ p) × S x.label × Violates a x
 
+-- the verdict on one property
+abbrev pub verdict_on : PureVerdicts → PureProperty → PureVerdict
+verdict_on v monotone = v.monotone
+verdict_on v strict = v.strict
+verdict_on v isotone = v.isotone
+verdict_on v cancellative = v.cancellative
+verdict_on v total = v.total
+
+-- what is said of the verdict on each property
+abbrev pub OnEach : (PureProperty → PureVerdict → Type 0) → PureVerdicts → Type 0
+OnEach P v = (p : PureProperty) → P p (verdict_on v p)
+
 -- the verdicts are right for the labels of the set
-pub record ExactFor (a : Expression) (S : PureLabel → Type 0) (v : PureVerdicts) : Type 0 where
-  pub monotone : IsExact monotone a S v.monotone
-  pub strict : IsExact strict a S v.strict
-  pub isotone : IsExact isotone a S v.isotone
-  pub cancellative : IsExact cancellative a S v.cancellative
-  pub total : IsExact total a S v.total
+abbrev pub ExactFor : Expression → (PureLabel → Type 0) → PureVerdicts → Type 0
+ExactFor a S = OnEach (λ p. IsExact p a S)

@@ -1,11 +1,12 @@
 ghost use Rattle.std.specs.Prelude.{MatchOption, ◌≡◌, IfOk, IfErr};
+ghost use Rattle.alg_model.specs.declared.edition.Edition.TheVariants.{One};
 ghost use Rattle.alg_model.specs.Views.{expression_of};
-ghost use Rattle.alg_model.specs.Formation.{IsFormed, IsFirstBroken};
-ghost use Rattle.alg_model.specs.Bounds.{ExpressionAtMost};
+ghost use Rattle.alg_model.specs.Formation.{IsFormed, IsAlg, IsFirstBroken};
+ghost use Rattle.alg_model.specs.Bounds.{ExpressionAtMost, greatest_number};
 ghost use Rattle.meta_base.specs.declared.limits.TheConstants.{MAX_NUMBER};
 
 use crate::formation::{meets_carriers, meets_names, meets_ranges, room_behind};
-use crate::{Amount, Tree};
+use crate::{Amount, Edition, Tree};
 use meta_base::NoMemory;
 use std::alloc::Global;
 use std::marker::Model;
@@ -48,58 +49,79 @@ pub enum Shape {
     Names,
 }
 
-/// An algebra: a tree that meets the formation rules, and none of whose numbers is above
-/// [`meta_base::MAX_NUMBER`]. Contracts see it as its expression.
+/// An algebra: a tree that meets the formation rules, and none of whose numbers is above the greatest of
+/// its edition. Contracts see it as its expression and its edition.
 #[derive(Drop)]
 pub struct Alg {
     tree: Tree,
+    edition: Edition,
 }
 
 impl Model for Alg {
-    ghost use Rattle.alg_model.specs.Expressions.{Expression};
-    ghost use Rattle.alg_model.specs.Codes.{coded_expression};
+    ghost use Rattle.alg_model.specs.Expressions.{PureAlg};
+    ghost use Rattle.alg_model.specs.Codes.{coded_alg};
     ghost use Rattle.alg_model.specs.Views.{expression_of};
-    ghost use Rattle.alg_model.specs.Formation.{IsFormed};
+    ghost use Rattle.alg_model.specs.Formation.{IsAlg};
 
-    ghost Value = { Expression };
+    ghost Value = { PureAlg };
 
-    ghost coded = { coded_expression };
+    ghost coded = { coded_alg };
 
-    ghost view = { λ a. expression_of a.tree };
+    ghost view = { λ a. record { expression = expression_of a.tree; edition = a.edition } };
 
-    ghost invariant = { λ a. IsFormed (expression_of a.tree) };
+    ghost invariant = { λ a. IsAlg (record { expression = expression_of a.tree; edition = a.edition }) };
 }
 
 impl Alg {
-    /// The algebra of a tree whose numbers are at most [`meta_base::MAX_NUMBER`], or the first
-    /// formation rule that the tree breaks. It takes no memory.
+    /// The algebra of profile 1 of a tree whose numbers are at most [`meta_base::MAX_NUMBER`], or the
+    /// first formation rule that the tree breaks. It takes no memory.
     pub fn checked(tree: Tree) -> Result<Alg, Shape>
         requires { ExpressionAtMost MAX_NUMBER (expression_of tree) }
-        ensures algebra { IfOk result (λ alg. alg ≡ expression_of tree) }
+        ensures algebra { IfOk result (λ alg. alg ≡ record { expression = expression_of tree; edition = One }) }
+        ensures formed { IfOk result (λ _. IsFormed (expression_of tree)) }
+        ensures broken { IfErr result (IsFirstBroken (expression_of tree)) }
+    {
+        Alg::checked_in(tree, Edition::One)
+    }
+
+    /// The algebra of this edition of a tree whose numbers are at most the edition's greatest, or the
+    /// first formation rule that the tree breaks. It takes no memory.
+    pub fn checked_in(tree: Tree, edition: Edition) -> Result<Alg, Shape>
+        requires { ExpressionAtMost (greatest_number edition) (expression_of tree) }
+        ensures algebra { IfOk result (λ alg. alg ≡ record { expression = expression_of tree; edition = edition }) }
         ensures formed { IfOk result (λ _. IsFormed (expression_of tree)) }
         ensures broken { IfErr result (IsFirstBroken (expression_of tree)) }
     {
         match first_broken(&tree) {
             Some(rule) => Err(rule),
-            None => Ok(Alg { tree }),
+            None => Ok(Alg { tree, edition }),
         }
     }
 
-    /// An algebra with a tree equal to `part`, which meets the formation rules, as each part of an
-    /// algebra's tree does. Given the algebra's own tree it copies the whole.
+    /// The algebra of the same edition with a tree equal to `part`, which meets the formation rules and
+    /// the edition's bound, as each part of an algebra's tree does. Given the algebra's own tree it
+    /// copies the whole.
     pub fn copy_part(&self, alloc: Global, part: &Tree) -> Result<Alg, NoMemory>
-        requires { IsFormed (expression_of part.now) }
-        ensures { IfOk result (λ alg. alg ≡ expression_of part.now) }
+        requires { IsAlg (record { expression = expression_of part.now; edition = self.now.edition }) }
+        ensures { IfOk result (λ alg. alg ≡ record { expression = expression_of part.now; edition = self.now.edition }) }
     {
         Ok(Alg {
             tree: part.copy(alloc)?,
+            edition: self.edition,
         })
+    }
+
+    /// The edition of the algebra's text. It takes no memory.
+    pub fn edition(&self) -> Edition
+        ensures { result ≡ self.now.edition }
+    {
+        self.edition
     }
 
     /// Lends the tree.
     pub fn tree(&self) -> &Tree
-        ensures tree { expression_of result.now ≡ self.now }
-        ensures formed { IsFormed self.now }
+        ensures tree { expression_of result.now ≡ self.now.expression }
+        ensures formed { IsAlg self.now }
     {
         &self.tree
     }
@@ -107,7 +129,6 @@ impl Alg {
 
 // The first formation rule that the tree breaks.
 fn first_broken(tree: &Tree) -> Option<Shape>
-    requires { ExpressionAtMost MAX_NUMBER (expression_of tree.now) }
     ensures { MatchOption result (IsFormed (expression_of tree.now)) (IsFirstBroken (expression_of tree.now)) }
 {
     if !meets_ranges(tree) {

@@ -1,5 +1,5 @@
 ghost use Rattle.std.specs.Prelude.{◌≡◌, ◌≤◌, ◌^◌, ◌+◌, ℕ, IfOk, IfSome, option_map};
-ghost use Rattle.meta_base.specs.declared.limits.TheConstants.{MAX_NUMBER};
+ghost use Rattle.alg_model.specs.declared.edition.TheConstants.{MAX_LABEL_NUMBER};
 ghost use Rattle.alg_model.specs.declared.alg.TheConstants.{MAX_VALUE_NUMBER};
 ghost use Rattle.alg_model.specs.Expressions.{Expression, PureValue, PureLabel};
 ghost use Rattle.alg_model.specs.Views.{pure_value, pure_label};
@@ -44,10 +44,10 @@ pub trait Algebra: Sync {
         requires { is_sig self.now sig.now }
         ensures { IfOk result (λ result. pure_value result ≡ sig_value self.now sig.now) };
 
-    /// The form of a label of the algebra, no number of which is above [`meta_base::MAX_NUMBER`].
+    /// The form of a label of the algebra, no number of which is above [`crate::MAX_LABEL_NUMBER`].
     fn lab_of(&self, alloc: Global, label: &Label) -> Result<Self::Lab, NoMemory>
         requires label { IsLabel (expression self.now) (pure_label label.now) }
-        requires small { LabelAtMost MAX_NUMBER (pure_label label.now) }
+        requires small { LabelAtMost MAX_LABEL_NUMBER (pure_label label.now) }
         ensures { IfOk result (λ lab. stands_for self.now lab (pure_label label.now)) };
 
     /// A `Sig` for the same value.
@@ -64,7 +64,7 @@ pub trait Algebra: Sync {
 
     /// What the label makes of the value, no number of which is above [`crate::MAX_VALUE_NUMBER`]: a value, or `None` where
     /// it prohibits it. No number of the result is above the greatest of the value plus
-    /// [`meta_base::MAX_NUMBER`].
+    /// [`crate::MAX_LABEL_NUMBER`].
     fn apply(
         &self,
         alloc: Global,
@@ -78,10 +78,14 @@ pub trait Algebra: Sync {
         ensures image { (l : PureLabel) → stands_for self.now lab.now l →
             IfOk result (λ image. option_map (sig_value self.now) image ≡ App (expression self.now) l (sig_value self.now sig.now)) }
         ensures bound { (n : ℕ) → AtMost n (sig_value self.now sig.now) →
-            IfOk result (λ image. IfSome image (λ s. AtMost (n + MAX_NUMBER) (sig_value self.now s))) };
+            IfOk result (λ image. IfSome image (λ s. AtMost (n + MAX_LABEL_NUMBER) (sig_value self.now s))) };
 
     // What stands for a value stands for one of the algebra.
     ghost sig_in: { (s : Self) (a : Self.Sig) → is_sig s a → In (carrier_of (expression s)) (sig_value s a) };
+
+    // What stands for a label stands for one of the algebra, with small numbers.
+    ghost lab_in: { (s : Self) (lab : Self.Lab) (l : PureLabel) → stands_for s lab l →
+        IsLabel (expression s) l × LabelAtMost MAX_LABEL_NUMBER l };
 }
 
 /// The algebra by its tree: values and labels stand for themselves.
@@ -104,15 +108,17 @@ impl<'a> Algebra for TreeAlgebra<'a> {
 
     type Lab = Label;
 
-    ghost expression = { λ s. s.alg.now };
+    ghost expression = { λ s. s.alg.now.expression };
 
     ghost sig_value = { λ s v. pure_value v };
 
-    ghost is_sig = { λ s v. In (carrier_of s.alg.now) (pure_value v) };
+    ghost is_sig = { λ s v. In (carrier_of s.alg.now.expression) (pure_value v) };
 
-    ghost stands_for = { λ s label l. (pure_label label ≡ l) × IsLabel s.alg.now l × LabelAtMost MAX_NUMBER l };
+    ghost stands_for = { λ s label l. (pure_label label ≡ l) × IsLabel s.alg.now.expression l × LabelAtMost MAX_LABEL_NUMBER l };
 
     ghost sig_in = { λ s v i. i };
+
+    ghost lab_in = { λ s label l i. (i.1, i.2) };
 
     fn sig_of(&self, alloc: Global, value: &Value) -> Result<Value, NoMemory> {
         value.copy(alloc)

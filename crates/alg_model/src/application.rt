@@ -1,13 +1,13 @@
 ghost use Rattle.std.specs.Prelude.{◌≡◌, ◌≤◌, ◌<◌, ◌==◌, ◌^◌, ◌+◌, ◌++◌, [], ◌∷◌, ℕ, Some, IfOk, IfSome, option_map};
 ghost use Rattle.std.specs.List.{list_any};
-ghost use Rattle.meta_base.specs.declared.limits.TheConstants.{MAX_NUMBER};
+ghost use Rattle.alg_model.specs.declared.edition.TheConstants.{MAX_LABEL_NUMBER};
 ghost use Rattle.alg_model.specs.declared.alg.TheConstants.{MAX_VALUE_NUMBER};
 ghost use Rattle.alg_model.specs.Expressions.{lex, scoped, union, sum, number, number_label, pair, first, second};
 ghost use Rattle.alg_model.specs.Views.{expression_of, pure_value, pure_label};
 ghost use Rattle.alg_model.specs.Carriers.{carrier_of, In};
 ghost use Rattle.alg_model.specs.Application.{IsLabel, App, has_mark, image_of};
 ghost use Rattle.alg_model.specs.Bounds.{AtMost, LabelAtMost};
-ghost use Rattle.alg_model.specs.Actions.{MayAct};
+ghost use Rattle.alg_model.specs.Actions.{MayActOn, IsImage};
 
 use crate::copying::copy_list;
 use crate::{Alg, Amount, Label, TableSpec, Tree, Value};
@@ -17,8 +17,8 @@ use std::alloc::Global;
 /// What the label makes of the value: a value, or `None` where it prohibits it.
 ///
 /// The label and the value are the algebra's, and so is the result. No number of the label is above
-/// [`meta_base::MAX_NUMBER`] and none of the value above [`crate::MAX_VALUE_NUMBER`]; no number of the result
-/// is above the greatest of the value plus [`meta_base::MAX_NUMBER`]. It is refused for want of memory
+/// [`crate::MAX_LABEL_NUMBER`] and none of the value above [`crate::MAX_VALUE_NUMBER`]; no number of the result
+/// is above the greatest of the value plus [`crate::MAX_LABEL_NUMBER`]. It is refused for want of memory
 /// alone.
 pub fn apply(
     alloc: Global,
@@ -26,14 +26,14 @@ pub fn apply(
     label: &Label,
     value: &Value,
 ) -> Result<Option<Value>, NoMemory>
-    requires label { IsLabel alg.now (pure_label label.now) }
-    requires value { In (carrier_of alg.now) (pure_value value.now) }
-    requires small_label { LabelAtMost MAX_NUMBER (pure_label label.now) }
+    requires label { IsLabel alg.now.expression (pure_label label.now) }
+    requires value { In (carrier_of alg.now.expression) (pure_value value.now) }
+    requires small_label { LabelAtMost MAX_LABEL_NUMBER (pure_label label.now) }
     requires small_value { AtMost MAX_VALUE_NUMBER (pure_value value.now) }
-    ensures image { IfOk result (λ image. option_map pure_value image ≡ App alg.now (pure_label label.now) (pure_value value.now)) }
-    ensures value { IfOk result (λ image. IfSome image (λ v. In (carrier_of alg.now) (pure_value v))) }
+    ensures image { IfOk result (IsImage alg.now.expression label.now value.now) }
+    ensures value { IfOk result (λ image. IfSome image (λ v. In (carrier_of alg.now.expression) (pure_value v))) }
     ensures bound { (n : ℕ) → AtMost n (pure_value value.now) →
-        IfOk result (λ image. IfSome image (λ v. AtMost (n + MAX_NUMBER) (pure_value v))) }
+        IfOk result (λ image. IfSome image (λ v. AtMost (n + MAX_LABEL_NUMBER) (pure_value v))) }
 {
     image(alloc, alg.tree(), label, value)
 }
@@ -47,8 +47,8 @@ fn image(
     label: &Label,
     value: &Value,
 ) -> Result<Option<Value>, NoMemory>
-    requires { MayAct (expression_of tree.now) (pure_label label.now) (pure_value value.now) }
-    ensures { IfOk result (λ image. option_map pure_value image ≡ App (expression_of tree.now) (pure_label label.now) (pure_value value.now)) }
+    requires { MayActOn (expression_of tree.now) label.now value.now }
+    ensures { IfOk result (IsImage (expression_of tree.now) label.now value.now) }
 {
     match tree {
         Tree::Add { .. }
@@ -122,8 +122,8 @@ fn lex_image(
     label: &Label,
     value: &Value,
 ) -> Result<Option<Value>, NoMemory>
-    requires { MayAct (lex (expression_of a.now) (expression_of b.now)) (pure_label label.now) (pure_value value.now) }
-    ensures { IfOk result (λ image. option_map pure_value image ≡ App (lex (expression_of a.now) (expression_of b.now)) (pure_label label.now) (pure_value value.now)) }
+    requires { MayActOn (lex (expression_of a.now) (expression_of b.now)) label.now value.now }
+    ensures { IfOk result (IsImage (lex (expression_of a.now) (expression_of b.now)) label.now value.now) }
 {
     match (label, value) {
         (Label::Pair(l, m), Value::Pair(u, v)) => {
@@ -147,8 +147,8 @@ fn scoped_image(
     label: &Label,
     value: &Value,
 ) -> Result<Option<Value>, NoMemory>
-    requires { MayAct (scoped (expression_of a.now) (expression_of b.now)) (pure_label label.now) (pure_value value.now) }
-    ensures { IfOk result (λ image. option_map pure_value image ≡ App (scoped (expression_of a.now) (expression_of b.now)) (pure_label label.now) (pure_value value.now)) }
+    requires { MayActOn (scoped (expression_of a.now) (expression_of b.now)) label.now value.now }
+    ensures { IfOk result (IsImage (scoped (expression_of a.now) (expression_of b.now)) label.now value.now) }
 {
     match (label, value) {
         (Label::Outer(l, w), Value::Pair(u, _)) => match image(alloc, a, l, u)? {
@@ -171,8 +171,8 @@ fn union_image(
     label: &Label,
     value: &Value,
 ) -> Result<Option<Value>, NoMemory>
-    requires { MayAct (union (expression_of a.now) (expression_of b.now)) (pure_label label.now) (pure_value value.now) }
-    ensures { IfOk result (λ image. option_map pure_value image ≡ App (union (expression_of a.now) (expression_of b.now)) (pure_label label.now) (pure_value value.now)) }
+    requires { MayActOn (union (expression_of a.now) (expression_of b.now)) label.now value.now }
+    ensures { IfOk result (IsImage (union (expression_of a.now) (expression_of b.now)) label.now value.now) }
 {
     match (label, value) {
         (Label::First(l), Value::First(u)) => in_first(alloc, image(alloc, a, l, u)?),
@@ -189,8 +189,8 @@ fn sum_image(
     label: &Label,
     value: &Value,
 ) -> Result<Option<Value>, NoMemory>
-    requires { MayAct (sum (expression_of a.now) (expression_of b.now)) (pure_label label.now) (pure_value value.now) }
-    ensures { IfOk result (λ image. option_map pure_value image ≡ App (sum (expression_of a.now) (expression_of b.now)) (pure_label label.now) (pure_value value.now)) }
+    requires { MayActOn (sum (expression_of a.now) (expression_of b.now)) label.now value.now }
+    ensures { IfOk result (IsImage (sum (expression_of a.now) (expression_of b.now)) label.now value.now) }
 {
     match (label, value) {
         (Label::Both(l, _), Value::First(u)) => in_first(alloc, image(alloc, a, l, u)?),
@@ -201,7 +201,7 @@ fn sum_image(
 
 // What the label n makes of the number m, where numbers are values and labels.
 fn number_image(tree: &Tree, n: u64, m: Amount) -> Option<Amount>
-    requires label { n ≤ MAX_NUMBER }
+    requires label { n ≤ MAX_LABEL_NUMBER }
     requires value { m ≤ MAX_VALUE_NUMBER }
     ensures { option_map number result ≡ App (expression_of tree.now) (number_label n) (number m) }
 {

@@ -3,7 +3,7 @@ ghost use Rattle.std.specs.Prelude.{◌≡◌, ◌↔◌, true, IfOk};
 ghost use Rattle.meta_base.specs.declared.limits.TheConstants.{MAX_NUMBER};
 ghost use Rattle.alg_model.specs.Views.{expression_of, pure_carrier, pure_value};
 ghost use Rattle.alg_model.specs.Carriers.{carrier_of, In};
-ghost use Rattle.alg_model.specs.Formation.{IsCarrier, HasNames};
+ghost use Rattle.alg_model.specs.Formation.{IsCarrier};
 ghost use Rattle.alg_model.specs.Bounds.{AtMost};
 ghost use Rattle.alg_model.specs.Expressions.{named};
 
@@ -15,14 +15,15 @@ use std::alloc::Global;
 /// Whether two algebras have the same carrier: the same values in the same order of preference. It
 /// takes no memory.
 pub fn same_carrier(a: &Alg, b: &Alg) -> bool
-    ensures { (result ≡ true) ↔ (carrier_of a.now ≡ carrier_of b.now) }
+    ensures { (result ≡ true) ↔ (carrier_of a.now.expression ≡ carrier_of b.now.expression) }
 {
     have_same_carrier(a.tree(), b.tree())
 }
 
 /// The carrier of an algebra. It is refused for want of memory alone.
 pub fn carrier_of(alloc: Global, alg: &Alg) -> Result<Carrier, NoMemory>
-    ensures { IfOk result (λ c. pure_carrier c ≡ carrier_of alg.now) }
+    ensures carrier { IfOk result (λ c. pure_carrier c ≡ carrier_of alg.now.expression) }
+    ensures may_be { IfOk result (λ c. IsCarrier (pure_carrier c)) }
 {
     tree_carrier(alloc, alg.tree())
 }
@@ -64,20 +65,10 @@ fn table_carrier(alloc: Global, table: &TableSpec) -> Result<Carrier, NoMemory>
 }
 
 impl Carrier {
-    /// Some value of the carrier of an algebra, whose numbers are small. It is refused for want of
-    /// memory alone.
-    #[tactic(auto, using(crate::proofs::Members::algebra_has_names))]
+    /// Some value of a carrier that an algebra may have, or a part of it, whose numbers are small. It is
+    /// refused for want of memory alone.
     pub fn member(&self, alloc: Global) -> Result<Value, NoMemory>
         requires { IsCarrier (pure_carrier self.now) }
-        ensures member { IfOk result (λ v. In (pure_carrier self.now) (pure_value v)) }
-        ensures small { IfOk result (λ v. AtMost MAX_NUMBER (pure_value v)) }
-    {
-        self.any_member(alloc)
-    }
-
-    // Its condition, unlike that of `member`, holds of the parts of a carrier too.
-    fn any_member(&self, alloc: Global) -> Result<Value, NoMemory>
-        requires { HasNames (pure_carrier self.now) }
         ensures member { IfOk result (λ v. In (pure_carrier self.now) (pure_value v)) }
         ensures small { IfOk result (λ v. AtMost MAX_NUMBER (pure_value v)) }
     {
@@ -88,10 +79,10 @@ impl Carrier {
             Carrier::One => Ok(Value::Unit),
             Carrier::Named(_, _) => Ok(Value::Name(0)),
             Carrier::Pair(c, d) => Ok(Value::Pair(
-                Box::new(alloc, c.any_member(alloc)?)?,
-                Box::new(alloc, d.any_member(alloc)?)?,
+                Box::new(alloc, c.member(alloc)?)?,
+                Box::new(alloc, d.member(alloc)?)?,
             )),
-            Carrier::Side(c, _) => Ok(Value::First(Box::new(alloc, c.any_member(alloc)?)?)),
+            Carrier::Side(c, _) => Ok(Value::First(Box::new(alloc, c.member(alloc)?)?)),
         }
     }
 }

@@ -6,7 +6,7 @@ use crate::{Label, TableRow, TableSpec, Tree, Value};
 use meta_base::{List, NoMemory, Text};
 use std::alloc::Global;
 
-// An equal list.
+/// An equal list.
 pub fn copy_list<T: Copy>(alloc: Global, list: &List<T>) -> Result<List<T>, NoMemory>
     ensures { IfOk result (λ copied. copied ≡ list.now) }
 {
@@ -83,7 +83,7 @@ fn copy_boxed_label(alloc: Global, label: &Box<Label>) -> Result<Box<Label>, NoM
     Ok(Box::new(alloc, label.copy(alloc)?)?)
 }
 
-// Equal texts.
+/// Equal texts.
 pub fn copy_texts(alloc: Global, texts: &List<Text>) -> Result<List<Text>, NoMemory>
     ensures { IfOk result (λ copied. copied ≡ texts.now) }
 {

@@ -77,6 +77,7 @@ fn are_rows_over(count: usize, rows: &[TableRow]) -> bool
     rows.iter().all(|row| is_row_over(count, row))
 }
 
+/// Whether the tree meets the rule on ranges.
 pub fn meets_ranges(tree: &Tree) -> bool
     ensures { (result ≡ true) ↔ MeetsRanges (expression_of tree.now) }
 {
@@ -99,6 +100,7 @@ pub fn meets_ranges(tree: &Tree) -> bool
     }
 }
 
+/// Whether the tree meets the rule on carriers.
 pub fn meets_carriers(tree: &Tree) -> bool
     ensures { (result ≡ true) ↔ MeetsCarriers (expression_of tree.now) }
 {
@@ -209,6 +211,7 @@ fn are_named<N: Named>(items: &[N]) -> bool
     have_table_names(items) && are_distinct(items)
 }
 
+/// Whether the tree meets the rule on names.
 pub fn meets_names(tree: &Tree) -> bool
     ensures { (result ≡ true) ↔ MeetsNames (expression_of tree.now) }
 {

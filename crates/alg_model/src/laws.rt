@@ -3,7 +3,7 @@ ghost use Rattle.alg_model.specs.Application.{IsLabel, App};
 ghost use Rattle.alg_model.specs.Bounds.{AtMost, LabelAtMost};
 ghost use Rattle.alg_model.specs.Carriers.{carrier_of, In};
 ghost use Rattle.alg_model.specs.Expressions.{Expression, PureCarrier, PureLabel, PureValue};
-ghost use Rattle.alg_model.specs.Formation.{IsFormed};
+ghost use Rattle.alg_model.specs.Formation.{IsFormed, IsCarrier};
 ghost use Rattle.alg_model.specs.Preorder.{IsTotalPreorder};
 ghost use Rattle.alg_model.specs.Properties.{Has};
 ghost use Rattle.alg_model.specs.Scoped.{IsUnscoped};
@@ -27,6 +27,12 @@ pub fn preference_is_total_preorder()
 pub fn images_are_values()
     ensures { (a : Expression) (l : PureLabel) (v w : PureValue) → IsFormed a → IsLabel a l →
         In (carrier_of a) v → App a l v ≡ Some w → In (carrier_of a) w }
+{}
+
+/// The carrier of an algebra is one that an algebra may have, and so are its parts.
+#[tactic(auto, using(crate::proofs::Members::carriers_are))]
+pub fn carriers_are_carriers()
+    ensures { (a : Expression) → IsFormed a → IsCarrier (carrier_of a) }
 {}
 
 /// No number of what a label makes of a value is above the greatest number of the value and the

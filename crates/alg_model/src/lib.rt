@@ -9,6 +9,7 @@ mod algebra;
 mod application;
 mod carrier;
 mod copying;
+mod edition;
 mod formation;
 mod laws;
 mod membership;
@@ -22,8 +23,9 @@ pub use alg::{
 pub use algebra::{Algebra, TreeAlgebra};
 pub use application::apply;
 pub use carrier::{carrier_of, have_same_carrier, same_carrier};
+pub use edition::{Edition, MAX_LABEL_NUMBER};
 pub use laws::{
-    images_are_bounded, images_are_values, preference_is_total_preorder,
+    carriers_are_carriers, images_are_bounded, images_are_values, preference_is_total_preorder,
     scoped_is_a_union_of_lexical_products, violations_refute,
 };
 pub use membership::{label_in, value_in};

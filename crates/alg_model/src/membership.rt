@@ -2,18 +2,19 @@
 // with any numbers.
 ghost use Rattle.std.specs.Prelude.{◌≡◌, ◌↔◌, ◌<◌, ◌≤◌, ◌^◌, ◌==◌, true, nat_lt, length};
 ghost use Rattle.std.specs.List.{AllByRecursion, list_all, list_any};
+ghost use Rattle.alg_model.specs.Expressions.{tags, guard, table as table_of};
 ghost use Rattle.alg_model.specs.Views.{expression_of, pure_value, pure_label};
 ghost use Rattle.alg_model.specs.Carriers.{carrier_of, In, distinct};
 ghost use Rattle.alg_model.specs.Application.{IsLabel};
 ghost use Rattle.alg_model.specs.Formation.{MeetsRanges};
 ghost use Rattle.alg_model.specs.declared.alg.TheConstants.{MAX_SIMPLE_SYMBOLS};
 
-use crate::{Alg, Amount, Label, MAX_MARKS, MAX_SIMPLE_SYMBOLS, Tree, Value};
+use crate::{Alg, Amount, Label, MAX_MARKS, MAX_SIMPLE_SYMBOLS, TableSpec, Tree, Value};
 
 /// Whether the value is in the algebra's carrier. It takes no memory, and time in proportion to the
 /// value and the algebra's tree.
 pub fn value_in(alg: &Alg, value: &Value) -> bool
-    ensures { (result ≡ true) ↔ In (carrier_of alg.now) (pure_value value.now) }
+    ensures { (result ≡ true) ↔ In (carrier_of alg.now.expression) (pure_value value.now) }
 {
     is_member(alg.tree(), value)
 }
@@ -21,7 +22,7 @@ pub fn value_in(alg: &Alg, value: &Value) -> bool
 /// Whether the label is one of the algebra's. It takes no memory, and time in proportion to the label
 /// and the algebra's tree.
 pub fn label_in(alg: &Alg, label: &Label) -> bool
-    ensures { (result ≡ true) ↔ IsLabel alg.now (pure_label label.now) }
+    ensures { (result ≡ true) ↔ IsLabel alg.now.expression (pure_label label.now) }
 {
     is_label(alg.tree(), label)
 }
@@ -83,20 +84,10 @@ pub(crate) fn is_label(tree: &Tree, label: &Label) -> bool
         Tree::Seq { symbols } | Tree::SimSeq { symbols } => {
             matches!(label, Label::Symbol(n) if n < symbols)
         }
-        Tree::Tags { count } => match label {
-            Label::Keep => true,
-            Label::Mark(k) | Label::Unmark(k) => u64::from(*k) < *count,
-            _ => false,
-        },
-        Tree::Guard { count } => match label {
-            Label::Need(k) | Label::Bar(k) => u64::from(*k) < *count,
-            _ => false,
-        },
+        Tree::Tags { count } => is_tag_label(*count, label),
+        Tree::Guard { count } => is_guard_label(*count, label),
         Tree::Gate => matches!(label, Label::Allow | Label::Deny),
-        Tree::Table(table) => match label {
-            Label::Row(place) => usize::from(*place) < table.rows.as_slice().len(),
-            _ => false,
-        },
+        Tree::Table(table) => is_row_label(table, label),
         Tree::Lex(a, b) => match label {
             Label::Pair(l, m) => is_label(a, l) && is_label(b, m),
             _ => false,
@@ -119,6 +110,34 @@ pub(crate) fn is_label(tree: &Tree, label: &Label) -> bool
             Label::Const(v) => is_member(a, v),
             _ => false,
         },
+    }
+}
+
+fn is_tag_label(count: u64, label: &Label) -> bool
+    ensures { (result ≡ true) ↔ IsLabel (tags count) (pure_label label.now) }
+{
+    match label {
+        Label::Keep => true,
+        Label::Mark(k) | Label::Unmark(k) => u64::from(*k) < count,
+        _ => false,
+    }
+}
+
+fn is_guard_label(count: u64, label: &Label) -> bool
+    ensures { (result ≡ true) ↔ IsLabel (guard count) (pure_label label.now) }
+{
+    match label {
+        Label::Need(k) | Label::Bar(k) => u64::from(*k) < count,
+        _ => false,
+    }
+}
+
+fn is_row_label(table: &TableSpec, label: &Label) -> bool
+    ensures { (result ≡ true) ↔ IsLabel (table_of table.now) (pure_label label.now) }
+{
+    match label {
+        Label::Row(place) => usize::from(*place) < table.rows.as_slice().len(),
+        _ => false,
     }
 }
 

@@ -5,9 +5,9 @@ use Rattle.std.proofs.lemmas.Bool.Decides.{nat_tests}
 use Rattle.alg_model.specs.Expressions.{PureLabel, PureValue}
 use Rattle.alg_model.specs.Carriers.{In}
 use Rattle.alg_model.specs.Application.{App, IsLabel}
-use Rattle.alg_model.specs.Bounds.{AtMost, LabelAtMost}
-use Rattle.alg_model.specs.Laws.{images_in, images_at_most}
-use Rattle.meta_base.specs.declared.limits.TheConstants.{MAX_NUMBER}
+use Rattle.alg_model.specs.Bounds.{AtMost, LabelAtMost, greatest_number}
+use Rattle.alg_model.specs.Laws.{images_in, images_at_most, at_most_more, label_at_most_more, greatest_is_bounded}
+use Rattle.alg_model.specs.declared.edition.TheConstants.{MAX_LABEL_NUMBER}
 use Rattle.alg_model.specs.Properties.{PureProperty, monotone, isotone, IsMonotone, IsIsotone, Has}
 use Rattle.net_graph.specs.Nets.{PureArc, PureOrigin, PureNet, IsNet, IsArcOf, IsOriginOf, is_arc_between, is_origin_at, has_arc, has_origin, label_between, origin_value}
 use Rattle.net_graph.specs.Walks.{Walk, Weight, along}
@@ -53,8 +53,8 @@ pub record IsArc (net : PureNet) (i j : ℕ) (l : PureLabel) : Type 0 where
   pub tail_in : i < length net.nodes
   pub head_in : j < length net.nodes
   pub apart : (i == j) ≡ false
-  pub label_in : IsLabel net.alg l
-  pub small : LabelAtMost MAX_NUMBER l
+  pub label_in : IsLabel net.alg.expression l
+  pub small : LabelAtMost MAX_LABEL_NUMBER l
   pub has : has_arc net i j ≡ true
 
 pub arcs_are : (net : PureNet) → IsNet net → (i j : ℕ) → IfSome (label_between net i j) (IsArc net i j)
@@ -70,19 +70,19 @@ arcs_are net n i j = if_mapped (λ (a : PureArc). a.label) (IsArc net i j) (find
           head_in = rw head at f.0.head_in;
           apart = rw (tail, head) at f.0.apart;
           label_in = f.0.label_in;
-          small = f.0.bound;
+          small = label_at_most_more (greatest_number net.alg.edition) MAX_LABEL_NUMBER a.label (greatest_is_bounded net.alg.edition) f.0.bound;
           has = find_any (is_arc_between i j) net.arcs a e;
         }
 
-pub labels_have : (p : PureProperty) (net : PureNet) → NetHas p net → (i j : ℕ) → IfSome (label_between net i j) (Has p net.alg)
-labels_have p net h i j = if_mapped (λ (a : PureArc). a.label) (Has p net.alg) (find (is_arc_between i j) net.arcs)
-    (λ a e. (find_all (λ (b : PureArc). Has p net.alg b.label) (is_arc_between i j) net.arcs h a e).0)
+pub labels_have : (p : PureProperty) (net : PureNet) → NetHas p net → (i j : ℕ) → IfSome (label_between net i j) (Has p net.alg.expression)
+labels_have p net h i j = if_mapped (λ (a : PureArc). a.label) (Has p net.alg.expression) (find (is_arc_between i j) net.arcs)
+    (λ a e. (find_all (λ (b : PureArc). Has p net.alg.expression b.label) (is_arc_between i j) net.arcs h a e).0)
 
 -- what holds of a node's origin, and of its value
 pub record IsOrigin (net : PureNet) (dest i : ℕ) (v : PureValue) : Type 0 where
   pub node_in : i < length net.nodes
   pub value_in : In (carrier net) v
-  pub small : AtMost MAX_NUMBER v
+  pub small : AtMost MAX_LABEL_NUMBER v
   pub has : has_origin net dest i ≡ true
 
 pub origins_are : (net : PureNet) → IsNet net → (dest i : ℕ) → IfSome (origin_value net dest i) (IsOrigin net dest i)
@@ -95,7 +95,7 @@ origins_are net n dest i = if_mapped (λ (o : PureOrigin). o.value) (IsOrigin ne
         record {
           node_in = rw node at f.0.node_in;
           value_in = f.0.value_in;
-          small = f.0.bound;
+          small = at_most_more (greatest_number net.alg.edition) MAX_LABEL_NUMBER o.value (greatest_is_bounded net.alg.edition) f.0.bound;
           has = find_any (is_origin_at dest i) net.origins o e;
         }
 
@@ -121,10 +121,10 @@ along_in net n i j x h = by (label_between net i j) x (arcs_are net n i j) h
     image (Some w) g = g w refl
 
     by : (o : Option PureLabel) (x : Option PureValue) → IfSome o (IsArc net i j) → IfSome x (In (carrier net))
-        → IfSome (option_and_then (λ l. option_and_then (App net.alg l) x) o) (In (carrier net))
+        → IfSome (option_and_then (λ l. option_and_then (App net.alg.expression l) x) o) (In (carrier net))
     by None x a h = tt
     by (Some l) None a h = tt
-    by (Some l) (Some v) a h = image (App net.alg l v) (λ w e. images_in net.alg l v w n.formed a.label_in h e)
+    by (Some l) (Some v) a h = image (App net.alg.expression l v) (λ w e. images_in net.alg.expression l v w n.is_alg.formed a.label_in h e)
 
 pub weight_in : (net : PureNet) → IsNet net → (dest : ℕ) (p : List ℕ) → IfSome (Weight net dest p) (In (carrier net))
 weight_in net n dest [] = tt
@@ -143,8 +143,8 @@ along_monotone net m i j x h = by (label_between net i j) x (labels_have monoton
     last None e = cc
     last (Some v) e = cc
 
-    by : (o : Option PureLabel) (x : Option PureValue) → IfSome o (IsMonotone net.alg) → IfSome x (In (carrier net))
-        → IsUnbeatenBy (carrier net) x (option_and_then (λ l. option_and_then (App net.alg l) x) o)
+    by : (o : Option PureLabel) (x : Option PureValue) → IfSome o (IsMonotone net.alg.expression) → IfSome x (In (carrier net))
+        → IsUnbeatenBy (carrier net) x (option_and_then (λ l. option_and_then (App net.alg.expression l) x) o)
     by None x a h = last x
     by (Some l) None a h = last None
     by (Some l) (Some v) a h = a v h
@@ -158,17 +158,17 @@ along_isotone net m i j x y h k u = by (label_between net i j) x y (labels_have 
     last None e = cc
     last (Some v) e = cc
 
-    by : (o : Option PureLabel) (x y : Option PureValue) → IfSome o (IsIsotone net.alg) → IfSome x (In (carrier net)) → IfSome y (In (carrier net)) → IsUnbeatenBy (carrier net) x y
-        → IsUnbeatenBy (carrier net) (option_and_then (λ l. option_and_then (App net.alg l) x) o) (option_and_then (λ l. option_and_then (App net.alg l) y) o)
+    by : (o : Option PureLabel) (x y : Option PureValue) → IfSome o (IsIsotone net.alg.expression) → IfSome x (In (carrier net)) → IfSome y (In (carrier net)) → IsUnbeatenBy (carrier net) x y
+        → IsUnbeatenBy (carrier net) (option_and_then (λ l. option_and_then (App net.alg.expression l) x) o) (option_and_then (λ l. option_and_then (App net.alg.expression l) y) o)
     by None x y a h k u = last None
-    by (Some l) x None a h k u = last (option_and_then (App net.alg l) x)
+    by (Some l) x None a h k u = last (option_and_then (App net.alg.expression l) x)
     by (Some l) (Some v) (Some w) a h k u = a v w h k u
     by (Some l) None (Some w) a h k u = absurd (u (cc))
 
--- an arc adds at most the greatest number of a text to the greatest of a value
-pub along_at_most : (net : PureNet) → IsNet net → (i j : ℕ) (v w : PureValue) (m : ℕ) → AtMost m v → along net i j (Some v) ≡ Some w → AtMost (m + MAX_NUMBER) w
+-- an arc adds at most the greatest number of a label to the greatest of a value
+pub along_at_most : (net : PureNet) → IsNet net → (i j : ℕ) (v w : PureValue) (m : ℕ) → AtMost m v → along net i j (Some v) ≡ Some w → AtMost (m + MAX_LABEL_NUMBER) w
 along_at_most net n i j v w m h e = by (label_between net i j) (arcs_are net n i j) e
   where
-    by : (o : Option PureLabel) → IfSome o (IsArc net i j) → option_and_then (λ l. option_and_then (App net.alg l) (Some v)) o ≡ Some w → AtMost (m + MAX_NUMBER) w
+    by : (o : Option PureLabel) → IfSome o (IsArc net i j) → option_and_then (λ l. option_and_then (App net.alg.expression l) (Some v)) o ≡ Some w → AtMost (m + MAX_LABEL_NUMBER) w
     by None a e = absurd (cc)
-    by (Some l) a e = images_at_most net.alg l v w m MAX_NUMBER a.label_in a.small h e
+    by (Some l) a e = images_at_most net.alg.expression l v w m MAX_LABEL_NUMBER a.label_in a.small h e

@@ -1,6 +1,6 @@
 -- The step from one state to the next, as the code makes it.
 use Rattle.alg_model.specs.declared.alg.TheConstants.{MAX_VALUE_NUMBER}
-use Rattle.std.proofs.Common.{◌≡◌, ℕ, ◌+◌, ◌^◌, ◌<◌, zero, suc, List, ◌∷◌, Option, Some, None, Ok, Err, IfOk, option_map, length, get_or, replicate, refl, sym, ap, ◌∙◌, arith}
+use Rattle.std.proofs.Common.{◌≡◌, ℕ, ◌+◌, ◌<◌, zero, suc, List, ◌∷◌, Option, Some, None, Ok, Err, IfOk, option_map, length, get_or, replicate, refl, sym, ap, ◌∙◌, arith}
 use Rattle.std.proofs.Math.ListN.{set}
 use Rattle.std.proofs.lemmas.List.{length-map, length-set, map-set, length-replicate}
 use Rattle.std.specs.declared.result.Result.{Result}

@@ -5,6 +5,7 @@ pub mod Offers
 pub mod Better
 pub mod Places
 pub mod Unique
+pub mod Sound
 pub mod Unbeaten
 pub mod Steps
 pub mod Listeners

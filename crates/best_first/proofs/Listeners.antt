@@ -8,8 +8,11 @@ use Rattle.std.proofs.lemmas.List.Folds.{list_any_more}
 use Rattle.std.proofs.lemmas.Option.{slice_get_within, get_or_from_slice_get, slice_get-map}
 use Rattle.meta_base.specs.declared.ids.ArcId.{ArcId}
 use Rattle.alg_model.specs.Expressions.{PureValue}
+use Rattle.alg_model.specs.declared.edition.TheConstants.{MAX_LABEL_NUMBER}
 use Rattle.alg_model.specs.Application.{App}
-use Rattle.net_graph.specs.Nets.{PureArc, PureNet, IsNet, AreNumbered, AreDistinct, joins_same, is_arc_between, arcs_to, label_between}
+use Rattle.alg_model.specs.Bounds.{LabelAtMost, greatest_number}
+use Rattle.alg_model.specs.Laws.{label_at_most_more, greatest_is_bounded}
+use Rattle.net_graph.specs.Nets.{PureArc, PureNet, IsNet, IsArcOf, AreNumbered, AreDistinct, joins_same, is_arc_between, arcs_to, label_between}
 use Rattle.net_graph.specs.Routes.{PureRoute}
 use Rattle.net_graph.specs.Tables.{carrier}
 use Rattle.best_first.specs.Found.{better_of, arc_offer}
@@ -57,6 +60,15 @@ found_between (a ∷ arcs) h zero b e =
 found_between (a ∷ arcs) h (suc k) b e =
     let apart : is_arc_between b.tail b.head a ≡ false = all_at (λ y. joins_same a y ≡ false) arcs k b h.0 e in
     rw apart (found_between arcs h.1 k b e)
+
+-- what the network says of the arc of an id
+pub arc_of_net : (net : PureNet) → IsNet net → (id : ℕ) (a : PureArc) → slice_get net.arcs id ≡ Some a → IsArcOf net.alg (length net.nodes) a
+arc_of_net net n id a e = all_at (IsArcOf net.alg (length net.nodes)) net.arcs id a n.arcs_in e
+
+-- its label may be applied
+pub arc_label_small : (net : PureNet) → IsNet net → (id : ℕ) (a : PureArc) → slice_get net.arcs id ≡ Some a → LabelAtMost MAX_LABEL_NUMBER a.label
+arc_label_small net n id a e =
+    label_at_most_more (greatest_number net.alg.edition) MAX_LABEL_NUMBER a.label (greatest_is_bounded net.alg.edition) (arc_of_net net n id a e).bound
 
 -- the arc by the id at a place of those that a node speaks on
 pub record IsHeard (net : PureNet) (i m : ℕ) (a : PureArc) : Type 0 where
@@ -158,7 +170,7 @@ step_take net i r m k a row start old new h none e f = by (k == a.tail) refl
 
 -- what an arc makes of the route of its head
 pub made_offer : (net : PureNet) (i m : ℕ) (a : PureArc) (r : PureRoute) → IsHeard net i m a
-    → option_map (λ (v : PureValue). record { value = v; path = a.tail ∷ r.path }) (App net.alg a.label r.value) ≡ arc_offer net a.tail i r
+    → option_map (λ (v : PureValue). record { value = v; path = a.tail ∷ r.path }) (App net.alg.expression a.label r.value) ≡ arc_offer net a.tail i r
 made_offer net i m a r h = rw h.label refl
 
 none_between : (arcs : List PureArc) (k i : ℕ) → list_any (λ (a : PureArc). a.tail == k) (filter (λ (a : PureArc). a.head == i) arcs) ≡ false → find (is_arc_between k i) arcs ≡ None

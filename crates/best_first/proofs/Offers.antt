@@ -36,14 +36,14 @@ BeginWithThem t before = (j : ℕ) (r : PureRoute) → is_among before j ≡ tru
 
 -- where tables agree they make the same offers
 pub offer_moves : (net : PureNet) (dest : ℕ) (t u : List PureRow) (before : List ℕ) (i : ℕ) (r : PureRoute) → Agree t u before
-    → IsOfferFrom net dest t before i r → IsOfferFrom net dest u before i r
+    → IsOfferFrom net dest (route_at t) before i r → IsOfferFrom net dest (route_at u) before i r
 offer_moves net dest t u before i r a (inl own) = inl own
 offer_moves net dest t u before i r a (inr (j, among, by)) = inr (
   j,
   among,
   record {
     next = by.next;
-    told = sym (a j among) ∙ by.told;
+    is_told = sym (a j among) ∙ by.is_told;
     weighs = by.weighs;
     loopless = by.loopless;
     path = by.path;
@@ -51,28 +51,28 @@ offer_moves net dest t u before i r a (inr (j, among, by)) = inr (
 )
 
 -- an offer's path begins with the node that it is made to
-pub offer_begins : (net : PureNet) (dest : ℕ) (t : List PureRow) (before : List ℕ) (i : ℕ) (r : PureRoute) → IsOfferFrom net dest t before i r
+pub offer_begins : (net : PureNet) (dest : ℕ) (t : List PureRow) (before : List ℕ) (i : ℕ) (r : PureRoute) → IsOfferFrom net dest (route_at t) before i r
     → (p : List ℕ) × (r.path ≡ i ∷ p)
 offer_begins net dest t before i r (inl own) = ([], own.1)
 offer_begins net dest t before i r (inr (j, among, by)) = (by.next.path, by.path)
 
 -- offers of one path are one offer
 pub same_offer : (net : PureNet) (dest : ℕ) (t : List PureRow) (before : List ℕ) (i : ℕ) (r s : PureRoute) → BeginWithThem t before
-    → IsOfferFrom net dest t before i r → IsOfferFrom net dest t before i s → r.path ≡ s.path → r ≡ s
+    → IsOfferFrom net dest (route_at t) before i r → IsOfferFrom net dest (route_at t) before i s → r.path ≡ s.path → r ≡ s
 same_offer net dest t before i r s h (inl a) (inl b) e =
     let v : r.value ≡ s.value = let x = a.0 in let y = b.0 in cc in
     same_route r s v e
 same_offer net dest t before i r s h (inl a) (inr (j, among, b)) e =
-    let begins = h j b.next among b.told in
+    let begins = h j b.next among b.is_told in
     absurd (let x = a.1 in let y = b.path in let z = begins.1 in cc)
 same_offer net dest t before i r s h (inr (j, among, a)) (inl b) e =
-    let begins = h j a.next among a.told in
+    let begins = h j a.next among a.is_told in
     absurd (let x = a.path in let y = b.1 in let z = begins.1 in cc)
 same_offer net dest t before i r s h (inr (j, among, a)) (inr (k, others, b)) e =
-    let p = h j a.next among a.told in
-    let q = h k b.next others b.told in
+    let p = h j a.next among a.is_told in
+    let q = h k b.next others b.is_told in
     let path : a.next.path ≡ b.next.path = let x = a.path in let y = b.path in cc in
     let node : j ≡ k = let x = p.1 in let y = q.1 in cc in
-    let next : a.next ≡ b.next = let x = a.told in let y = b.told in cc in
+    let next : a.next ≡ b.next = let x = a.is_told in let y = b.is_told in cc in
     let v : r.value ≡ s.value = let x = a.weighs in let y = b.weighs in cc in
     same_route r s v e

@@ -4,9 +4,10 @@ use Rattle.std.specs.List.{AllByRecursion}
 use Rattle.net_graph.specs.Nets.{PureNet, IsNet}
 use Rattle.net_graph.specs.Routes.{PureRoute}
 use Rattle.net_graph.specs.Walks.{Walk}
-use Rattle.net_graph.specs.Tables.{PureRow, route_at, AreRowsFrom, IsRouteOf, Optimal}
+use Rattle.net_graph.specs.Tables.{PureRow, route_at, AreRowsFrom, IsRouteOf, BestFirst}
 use Rattle.net_graph.specs.RowTexts.{AreNodesOf, IsRouteIn, IsRowOf}
 use Rattle.best_first.proofs.Arcs.{walk_within}
+use Rattle.best_first.proofs.Sound.{best_first_walks}
 
 -- the nodes of a walk are the network's
 walk_nodes : (net : PureNet) → IsNet net → (dest : ℕ) (p : List ℕ) → Walk net dest p → AreNodesOf net p
@@ -29,5 +30,5 @@ rows_in net n dest i d (row ∷ rows) are fits w =
       rows_in net n dest (i + 1) d rows are.3 (omega arith) (λ k r e. w (suc k) r e),
     )
 
-pub optimal_rows : (net : PureNet) (dest : ℕ) (t : List PureRow) → IsNet net → dest < length net.dests → Optimal net dest t → AllByRecursion (IsRowOf net) t
-optimal_rows net dest t n d o = rows_in net n dest 0 d t o.table_of.rows (omega (arith, o.table_of.count)) (λ k r e. (o.walks k r e).0)
+pub best_first_rows : (net : PureNet) (dest : ℕ) (t : List PureRow) → IsNet net → dest < length net.dests → BestFirst net dest t → AllByRecursion (IsRowOf net) t
+best_first_rows net dest t n d h = rows_in net n dest 0 d t h.table_of.rows (omega (arith, h.table_of.count)) (λ k r e. (best_first_walks net dest t n h k r e).0)

@@ -1,9 +1,9 @@
 -- From one state to the next, and from the last to the table.
-use Rattle.std.proofs.Common.{◌≡◌, ◌≢◌, ℕ, ◌+◌, ◌*◌, ◌^◌, ◌<◌, ◌≤◌, zero, suc, ◌⊎◌, inl, inr, List, [], ◌∷◌, Option, Some, None, IfSome, Bool, true, false, cond, ◌==◌, if◌then◌else◌, is_some, option_map, option_and_then, replicate, length, refl, sym, ap, ◌∙◌, arith}
+use Rattle.std.proofs.Common.{◌≡◌, ◌≢◌, ℕ, ◌+◌, ◌*◌, ◌<◌, ◌≤◌, zero, suc, ◌⊎◌, inl, inr, List, [], ◌∷◌, Option, Some, None, IfSome, Bool, true, false, cond, ◌==◌, if◌then◌else◌, is_some, option_map, option_and_then, replicate, length, refl, sym, ap, ◌∙◌, arith}
 use Rattle.std.proofs.Math.ListN.{set}
 use Rattle.std.proofs.lemmas.Bool.{cases_lt, false≢true}
 use Rattle.std.proofs.lemmas.Bool.Decides.{nat_tests}
-use Rattle.meta_base.specs.declared.limits.TheConstants.{MAX_NUMBER}
+use Rattle.alg_model.specs.declared.edition.TheConstants.{MAX_LABEL_NUMBER}
 use Rattle.alg_model.specs.declared.alg.TheConstants.{MAX_VALUE_NUMBER}
 use Rattle.net_graph.specs.declared.route.TheConstants.{MAX_ROW_NUMBER}
 use Rattle.alg_model.specs.Expressions.{PureCarrier, PureValue, PureLabel}
@@ -13,6 +13,8 @@ use Rattle.alg_model.specs.Laws.{at_most_more}
 use Rattle.net_graph.specs.Nets.{PureNet, IsNet, origin_value, label_between}
 use Rattle.net_graph.specs.Routes.{PureRoute, Better}
 use Rattle.net_graph.specs.Walks.{along}
+use Rattle.net_graph.specs.declared.limits.TheConstants.{MAX_NODES_TWO}
+use Rattle.net_graph.specs.Laws.{few_nodes}
 use Rattle.net_graph.specs.Tables.{PureRow, TableOf, IsRouteOf, AreRowsFrom, carrier, route_at, is_among, IsOfferBy, IsOfferFrom, AreFixed, BestFirst}
 use Rattle.best_first.specs.Found.{found_at, rows_from, is_better, better_of, own_offer, arc_offer}
 use Rattle.alg_model.specs.Application.{App}
@@ -47,12 +49,12 @@ in_order net dest t [] order w f = (order, f)
 in_order net dest t (i ∷ before) order w f = in_order net dest t before (i ∷ order) w.3 (w.0, w.1, w.2, f)
 
 -- offers by nodes more
-offer_more : (net : PureNet) (dest : ℕ) (t : List PureRow) (before : List ℕ) (i k : ℕ) (s : PureRoute) → IsOfferFrom net dest t before k s → IsOfferFrom net dest t (i ∷ before) k s
+offer_more : (net : PureNet) (dest : ℕ) (t : List PureRow) (before : List ℕ) (i k : ℕ) (s : PureRoute) → IsOfferFrom net dest (route_at t) before k s → IsOfferFrom net dest (route_at t) (i ∷ before) k s
 offer_more net dest t before i k s (inl own) = inl own
 offer_more net dest t before i k s (inr (j, among, by)) = inr (j, among_more before i j among, by)
 
-offer_split : (net : PureNet) (dest : ℕ) (t : List PureRow) (before : List ℕ) (i k : ℕ) (s : PureRoute) → IsOfferFrom net dest t (i ∷ before) k s
-    → IsOfferFrom net dest t before k s ⊎ IsOfferBy net t k i s
+offer_split : (net : PureNet) (dest : ℕ) (t : List PureRow) (before : List ℕ) (i k : ℕ) (s : PureRoute) → IsOfferFrom net dest (route_at t) (i ∷ before) k s
+    → IsOfferFrom net dest (route_at t) before k s ⊎ IsOfferBy net (route_at t) k i s
 offer_split net dest t before i k s (inl own) = inl (inl own)
 offer_split net dest t before i k s (inr (j, among, by)) = elim (among_split before i j among) [
   | inl same ↦ inr (rw (← same) at by)
@@ -82,14 +84,14 @@ still_fixed net dest t u (i ∷ before) a w = (
 
 -- an offer by nodes whose rows are kept may be kept
 offer_kept : (net : PureNet) (dest : ℕ) (t : List PureRow) (before : List ℕ) (k : ℕ) (s : PureRoute) → IsNet net
-    → ((j : ℕ) (r : PureRoute) → route_at t j ≡ Some r → IsKept net before r) → IsOfferFrom net dest t before k s → IsKept net (k ∷ before) s
+    → ((j : ℕ) (r : PureRoute) → route_at t j ≡ Some r → IsKept net before r) → IsOfferFrom net dest (route_at t) before k s → IsKept net (k ∷ before) s
 offer_kept net dest t before k s n kept (inl (value, path)) =
     let origin = of_some (IsOrigin net dest k) (origin_value net dest k) s.value (origins_are net n dest k) value in
     record {
       value_in = origin.value_in;
       bound =
           let one : length s.path ≡ 1 = rw path (omega arith) in
-          at_most_more MAX_NUMBER (MAX_NUMBER * length s.path) s.value (rw one (omega arith)) origin.small;
+          at_most_more MAX_LABEL_NUMBER (MAX_LABEL_NUMBER * length s.path) s.value (rw one (omega arith)) origin.small;
       short = rw path (omega arith);
       inside = λ m e. elim (among_split [] k m (rw path at e)) [
         | inl same ↦ among_first before k m same
@@ -97,13 +99,13 @@ offer_kept net dest t before k s n kept (inl (value, path)) =
       ];
     }
 offer_kept net dest t before k s n kept (inr (j, among, o)) =
-    let next = kept j o.next o.told in
+    let next = kept j o.next o.is_told in
     record {
       value_in = of_some (In (carrier net)) (along net k j (Some o.next.value)) s.value (along_in net n k j (Some o.next.value) next.value_in) o.weighs;
       bound =
           let more : length s.path ≡ length o.next.path + 1 = rw o.path (omega arith) in
-          at_most_more (MAX_NUMBER * length o.next.path + MAX_NUMBER) (MAX_NUMBER * length s.path) s.value (rw more (omega arith))
-          (along_at_most net n k j o.next.value s.value (MAX_NUMBER * length o.next.path) next.bound o.weighs);
+          at_most_more (MAX_LABEL_NUMBER * length o.next.path + MAX_LABEL_NUMBER) (MAX_LABEL_NUMBER * length s.path) s.value (rw more (omega arith))
+          (along_at_most net n k j o.next.value s.value (MAX_LABEL_NUMBER * length o.next.path) next.bound o.weighs);
       short = rw o.path (let h = next.short in omega arith);
       inside = λ m e. elim (among_split o.next.path k m (rw o.path at e)) [
         | inl same ↦ among_first before k m same
@@ -130,7 +132,7 @@ first_state net dest rows open_routes n a b none count own = record {
   room = omega arith;
 }
   where
-    nobody : (k : ℕ) (s : PureRoute) → IsOfferFrom net dest (rows_from dest 0 rows) [] k s → (origin_value net dest k ≡ Some s.value) × (s.path ≡ k ∷ [])
+    nobody : (k : ℕ) (s : PureRoute) → IsOfferFrom net dest (route_at (rows_from dest 0 rows)) [] k s → (origin_value net dest k ≡ Some s.value) × (s.path ≡ k ∷ [])
     nobody k s (inl own) = own
     nobody k s (inr (j, among, o)) = absurd (false≢true among)
 
@@ -149,24 +151,24 @@ first_state net dest rows open_routes n a b none count own = record {
     )
 
 -- what an arc makes of a route is an offer, and every offer by that node
-arc-offer : (net : PureNet) (t : List PureRow) (k i : ℕ) (r s : PureRoute) → route_at t i ≡ Some r → is_among r.path k ≡ false → arc_offer net k i r ≡ Some s → IsOfferBy net t k i s
+arc-offer : (net : PureNet) (t : List PureRow) (k i : ℕ) (r s : PureRoute) → route_at t i ≡ Some r → is_among r.path k ≡ false → arc_offer net k i r ≡ Some s → IsOfferBy net (route_at t) k i s
 arc-offer net t k i r s told out e = by (along net k i (Some r.value)) refl e
   where
-    by : (o : Option PureValue) → along net k i (Some r.value) ≡ o → option_map (λ (v : PureValue). record { value = v; path = k ∷ r.path }) o ≡ Some s → IsOfferBy net t k i s
+    by : (o : Option PureValue) → along net k i (Some r.value) ≡ o → option_map (λ (v : PureValue). record { value = v; path = k ∷ r.path }) o ≡ Some s → IsOfferBy net (route_at t) k i s
     by None h e = absurd (cc)
     by (Some v) h e =
         let same : route v (k ∷ r.path) ≡ s = cc in
         record {
           next = r;
-          told = told;
+          is_told = told;
           weighs = rw (← same) h;
           loopless = out;
           path = rw (← same) refl;
         }
 
-offer-arc : (net : PureNet) (t : List PureRow) (k i : ℕ) (r s : PureRoute) → route_at t i ≡ Some r → IsOfferBy net t k i s → arc_offer net k i r ≡ Some s
+offer-arc : (net : PureNet) (t : List PureRow) (k i : ℕ) (r s : PureRoute) → route_at t i ≡ Some r → IsOfferBy net (route_at t) k i s → arc_offer net k i r ≡ Some s
 offer-arc net t k i r s told o =
-    let f = o.told in
+    let f = o.is_told in
     let same : r ≡ o.next = cc in
     rw (same, o.weighs) (ap (λ z. Some z) (same_route (route s.value (k ∷ o.next.path)) s refl (sym o.path)))
 
@@ -183,7 +185,7 @@ is_none (Some r) e = absurd (cc)
 no_loop : (net : PureNet) → IsNet net → (i : ℕ) (r : PureRoute) → arc_offer net i i r ≡ None
 no_loop net n i r = by (label_between net i i) (arcs_are net n i i)
   where
-    by : (o : Option PureLabel) → IfSome o (IsArc net i i) → option_map (λ (v : PureValue). route v (i ∷ r.path)) (option_and_then (λ l. option_and_then (App net.alg l) (Some r.value)) o) ≡ None
+    by : (o : Option PureLabel) → IfSome o (IsArc net i i) → option_map (λ (v : PureValue). route v (i ∷ r.path)) (option_and_then (λ l. option_and_then (App net.alg.expression l) (Some r.value)) o) ≡ None
     by None a = refl
     by (Some l) a =
         let itself : (i == i) ≡ true = grind (arith, nat_tests) in
@@ -282,10 +284,10 @@ module _ (net : PureNet) (dest : ℕ) (rows open_routes taken next_rows next_ope
     r_kept : IsKept net (i ∷ st.before) r
     r_kept = offer_kept net dest t st.before i r n row_kept chosen_i.0
 
-    value_in : (k : ℕ) (s : PureRoute) → IsOfferFrom net dest t st.before k s → In (carrier net) s.value
+    value_in : (k : ℕ) (s : PureRoute) → IsOfferFrom net dest (route_at t) st.before k s → In (carrier net) s.value
     value_in k s o = (offer_kept net dest t st.before k s n row_kept o).value_in
 
-    best_of_all : (k : ℕ) (s : PureRoute) → k < length net.nodes → is_among st.before k ≡ false → IsOfferFrom net dest t st.before k s → ¬ Better (carrier net) s r
+    best_of_all : (k : ℕ) (s : PureRoute) → k < length net.nodes → is_among st.before k ≡ false → IsOfferFrom net dest (route_at t) st.before k s → ¬ Better (carrier net) s r
     unfolding t
     best_of_all k s l e o = by (found_at open_routes k) refl (st.chosen k l e)
       where
@@ -351,7 +353,7 @@ module _ (net : PureNet) (dest : ℕ) (rows open_routes taken next_rows next_ope
 
     chosen_more : (k : ℕ) → k < length net.nodes → is_among (i ∷ st.before) k ≡ false → IsBestOffer net dest u (i ∷ st.before) k (found_at next_open k)
     unfolding t
-    chosen_more k l e = rw open_is (best_with (carrier net) (IsOfferFrom net dest t st.before k) (IsOfferFrom net dest u (i ∷ st.before) k) (found_at open_routes k) (arc_offer net k i r)
+    chosen_more k l e = rw open_is (best_with (carrier net) (IsOfferFrom net dest (route_at t) st.before k) (IsOfferFrom net dest (route_at u) (i ∷ st.before) k) (found_at open_routes k) (arc_offer net k i r)
         (in_old (found_at open_routes k) (st.chosen k l before_out)) in_new (value_in k) split old new (st.chosen k l before_out))
       where
         by : (b : Bool) → is_among st.before k ≡ b → is_among st.before k ≡ false
@@ -371,13 +373,13 @@ module _ (net : PureNet) (dest : ℕ) (rows open_routes taken next_rows next_ope
         off true f = absurd (false≢true (sym e ∙ r_kept.inside k f))
         off false f = f
 
-        new : (s : PureRoute) → arc_offer net k i r ≡ Some s → IsOfferFrom net dest u (i ∷ st.before) k s
+        new : (s : PureRoute) → arc_offer net k i r ≡ Some s → IsOfferFrom net dest (route_at u) (i ∷ st.before) k s
         new s f = inr (i, among_first st.before i i refl, arc-offer net u k i r s at_i (off (is_among r.path k) refl) f)
 
-        old : (s : PureRoute) → IsOfferFrom net dest t st.before k s → IsOfferFrom net dest u (i ∷ st.before) k s
+        old : (s : PureRoute) → IsOfferFrom net dest (route_at t) st.before k s → IsOfferFrom net dest (route_at u) (i ∷ st.before) k s
         old s o = offer_more net dest u st.before i k s (offer_moves net dest t u st.before k s agree o)
 
-        split : (s : PureRoute) → IsOfferFrom net dest u (i ∷ st.before) k s → IsOfferFrom net dest t st.before k s ⊎ (arc_offer net k i r ≡ Some s)
+        split : (s : PureRoute) → IsOfferFrom net dest (route_at u) (i ∷ st.before) k s → IsOfferFrom net dest (route_at t) st.before k s ⊎ (arc_offer net k i r ≡ Some s)
         split s o = elim (offer_split net dest u st.before i k s o) [
           | inl f ↦ inl (offer_moves net dest u t st.before k s back f)
           | inr f ↦ inr (offer-arc net u k i r s at_i f)
@@ -419,10 +421,11 @@ last_state net dest rows open_routes n st none = record { table_of = table; orde
         let short = h.short in
         let room = st.room in
         let bound = n.node_room in
-        let few : length r.path ≤ 512 = omega arith in
+        let nodes = few_nodes net.alg.edition in
+        let few : length r.path ≤ MAX_NODES_TWO = omega arith in
         record {
           value_in = h.value_in;
-          bound = at_most_more (MAX_NUMBER * length r.path) MAX_ROW_NUMBER r.value (omega arith) h.bound;
+          bound = at_most_more (MAX_LABEL_NUMBER * length r.path) MAX_ROW_NUMBER r.value (omega arith) h.bound;
           path = omega arith;
         }
 
@@ -443,17 +446,18 @@ open_small net dest rows open_routes i r n st told =
       | inl l ↦ l
       | inr l ↦ absurd (let e = list_past open_routes i (let h = st.open_count in omega arith) in cc)
     ] in
-    at_most_more (MAX_NUMBER * length r.path) MAX_VALUE_NUMBER r.value (few within (is_among st.before i) refl) (kept within (is_among st.before i) refl).bound
+    at_most_more (MAX_LABEL_NUMBER * length r.path) MAX_VALUE_NUMBER r.value (few within (is_among st.before i) refl) (kept within (is_among st.before i) refl).bound
   where
     kept : i < length net.nodes → (b : Bool) → is_among st.before i ≡ b → IsKept net (i ∷ st.before) r
     kept l true e = absurd (let f = st.shut i e in cc)
     kept l false e = offer_kept net dest (rows_from dest 0 rows) st.before i r n (λ j s f. st.kept j s (sym (row-found dest 0 rows j) ∙ f)) (rw told at (st.chosen i l e)).0
 
-    few : i < length net.nodes → (b : Bool) → is_among st.before i ≡ b → MAX_NUMBER * length r.path ≤ MAX_VALUE_NUMBER
+    few : i < length net.nodes → (b : Bool) → is_among st.before i ≡ b → MAX_LABEL_NUMBER * length r.path ≤ MAX_VALUE_NUMBER
     few l b e =
         let short = (kept l b e).short in
         let room = st.room in
         let bound = n.node_room in
+        let nodes = few_nodes net.alg.edition in
         omega arith
 
 pub none_count-set : (xs : List (Option PureRoute)) (i : ℕ) (r : PureRoute) → i < length xs → found_at xs i ≡ None → none_count (set xs i (Some r)) + 1 ≡ none_count xs

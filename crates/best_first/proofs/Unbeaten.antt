@@ -1,29 +1,23 @@
 -- A table that is made best first is beaten by no walk, where labels are monotone and isotone.
 use Rattle.std.proofs.Common.{◌≡◌, ℕ, ◌<◌, inl, inr, List, [], ◌∷◌, Option, Some, None, IfSome, Bool, true, false, length, refl, sym, ◌∙◌, subst, option_map, option_and_then}
-use Rattle.std.proofs.lemmas.Bool.{cases_lt, false≢true}
+use Rattle.std.proofs.lemmas.Bool.{false≢true}
 use Rattle.alg_model.specs.Expressions.{PureCarrier, PureValue, PureLabel}
 use Rattle.alg_model.specs.Carriers.{In}
 use Rattle.alg_model.specs.Properties.{monotone, isotone}
 use Rattle.alg_model.specs.Application.{App}
-use Rattle.net_graph.specs.Nets.{PureNet, IsNet, has_arc, label_between, origin_value}
+use Rattle.net_graph.specs.Nets.{PureNet, IsNet, label_between, origin_value}
 use Rattle.net_graph.specs.Routes.{PureRoute, Better}
 use Rattle.net_graph.specs.Walks.{Walk, Weight, along}
-use Rattle.net_graph.specs.Tables.{PureRow, TableOf, NetHas, HasWalks, route_at, value_at, carrier, is_among, IsOfferFrom, AreFixed, BestFirst, Optimal}
+use Rattle.net_graph.specs.Tables.{PureRow, TableOf, NetHas, route_at, value_at, carrier, is_among, IsOfferFrom, AreFixed, BestFirst, Optimal}
 use Rattle.best_first.proofs.Preferred.{IsUnbeatenBy, unbeaten_trans}
-use Rattle.best_first.proofs.Arcs.{of_some, IsArc, arcs_are, IsOrigin, origins_are, walk_within, along_in, weight_in, along_monotone, along_isotone}
-use Rattle.best_first.proofs.Routes.{table_route_in, no_route_past}
-use Rattle.best_first.proofs.Offers.{among_split, among_first, among_more}
-
--- the route's path is a walk from its node that weighs its value, over these nodes alone
-record IsSound (net : PureNet) (dest : ℕ) (before : List ℕ) (i : ℕ) (r : PureRoute) : Type 0 where
-  pub walk : Walk net dest r.path
-  pub weight : Weight net dest r.path ≡ Some r.value
-  pub begins : (p : List ℕ) × (r.path ≡ i ∷ p)
-  pub inside : (k : ℕ) → is_among r.path k ≡ true → is_among before k ≡ true
+use Rattle.best_first.proofs.Arcs.{walk_within, along_in, weight_in, along_monotone, along_isotone}
+use Rattle.best_first.proofs.Routes.{table_route_in}
+use Rattle.best_first.proofs.Offers.{among_split}
+use Rattle.best_first.proofs.Sound.{AreSound, sound_more, best_first_walks}
 
 -- the routes of these nodes are sound, and no walk from one is better
 record AreBest (net : PureNet) (dest : ℕ) (t : List PureRow) (before : List ℕ) : Type 0 where
-  pub sound : (j : ℕ) (r : PureRoute) → is_among before j ≡ true → route_at t j ≡ Some r → IsSound net dest before j r
+  pub sound : AreSound net dest t before
   pub unbeaten : (j : ℕ) (p : List ℕ) → is_among before j ≡ true → Walk net dest (j ∷ p) → IsUnbeatenBy (carrier net) (value_at t j) (Weight net dest (j ∷ p))
 
 -- what the laws need of the network and of the table
@@ -40,44 +34,9 @@ value_in net dest t h i = by (route_at t i) (λ r e. (table_route_in net dest t 
     by None f = tt
     by (Some r) f = f r refl
 
--- an arc from i gives a value only if it is one
-along_has : (net : PureNet) → IsNet net → (i j : ℕ) (x : Option PureValue) (v : PureValue) → along net i j x ≡ Some v → has_arc net i j ≡ true
-along_has net n i j x v e = by (label_between net i j) (arcs_are net n i j) e
-  where
-    by : (o : Option PureLabel) → IfSome o (IsArc net i j) → option_and_then (λ l. option_and_then (App net.alg l) x) o ≡ Some v → has_arc net i j ≡ true
-    by None a e = absurd (cc)
-    by (Some l) a e = a.has
-
--- an offer by nodes whose routes are sound is sound
-offer_sound : (net : PureNet) (dest : ℕ) (t : List PureRow) (before : List ℕ) (i : ℕ) (r : PureRoute) → IsNet net → AreBest net dest t before
-    → IsOfferFrom net dest t before i r → IsSound net dest (i ∷ before) i r
-offer_sound net dest t before i r n b (inl (value, path)) = record {
-  walk = rw path (of_some (IsOrigin net dest i) (origin_value net dest i) r.value (origins_are net n dest i) value).has;
-  weight = rw path value;
-  begins = ([], path);
-  inside = λ k e. elim (among_split [] i k (rw path at e)) [
-    | inl s ↦ among_first before i k s
-    | inr m ↦ absurd (false≢true m)
-  ];
-}
-offer_sound net dest t before i r n b (inr (j, among, o)) =
-    let s = b.sound j o.next among o.told in
-    let begins = s.begins in
-    record {
-      walk = rw (o.path, begins.1) (along_has net n i j (Some o.next.value) r.value o.weighs, rw begins.1 at s.walk);
-      weight =
-          let w : Weight net dest (j ∷ begins.0) ≡ Some o.next.value = rw begins.1 at s.weight in
-          rw (o.path, begins.1, w) o.weighs;
-      begins = (o.next.path, o.path);
-      inside = λ k e. elim (among_split o.next.path i k (rw o.path at e)) [
-        | inl same ↦ among_first before i k same
-        | inr m ↦ among_more before i k (s.inside k m)
-      ];
-    }
-
 -- no offer by these nodes to another node has a value that is preferred
 NoneOffers : PureNet → ℕ → List PureRow → List ℕ → Option PureValue → Type 0
-NoneOffers net dest t before x = (k : ℕ) (s : PureRoute) → k < length net.nodes → is_among before k ≡ false → IsOfferFrom net dest t before k s
+NoneOffers net dest t before x = (k : ℕ) (s : PureRoute) → k < length net.nodes → is_among before k ≡ false → IsOfferFrom net dest (route_at t) before k s
     → IsUnbeatenBy (carrier net) x (Some s.value)
 
 none_last : (c : PureCarrier) (x : Option PureValue) → IsUnbeatenBy c x None
@@ -99,7 +58,7 @@ at_origin net dest t before x f k within out = by (origin_value net dest k) refl
 along_none : (net : PureNet) (i j : ℕ) → along net i j None ≡ None
 along_none net i j = by (label_between net i j)
   where
-    by : (o : Option PureLabel) → option_and_then (λ l. option_and_then (App net.alg l) None) o ≡ None
+    by : (o : Option PureLabel) → option_and_then (λ l. option_and_then (App net.alg.expression l) None) o ≡ None
     by None = refl
     by (Some l) = refl
 
@@ -119,7 +78,7 @@ at_arc net dest t before x b f k j within out among = by (route_at t j) refl
       among,
       record {
         next = next;
-        told = told;
+        is_told = told;
         weighs = e;
         loopless = loopless next told (is_among next.path k) refl;
         path = refl;
@@ -156,26 +115,12 @@ next_best net dest t before x g b i f k (j ∷ p) out w = by (λ e. next_best ne
 
 -- with the next node too the routes are best
 best_more : (net : PureNet) (dest : ℕ) (t : List PureRow) (before : List ℕ) (i : ℕ) (r : PureRoute) → Given net dest t → AreBest net dest t before
-    → is_among before i ≡ false → route_at t i ≡ Some r → IsOfferFrom net dest t before i r
-    → ((k : ℕ) (s : PureRoute) → k < length net.nodes → is_among before k ≡ false → IsOfferFrom net dest t before k s → ¬ Better (carrier net) s r)
+    → is_among before i ≡ false → route_at t i ≡ Some r → IsOfferFrom net dest (route_at t) before i r
+    → ((k : ℕ) (s : PureRoute) → k < length net.nodes → is_among before k ≡ false → IsOfferFrom net dest (route_at t) before k s → ¬ Better (carrier net) s r)
     → AreBest net dest t (i ∷ before)
 unfolding NoneOffers
-best_more net dest t before i r g b out told o best = record { sound = sound; unbeaten = unbeaten }
+best_more net dest t before i r g b out told o best = record { sound = sound_more net dest t before i r g.is_net b.sound told o; unbeaten = unbeaten }
   where
-    widen : (j : ℕ) (s : PureRoute) → IsSound net dest before j s → IsSound net dest (i ∷ before) j s
-    widen j s h = record { walk = h.walk; weight = h.weight; begins = h.begins; inside = λ k e. among_more before i k (h.inside k e) }
-
-    first : (s : PureRoute) → route_at t i ≡ Some s → IsSound net dest (i ∷ before) i s
-    first s e =
-        let one : r ≡ s = cc in
-        rw one at (offer_sound net dest t before i r g.is_net b o)
-
-    sound : (j : ℕ) (s : PureRoute) → is_among (i ∷ before) j ≡ true → route_at t j ≡ Some s → IsSound net dest (i ∷ before) j s
-    sound j s e f = elim (among_split before i j e) [
-      | inl same ↦ rw (← same) (first s (rw (← same) at f))
-      | inr m ↦ widen j s (b.sound j s m f)
-    ]
-
     none : NoneOffers net dest t before (Some r.value)
     none k s within other offer e = best k s within other offer (rw e refl)
 
@@ -194,24 +139,10 @@ best_more net dest t before i r g b out told o best = record { sound = sound; un
 Unbeaten : PureNet → ℕ → List PureRow → Type 0
 Unbeaten net dest t = (i : ℕ) (p : List ℕ) → Walk net dest (i ∷ p) → IsUnbeatenBy (carrier net) (value_at t i) (Weight net dest (i ∷ p))
 
-last_best : (net : PureNet) (dest : ℕ) (t : List PureRow) (before : List ℕ) → Given net dest t → AreBest net dest t before → AreFixed net dest t before []
-    → HasWalks net dest t × Unbeaten net dest t
+last_best : (net : PureNet) (dest : ℕ) (t : List PureRow) (before : List ℕ) → Given net dest t → AreBest net dest t before → AreFixed net dest t before [] → Unbeaten net dest t
 unfolding NoneOffers Unbeaten
-last_best net dest t before g b f = (walks, unbeaten)
+last_best net dest t before g b f i p w = by i p w (is_among before i) refl
   where
-    walk_of : (i : ℕ) (r : PureRoute) → IsSound net dest before i r → Walk net dest r.path × (Weight net dest r.path ≡ Some r.value) × ((p : List ℕ) × (r.path ≡ i ∷ p))
-    walk_of i r s = (s.walk, s.weight, s.begins)
-
-    inside : (i : ℕ) (r : PureRoute) → route_at t i ≡ Some r → (c : Bool) → is_among before i ≡ c → i < length net.nodes → is_among before i ≡ true
-    inside i r told true e within = e
-    inside i r told false e within = absurd (let n = (f i within e).0 in cc)
-
-    walks : HasWalks net dest t
-    walks i r told = elim (cases_lt i (length net.nodes)) [
-      | inl within ↦ walk_of i r (b.sound i r (inside i r told (is_among before i) refl within) told)
-      | inr past ↦ absurd (let n = no_route_past net dest t g.table_of i past in cc)
-    ]
-
     none : NoneOffers net dest t before None
     none k s within other offer = absurd ((f k within other).1 s offer)
 
@@ -219,11 +150,7 @@ last_best net dest t before g b f = (walks, unbeaten)
     by i p w true e = b.unbeaten i p e w
     by i p w false e = rw ((f i (walk_within net g.is_net dest i p w) e).0) (next_best net dest t before None g b tt none i p e w)
 
-    unbeaten : Unbeaten net dest t
-    unbeaten i p w = by i p w (is_among before i) refl
-
-fixed_best : (net : PureNet) (dest : ℕ) (t : List PureRow) (before order : List ℕ) → Given net dest t → AreBest net dest t before → AreFixed net dest t before order
-    → HasWalks net dest t × Unbeaten net dest t
+fixed_best : (net : PureNet) (dest : ℕ) (t : List PureRow) (before order : List ℕ) → Given net dest t → AreBest net dest t before → AreFixed net dest t before order → Unbeaten net dest t
 fixed_best net dest t before [] g b f = last_best net dest t before g b f
 fixed_best net dest t before (i ∷ order) g b f =
     fixed_best net dest t (i ∷ before) order g (best_more net dest t before i f.2.0 g b f.1 f.2.1 f.2.2 f.2.3) f.3
@@ -235,4 +162,4 @@ optimal net dest t n m i h =
     let g : Given net dest t = record { is_net = n; are_monotone = m; are_isotone = i; table_of = h.table_of } in
     let b : AreBest net dest t [] = record { sound = λ j r e. absurd (cc); unbeaten = λ j q e. absurd (cc) } in
     let f = fixed_best net dest t [] h.order g b h.fixed in
-    record { table_of = h.table_of; walks = f.0; unbeaten = f.1 }
+    record { table_of = h.table_of; walks = best_first_walks net dest t n h; unbeaten = f }

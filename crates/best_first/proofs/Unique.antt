@@ -11,9 +11,9 @@ use Rattle.best_first.proofs.Offers.{among_split, Agree, BeginWithThem, offer_mo
 next_same : (net : PureNet) (dest : ℕ) (t u : List PureRow) (before : List ℕ) (i k : ℕ) (r s : PureRoute)
     → TableOf net dest t → TableOf net dest u → BeginWithThem t before → Agree t u before
     → route_at t i ≡ Some r → route_at u k ≡ Some s
-    → IsOfferFrom net dest t before i r → IsOfferFrom net dest u before k s
-    → (IsOfferFrom net dest t before k s → ¬ (Better (carrier net) s r))
-    → (IsOfferFrom net dest u before i r → ¬ (Better (carrier net) r s))
+    → IsOfferFrom net dest (route_at t) before i r → IsOfferFrom net dest (route_at u) before k s
+    → (IsOfferFrom net dest (route_at t) before k s → ¬ (Better (carrier net) s r))
+    → (IsOfferFrom net dest (route_at u) before i r → ¬ (Better (carrier net) r s))
     → (i ≡ k) × (route_at t i ≡ route_at u i)
 next_same net dest t u before i k r s h g b a er es o q best_t best_u =
     let back : Agree u t before = λ j e. sym (a j e) in

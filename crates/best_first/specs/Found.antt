@@ -3,7 +3,8 @@ use Rattle.std.specs.Prelude.{◌≡◌, ℕ, ◌+◌, List, [], ◌∷◌, Bool
 use Rattle.std.specs.declared.cmp.Ordering.{Ordering}
 use Rattle.std.specs.declared.cmp.Ordering.TheVariants.{Less, Equal, Greater}
 use Rattle.meta_base.specs.declared.ids.NodeId.{NodeId}
-use Rattle.alg_model.specs.Expressions.{PureCarrier, PureValue}
+use Rattle.alg_model.specs.Expressions.{Expression, PureCarrier, PureLabel, PureValue}
+use Rattle.alg_model.specs.Application.{App}
 use Rattle.net_graph.specs.Nets.{PureNet, origin_value}
 use Rattle.net_graph.specs.Routes.{PureRoute, compare_routes, Better}
 use Rattle.net_graph.specs.Walks.{along}
@@ -22,9 +23,17 @@ route_of value o = record { value = value o.value; path = numbers o.path.items }
 abbrev pub routes_of : {S : Type 0} → (S → PureValue) → List (Option (Offer S)) → List (Option PureRoute)
 routes_of value found = map (option_map (route_of value)) found
 
+-- the route of an offer, if there is one
+abbrev pub offered_route : {S : Type 0} → (S → PureValue) → Option (Offer S) → Option PureRoute
+offered_route value o = option_map (route_of value) o
+
 -- the node's route, if one was found
 abbrev pub found_at : List (Option PureRoute) → ℕ → Option PureRoute
 found_at found k = option_and_then (λ (o : Option PureRoute). o) (slice_get found k)
+
+-- the node's route, by the offers that were found
+abbrev pub found_route : {S : Type 0} → (S → PureValue) → List (Option (Offer S)) → ℕ → Option PureRoute
+found_route value found k = found_at (routes_of value found) k
 
 abbrev pub is_less : Ordering → Bool
 is_less Less = true
@@ -44,6 +53,10 @@ better_of c (Some r) (Some s) = cond (is_better c s r) (Some s) (Some r)
 -- what a node's own origin offers
 abbrev pub own_offer : PureNet → ℕ → ℕ → Option PureRoute
 own_offer net dest k = option_map (λ (v : PureValue). record { value = v; path = k ∷ [] }) (origin_value net dest k)
+
+-- what a label makes of a route, offered to node k
+abbrev pub label_offer : Expression → PureLabel → ℕ → PureRoute → Option PureRoute
+label_offer a l k r = option_map (λ (v : PureValue). record { value = v; path = k ∷ r.path }) (App a l r.value)
 
 -- what the arc to node j, if there is one, makes of that node's route
 abbrev pub arc_offer : PureNet → ℕ → ℕ → PureRoute → Option PureRoute

@@ -1,6 +1,6 @@
 -- What holds between two nodes that are fixed.
 use Rattle.std.specs.Prelude.{◌≡◌, ℕ, ◌+◌, ◌*◌, ◌<◌, ◌≤◌, List, [], ◌∷◌, true, false, cond, Option, Some, None, is_some, length}
-use Rattle.meta_base.specs.declared.limits.TheConstants.{MAX_NUMBER}
+use Rattle.alg_model.specs.declared.edition.TheConstants.{MAX_LABEL_NUMBER}
 use Rattle.alg_model.specs.Expressions.{PureCarrier}
 use Rattle.alg_model.specs.Carriers.{In}
 use Rattle.alg_model.specs.Bounds.{AtMost}
@@ -14,8 +14,8 @@ use Rattle.best_first.specs.Found.{found_at, rows_from, better_of}
 abbrev pub WereFixed : PureNet → ℕ → List PureRow → List ℕ → Type 0
 WereFixed net dest table [] = Unit {0}
 WereFixed net dest table (i ∷ before) = (i < length net.nodes) × (is_among before i ≡ false)
-    × ((r : PureRoute) × (route_at table i ≡ Some r) × IsOfferFrom net dest table before i r
-    × ((k : ℕ) (s : PureRoute) → k < length net.nodes → is_among before k ≡ false → IsOfferFrom net dest table before k s → ¬ Better (carrier net) s r))
+    × ((r : PureRoute) × (route_at table i ≡ Some r) × IsOfferFrom net dest (route_at table) before i r
+    × ((k : ℕ) (s : PureRoute) → k < length net.nodes → is_among before k ≡ false → IsOfferFrom net dest (route_at table) before k s → ¬ Better (carrier net) s r))
     × WereFixed net dest table before
 
 -- one of these routes that none of them is better than, or none where there is none
@@ -25,7 +25,7 @@ IsBestIn c Offered None = (r : PureRoute) → ¬ Offered r
 
 -- the best that the node's own origin and the nodes before offer it
 abbrev pub IsBestOffer : PureNet → ℕ → List PureRow → List ℕ → ℕ → Option PureRoute → Type 0
-IsBestOffer net dest table before k o = IsBestIn (carrier net) (IsOfferFrom net dest table before k) o
+IsBestOffer net dest table before k o = IsBestIn (carrier net) (IsOfferFrom net dest (route_at table) before k) o
 
 -- how many have no route yet
 abbrev pub none_count : List (Option PureRoute) → ℕ
@@ -35,7 +35,7 @@ none_count (o ∷ os) = cond (is_some o) (none_count os) (none_count os + 1)
 -- a route over these nodes alone, no longer than they are many, and with small numbers
 pub record IsKept (net : PureNet) (before : List ℕ) (r : PureRoute) : Type 0 where
   pub value_in : In (carrier net) r.value
-  pub bound : AtMost (MAX_NUMBER * length r.path) r.value
+  pub bound : AtMost (MAX_LABEL_NUMBER * length r.path) r.value
   pub short : length r.path ≤ length before
   pub inside : (m : ℕ) → is_among r.path m ≡ true → is_among before m ≡ true
 

@@ -19,10 +19,9 @@ pub fn best_first_is_optimal()
         BestFirst net dest t → Optimal net dest t }
 {}
 
-/// The rows of an optimal table are the network's: their nodes, their destinations, the nodes of their
-/// paths and their values.
-#[tactic(auto, using(crate::proofs::Rows::optimal_rows))]
-pub fn optimal_rows_are_the_networks()
+/// The rows of a table that is made best first are the network's, over any algebra: their nodes, their
+/// destinations, the nodes of their paths and their values.
+pub fn best_first_rows_are_the_networks()
     ensures { (net : PureNet) (dest : ℕ) (t : List PureRow) → IsNet net → dest < length net.dests →
-        Optimal net dest t → AllByRecursion (IsRowOf net) t }
+        BestFirst net dest t → AllByRecursion (IsRowOf net) t }
 {}

@@ -8,5 +8,5 @@ mod laws;
 mod offer;
 mod solution;
 
-pub use laws::{best_first_is_optimal, best_first_is_unique, optimal_rows_are_the_networks};
+pub use laws::{best_first_is_optimal, best_first_is_unique, best_first_rows_are_the_networks};
 pub use solution::solve;

@@ -55,7 +55,8 @@ fn compare_in_turn(first: &[NodeId], second: &[NodeId]) -> Ordering
 pub(crate) fn is_better<A: Algebra>(algebra: &A, r: &Offer<A::Sig>, s: &Offer<A::Sig>) -> bool
     requires first { A.is_sig algebra.now r.now.value }
     requires second { A.is_sig algebra.now s.now.value }
-    ensures { result ≡ is_better_of (carrier_of (A.expression algebra.now)) (route_of (A.sig_value algebra.now) r.now) (route_of (A.sig_value algebra.now) s.now) }
+    ensures { result ≡ is_better_of (carrier_of (A.expression algebra.now))
+        (route_of (A.sig_value algebra.now) r.now) (route_of (A.sig_value algebra.now) s.now) }
 {
     match algebra.order(&r.value, &s.value) {
         Ordering::Less => true,

@@ -1,11 +1,11 @@
-ghost use Rattle.std.specs.Prelude.{◌≡◌, ◌<◌, ◌^◌, ℕ, None, length, vec_len, IfOk, IfSome, OnOk, option_map, replicate};
+ghost use Rattle.std.specs.Prelude.{◌≡◌, ◌<◌, ◌^◌, ℕ, None, length, vec_len, IfOk, IfSome, OnOk, replicate};
 ghost use Rattle.alg_model.specs.declared.alg.TheConstants.{MAX_VALUE_NUMBER};
 ghost use Rattle.alg_model.specs.Bounds.{AtMost};
-ghost use Rattle.alg_model.specs.Carriers.{carrier_of};
 ghost use Rattle.net_graph.specs.Nets.{IsNet};
-ghost use Rattle.net_graph.specs.Tables.{BestFirst};
+ghost use Rattle.net_graph.specs.Tables.{BestFirst, carrier};
 ghost use Rattle.net_graph.specs.Views.{rows_of, pure_row};
-ghost use Rattle.best_first.specs.Found.{route_of, routes_of, found_at, AreSigs, row_from, rows_from, arc_offer as arc_offer_of};
+ghost use Rattle.best_first.specs.Found.{route_of, routes_of, offered_route, found_route, AreSigs, row_from, rows_from};
+ghost use Rattle.best_first.specs.Found.{arc_offer as arc_offer_of};
 ghost use Rattle.best_first.specs.State.{relaxed};
 
 use crate::found::{arc_offer, best_of, own_offers, take_better};
@@ -34,28 +34,30 @@ fn relax<A: Algebra>(
     node: NodeId,
     next: &Offer<A::Sig>,
     rows: &Vec<Option<Offer<A::Sig>>>,
-    open: &mut Vec<Option<Offer<A::Sig>>>,
+    offers: &mut Vec<Option<Offer<A::Sig>>>,
 ) -> Result<(), NoMemory>
-    requires algebra { A.expression algebra.now ≡ net.now.alg }
+    requires algebra { A.expression algebra.now ≡ net.now.alg.expression }
     requires net { IsNet net.now }
     requires node { node.0 < length net.now.nodes }
     requires next { A.is_sig algebra.now next.now.value }
     requires small { AtMost MAX_VALUE_NUMBER (A.sig_value algebra.now next.now.value) }
     requires rows { vec_len rows.now ≡ length net.now.nodes }
-    requires count { vec_len open.old ≡ length net.now.nodes }
-    requires sigs { AreSigs (A.is_sig algebra.now) open.old.items }
-    ensures count { vec_len open.new ≡ length net.now.nodes }
-    ensures sigs { AreSigs (A.is_sig algebra.now) open.new.items }
-    ensures open { (k : ℕ) → OnOk result (found_at (routes_of (A.sig_value algebra.now) open.new.items) k ≡
-        relaxed (carrier_of net.now.alg) (found_at (routes_of (A.sig_value algebra.now) rows.now.items) k) (found_at (routes_of (A.sig_value algebra.now) open.old.items) k)
-        (arc_offer_of net.now k node.0 (route_of (A.sig_value algebra.now) next.now))) }
+    requires count { vec_len offers.old ≡ length net.now.nodes }
+    requires sigs { AreSigs (A.is_sig algebra.now) offers.old.items }
+    ensures count { vec_len offers.new ≡ length net.now.nodes }
+    ensures sigs { AreSigs (A.is_sig algebra.now) offers.new.items }
+    ensures offers { (k : ℕ) →
+        let row = found_route (A.sig_value algebra.now) rows.now.items k in
+        let old = found_route (A.sig_value algebra.now) offers.old.items k in
+        let new = arc_offer_of net.now k node.0 (route_of (A.sig_value algebra.now) next.now) in
+        OnOk result (found_route (A.sig_value algebra.now) offers.new.items k ≡ relaxed (carrier net.now) row old new) }
 {
     for id in net.listeners(node) {
         let arc = net.arc(*id);
         let tail = arc.tail.0 as usize;
         if rows[tail].is_none() {
             let offered = arc_offer(alloc, algebra, arc, next)?;
-            take_better(algebra, open, tail, offered);
+            take_better(algebra, offers, tail, offered);
         }
     }
     Ok(())
@@ -70,7 +72,8 @@ fn row_of<A: Algebra>(
     offer: Option<Offer<A::Sig>>,
 ) -> Result<RouteRow, NoMemory>
     requires { IfSome offer (λ o. A.is_sig algebra.now o.value) }
-    ensures { IfOk result (λ row. pure_row row ≡ row_from node.0 dest.0 (option_map (route_of (A.sig_value algebra.now)) offer)) }
+    ensures { IfOk result (λ row.
+        pure_row row ≡ row_from node.0 dest.0 (offered_route (A.sig_value algebra.now) offer)) }
 {
     let route = match offer {
         Some(offer) => Some(Route {
@@ -91,7 +94,8 @@ fn into_table<A: Algebra>(
 ) -> Result<DestTable, NoMemory>
     requires sigs { AreSigs (A.is_sig algebra.now) rows.items }
     requires few { vec_len rows < 2 ^ 32 }
-    ensures rows { IfOk result (λ table. rows_of table ≡ rows_from dest.0 0 (routes_of (A.sig_value algebra.now) rows.items)) }
+    ensures rows { IfOk result (λ table.
+        rows_of table ≡ rows_from dest.0 0 (routes_of (A.sig_value algebra.now) rows.items)) }
     ensures dest { IfOk result (λ table. table.dest ≡ dest) }
 {
     let mut table = List::new(alloc);
@@ -115,15 +119,15 @@ pub fn solve<A: Algebra>(
     net: &Net,
     dest: DestId,
 ) -> Result<DestTable, NoMemory>
-    requires algebra { A.expression algebra.now ≡ net.now.alg }
+    requires algebra { A.expression algebra.now ≡ net.now.alg.expression }
     requires dest { dest.0 < length net.now.dests }
     ensures rows { IfOk result (λ table. BestFirst net.now dest.0 (rows_of table)) }
     ensures dest { IfOk result (λ table. table.dest ≡ dest) }
 {
     let mut rows = no_rows(alloc, net.node_count())?;
-    let mut open = own_offers(alloc, algebra, net, dest)?;
-    while let Some(node) = best_of(algebra, &open) {
-        let Some(next) = open[node].take() else {
+    let mut offers = own_offers(alloc, algebra, net, dest)?;
+    while let Some(node) = best_of(algebra, &offers) {
+        let Some(next) = offers[node].take() else {
             unreachable!();
         };
         relax(
@@ -133,7 +137,7 @@ pub fn solve<A: Algebra>(
             NodeId(node as u32),
             &next,
             &rows,
-            &mut open,
+            &mut offers,
         )?;
         rows[node] = Some(next);
     }

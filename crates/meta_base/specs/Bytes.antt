@@ -10,6 +10,10 @@ is_line_feed c = c == 10
 abbrev pub is_space : ℕ → Bool
 is_space c = c == 32 || c == 9 || c == 10 || c == 13
 
+-- space or tab: what separates the words of a line
+abbrev pub is_blank : ℕ → Bool
+is_blank c = c == 32 || c == 9
+
 -- `0` to `9`
 abbrev pub is_digit : ℕ → Bool
 is_digit c = nat_le 48 c && nat_le c 57

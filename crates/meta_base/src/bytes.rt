@@ -1,13 +1,34 @@
 //! Kinds of bytes, as all texts of the project read them: ASCII alone.
 ghost use Rattle.std.specs.Prelude.{◌≡◌};
 ghost use Rattle.std.specs.List.{list_all};
-ghost use Rattle.meta_base.specs.Bytes.{is_space, is_digit, is_letter, is_word_byte, is_word};
+ghost use Rattle.meta_base.specs.Bytes.{is_space, is_blank, is_digit, is_letter, is_word_byte, is_word, behind};
 
 /// Whether the byte is a space, a tab, a line feed or a carriage return.
 pub fn is_space(byte: u8) -> bool
     ensures { result ≡ is_space byte }
 {
     matches!(byte, b' ' | b'\t' | b'\n' | b'\r')
+}
+
+/// Whether the byte is a space or a tab, which separate the words of a line.
+pub fn is_blank(byte: u8) -> bool
+    ensures { result ≡ is_blank byte }
+{
+    matches!(byte, b' ' | b'\t')
+}
+
+/// What comes behind the blanks at the front.
+pub fn behind_blanks(text: &[u8]) -> &[u8]
+    ensures { result.now ≡ behind is_blank text.now }
+{
+    let mut rest = text;
+    while let [byte, after @ ..] = rest {
+        if !is_blank(*byte) {
+            return rest;
+        }
+        rest = after;
+    }
+    rest
 }
 
 /// Whether the byte is `0` to `9`.

@@ -4,7 +4,7 @@ ghost use Rattle.meta_base.specs.Count.{raised, HasRisen};
 
 use crate::{Failed, List};
 
-// The calls of an object in memory: how many there were, which of them fail, and how many did.
+/// The calls of an object in memory: how many there were, which of them fail, and how many did.
 #[derive(Drop)]
 pub struct Calls {
     failing: List<u64>,
@@ -13,7 +13,7 @@ pub struct Calls {
 }
 
 impl Calls {
-    // No call was made yet. Calls are numbered from 0, and those whose numbers are in `failing` fail.
+    /// No call was made yet. Calls are numbered from 0, and those whose numbers are in `failing` fail.
     pub fn new(failing: List<u64>) -> Calls
         ensures { result ≡ record { failing = failing; made = 0; faults = 0 } }
     {
@@ -24,7 +24,7 @@ impl Calls {
         }
     }
 
-    // Counts a call, and says whether it is to fail.
+    /// Counts a call, and says whether it is to fail.
     pub fn count(&mut self) -> bool
         ensures fails { result ≡ list_any (λ n. n == self.old.made) self.old.failing }
         ensures made { self.new.made ≡ raised self.old.made 1 }
@@ -36,14 +36,14 @@ impl Calls {
         self.failing.as_slice().contains(&call)
     }
 
-    // How many calls failed.
+    /// How many calls failed.
     pub fn faults(&self) -> u64
         ensures { result ≡ self.now.faults }
     {
         self.faults
     }
 
-    // Counts a fault.
+    /// Counts a fault.
     pub fn fault(&mut self) -> Failed
         ensures made { self.new.made ≡ self.old.made }
         ensures failing { self.new.failing ≡ self.old.failing }

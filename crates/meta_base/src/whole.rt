@@ -1,4 +1,4 @@
-ghost use Rattle.std.specs.Prelude.{◌≡◌, ◌⊎◌, ◌<◌, ◌≤◌, ℕ, List, Some, None, true, length, IfOk, OnOk, IsTrue, IsErrOf};
+ghost use Rattle.std.specs.Prelude.{◌≡◌, ◌⊎◌, ◌<◌, ◌≤◌, ℕ, List, Some, None, true, false, length, IfOk, OnOk, IsTrue, IsErrOf};
 ghost use Rattle.meta_base.specs.Count.{HasRisen, raised};
 ghost use Rattle.meta_base.specs.Shelf.{Keeps, IsAbsent};
 ghost use Rattle.meta_base.specs.Sink.{Puts};
@@ -12,8 +12,8 @@ const CHUNK: usize = 16384;
 /// Takes all bytes of the file `name`, which may have at most `limit` of them.
 ///
 /// It begins one file, and each read is offered a buffer of 16,384 bytes. [`TakeError::Fault`] comes only
-/// where the shelf's count of faults rose or where the shelf tells that it has no such file; after any
-/// other answer the count is as it was. [`TakeError::TooLong`] comes exactly where more than `limit`
+/// where the shelf's count of faults rose or where the shelf tells that it has no such file, and before the
+/// file's end was found; after any other answer the count is as it was. [`TakeError::TooLong`] comes exactly where more than `limit`
 /// bytes were taken. The file stays begun, read as far as the answer needed.
 pub fn take_all<S: Shelf>(
     alloc: Global,
@@ -33,6 +33,7 @@ pub fn take_all<S: Shelf>(
     // Each refusal has its cause.
     ensures fault { IsErrOf result TakeError.Fault →
         HasRisen (S.now_is shelf.old).faults (S.now_is shelf.new).faults ⊎ IsAbsent (S.now_is shelf.old) name.now }
+    ensures fault_open { IsErrOf result TakeError.Fault → (S.now_is shelf.new).ended ≡ false }
     ensures too_long { IsErrOf result TakeError.TooLong → limit < (S.now_is shelf.new).taken }
     ensures only_too_long { limit < (S.now_is shelf.new).taken → IsErrOf result TakeError.TooLong }
     ensures too_long_told { IsErrOf result TakeError.TooLong → IsTrue (S.now_is shelf.old).tells →

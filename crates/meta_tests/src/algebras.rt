@@ -2,7 +2,7 @@
 // algebras. Labels and values are written as literals.
 ghost use Rattle.alg_model.specs.Expressions.{add};
 ghost use Rattle.std.specs.Prelude.{◌≡◌, ◌≤◌, ◌^◌};
-ghost use Rattle.meta_base.specs.declared.limits.TheConstants.{MAX_NUMBER};
+ghost use Rattle.alg_model.specs.declared.edition.TheConstants.{MAX_LABEL_NUMBER};
 ghost use Rattle.alg_model.specs.declared.alg.TheConstants.{MAX_VALUE_NUMBER};
 ghost use Rattle.alg_model.specs.Views.{pure_value, pure_label};
 ghost use Rattle.alg_model.specs.Carriers.{carrier_of, In};
@@ -11,8 +11,8 @@ ghost use Rattle.alg_model.specs.Bounds.{AtMost, LabelAtMost};
 
 use crate::readers::algebra;
 use alg_model::{
-    Alg, Algebra, Carrier, Label, Shape, Tree, TreeAlgebra, Value, apply, carrier_of, label_in,
-    order, same_carrier, value_in,
+    Alg, Algebra, Carrier, Edition, Label, Shape, Tree, TreeAlgebra, Value, apply, carrier_of,
+    label_in, order, same_carrier, value_in,
 };
 use meta_base::{NoMemory, Text};
 use sig_text::{print_value, read_label, read_value};
@@ -106,7 +106,7 @@ fn worse_image<A: Algebra>(
 ) -> Result<Option<Value>, NoMemory>
     requires label { IsLabel (A.expression algebra.now) (pure_label label.now) }
     requires value { In (carrier_of (A.expression algebra.now)) (pure_value value.now) }
-    requires small_label { LabelAtMost MAX_NUMBER (pure_label label.now) }
+    requires small_label { LabelAtMost MAX_LABEL_NUMBER (pure_label label.now) }
     requires small_value { AtMost MAX_VALUE_NUMBER (pure_value value.now) }
 {
     let sig = algebra.sig_of(alloc, value)?;
@@ -122,7 +122,7 @@ fn worse_image<A: Algebra>(
 
 // Whether 1 makes 2^64 and 1 of 2^64, where numbers are added.
 fn sums_pass_a_word(alloc: Global, alg: &Alg) -> Result<bool, NoMemory>
-    requires { alg.now ≡ add 1 1 }
+    requires { alg.now.expression ≡ add 1 1 }
 {
     let image = worse_image(
         alloc,
@@ -135,12 +135,13 @@ fn sums_pass_a_word(alloc: Global, alg: &Alg) -> Result<bool, NoMemory>
 
 #[test]
 fn trees_are_carried_out(rt: HostRuntime) -> Result<(), Fail> {
-    let alg = Alg::checked(Tree::Add { low: 1, high: 1 })?;
-    let copied = alg.copy_part(rt.alloc(), alg.tree());
+    let alg = Alg::checked_in(Tree::Add { low: 1, high: 1 }, Edition::Two)?;
+    let copied = alg.copy_part(rt.alloc(), alg.tree())?;
     let is_sum = sums_pass_a_word(rt.alloc(), &alg);
     drop(alg);
     assert!(rt; is_sum?);
-    assert!(rt; matches!(copied?.tree(), Tree::Add { low: 1, high: 1 }));
+    assert!(rt; matches!(copied.tree(), Tree::Add { low: 1, high: 1 }));
+    assert_eq!(rt; copied.edition(), Edition::Two);
     Ok(())
 }
 

@@ -48,15 +48,27 @@ fn refused_files(rt: HostRuntime) {
         (b"main lex;", Unexpected, 9),
         (b"main 4294967296;", Unexpected, 6),
         (b"gate;", Unexpected, 1),
-        (b"raml 1; main gate;", Unexpected, 1),
+        (b"raml gate;", Unexpected, 6),
+        (b"raml 2 main gate;", Unexpected, 8),
+        (b"raml 1; raml 1; main gate;", Unexpected, 9),
+        (b"let a = gate; raml 2; main a;", Unexpected, 15),
+        (b"raml", EndOfText, 5),
         (b"", EndOfText, 1),
         (b"let", EndOfText, 4),
         (b"let rel = table { c <", EndOfText, 22),
         (b"main lex(add(1..10)", EndOfText, 20),
         (b"main add(1..4294967296);", NumberTooLarge, 13),
         (b"main gate; 4294967296", NumberTooLarge, 12),
+        (b"raml 4294967296;", NumberTooLarge, 6),
+        (b"raml 1; main add(1..4294967296);", NumberTooLarge, 21),
+        (
+            b"raml 2; main add(1..18446744073709551616);",
+            NumberTooLarge,
+            21,
+        ),
         (b"main foo;", UnknownName, 6),
         (b"main main;", UnknownName, 6),
+        (b"main raml;", UnknownName, 6),
         (b"let a = a; main a;", UnknownName, 9),
         (b"let a = gate; let a = gate; main a;", NameTwice, 19),
         (b"let left = gate; main gate;", NameTwice, 5),
@@ -67,6 +79,11 @@ fn refused_files(rt: HostRuntime) {
         (b"main plus(add(1..2), seq(3));", CarriersDiffer, 28),
         (b"main table { a < a; Z: none };", BadTable, 18),
         (b"main gate; gate", TrailingText, 12),
+        // Behind `raml 2;` this is a number, and else it is too large.
+        (b"raml 2; main gate; 4294967296", TrailingText, 20),
+        (b"raml 1; main gate; 4294967296", NumberTooLarge, 20),
+        (b"raml 3; main gate;", UnknownProfile, 6),
+        (b"raml 0", UnknownProfile, 6),
     ];
     for (text, kind, column) in refused {
         check_refused(&rt, rt.alloc(), *text, *kind, 1, *column);
@@ -176,6 +193,19 @@ fn printed_files(rt: HostRuntime) -> Result<(), Fail> {
             b"main table { o < a = d; D: d -> a, o -> d; N: none };",
             "main table{o<a=d;D:o->d,d->a;N:none};\n",
             false,
+        ),
+        (b"raml 1; main gate;", "main gate;\n", false),
+        (b"raml 02; main gate;", "raml 2;main gate;\n", false),
+        (b"let raml = gate; main raml;", "main gate;\n", false),
+        (
+            b"raml 2; main add(1..4294967296);",
+            "raml 2;main add(1..4294967296);\n",
+            true,
+        ),
+        (
+            b"raml 2; main add(1..18446744073709551615);",
+            "raml 2;main add(1..18446744073709551615);\n",
+            true,
         ),
     ];
     for (text, expected, is_plain) in cases {

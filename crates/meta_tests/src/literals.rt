@@ -1,9 +1,11 @@
 // Tests of `sig_text`: literals that are read and printed again, and those that are refused.
-use crate::readers::algebra;
-use alg_model::Alg;
+use crate::readers::{algebra, algebra_of_file};
+use alg_model::{Alg, Amount};
 use meta_base::Text;
 use sig_text::LitFault::{BadText, NotALabel, NotInCarrier};
-use sig_text::{LitError, LitFault, print_label, print_value, read_label, read_value};
+use sig_text::{
+    LitError, LitFault, print_label, print_value, read_label, read_value, read_value_to,
+};
 use std::alloc::Global;
 use std::test::Fail;
 
@@ -98,5 +100,64 @@ fn labels(rt: HostRuntime) -> Result<(), Fail> {
         let is_answered = answers_label(rt.alloc(), *expression, *text, *expected)?;
         assert!(rt; is_answered, "{text} in {expression}");
     }
+    Ok(())
+}
+
+// The value up to a greatest number that the text spells in `add(1..1)`, printed again, or the fault of
+// the text.
+fn value_again_to(
+    alloc: Global,
+    text: &str,
+    greatest: Amount,
+) -> Result<Result<Text, LitFault>, Fail> {
+    let alg = algebra(alloc, "add(1..1)")?;
+    if greatest > 1 << 119 {
+        return Err("the greatest number is too great".into());
+    }
+    match read_value_to(alloc, &alg, text.as_bytes(), greatest) {
+        Ok(value) => Ok(Ok(print_value(alloc, &alg, &value)?)),
+        Err(LitError::Bad(fault)) => Ok(Err(fault)),
+        Err(LitError::NoMemory) => Err("out of memory".into()),
+    }
+}
+
+// A printed sum is read back, up to the number that is given.
+#[test]
+fn sums(rt: HostRuntime) -> Result<(), Fail> {
+    let cases: &[(&str, Amount, Result<&str, LitFault>)] = &[
+        ("4294967296", 1 << 119, Ok("4294967296")),
+        (
+            "664613997892457936451903530140172288",
+            1 << 119,
+            Ok("664613997892457936451903530140172288"),
+        ),
+        (
+            "664613997892457936451903530140172289",
+            1 << 119,
+            Err(BadText),
+        ),
+        ("4294967296", 4_294_967_295, Err(BadText)),
+        ("4294967295", 4_294_967_295, Ok("4294967295")),
+    ];
+    for (text, greatest, expected) in cases {
+        let answer = value_again_to(rt.alloc(), *text, *greatest)?;
+        assert!(rt; is_answer(answer, *expected), "{text} up to {greatest}");
+    }
+    Ok(())
+}
+
+// Literals of profile 2 have its greatest number.
+#[test]
+fn wide_literals(rt: HostRuntime) -> Result<(), Fail> {
+    let alloc = rt.alloc();
+    let alg = algebra_of_file(alloc, b"raml 2; main add(1..18446744073709551615);")?;
+    let greatest = "18446744073709551615";
+    let label = label_again(alloc, &alg, greatest)?;
+    let value = value_again(alloc, &alg, greatest)?;
+    let beyond = value_again(alloc, &alg, "18446744073709551616")?;
+    drop(alg);
+    assert!(rt; is_answer(label, Ok(greatest)));
+    assert!(rt; is_answer(value, Ok(greatest)));
+    assert!(rt; is_answer(beyond, Err(BadText)));
     Ok(())
 }

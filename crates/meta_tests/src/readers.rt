@@ -6,9 +6,9 @@ use net_graph::Net;
 use raml_syntax::read_alg;
 use std::alloc::Global;
 use std::test::Fail;
-use topology_file::read_net;
+use topology_file::{NetFile, read_net};
 
-// The algebra that the text of an expression file means.
+/// The algebra that the text of an expression file means.
 pub fn algebra_of_file(alloc: Global, text: &[u8]) -> Result<Alg, Fail> {
     if text.len() > MAX_FILE_BYTES {
         return Err("the expression file is too long".into());
@@ -16,17 +16,22 @@ pub fn algebra_of_file(alloc: Global, text: &[u8]) -> Result<Alg, Fail> {
     Ok(read_alg(alloc, text)?)
 }
 
-// The algebra of an expression.
+/// The algebra of an expression.
 pub fn algebra(alloc: Global, expression: &str) -> Result<Alg, Fail> {
     let text = format!(in alloc; "main {expression};")?;
     algebra_of_file(alloc, text.as_bytes())
 }
 
-// The network that the text of a network file means over the algebra of an expression.
-pub fn network(alloc: Global, expression: &str, text: &[u8]) -> Result<Net, Fail> {
+/// What the text of a network file means over the algebra of an expression.
+pub fn network_file(alloc: Global, expression: &str, text: &[u8]) -> Result<NetFile, Fail> {
     let alg = algebra(alloc, expression)?;
     if text.len() > MAX_FILE_BYTES {
         return Err("the network file is too long".into());
     }
     Ok(read_net(alloc, alg, text)?)
+}
+
+/// The network of the file, without its changes.
+pub fn network(alloc: Global, expression: &str, text: &[u8]) -> Result<Net, Fail> {
+    Ok(network_file(alloc, expression, text)?.net)
 }

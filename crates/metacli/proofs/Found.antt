@@ -1,7 +1,7 @@
 -- The routes of all destinations, one destination after another.
 use Rattle.std.proofs.Common.{◌≡◌, ℕ, ◌+◌, List, [], ◌∷◌, ◌++◌, length, sym, ap, ◌∙◌, arith, append_assoc, append-nil, length-append, zero-add, add-zero}
 use Rattle.std.specs.List.{AllByRecursion}
-use Rattle.alg_model.specs.Expressions.{Expression, add, PureLabel}
+use Rattle.alg_model.specs.Expressions.{Expression, PureAlg, add, PureLabel}
 use Rattle.alg_model.specs.Application.{IsLabel}
 use Rattle.alg_model.specs.Properties.{PureProperty, monotone, isotone, Has}
 use Rattle.raml_syntax.specs.Plain.{IsPlainAdd}
@@ -12,8 +12,8 @@ use Rattle.metacli.specs.Outcome.{AreTablesFrom, joined_rows}
 use Rattle.metacli.proofs.Additive.{add_monotone, add_isotone}
 
 -- what all labels of an algebra have, all labels on a network's arcs have
-on_arcs : (p : PureProperty) (a : Expression) (nodes : ℕ) → ((l : PureLabel) → IsLabel a l → Has p a l)
-    → (arcs : List PureArc) → AllByRecursion (IsArcOf a nodes) arcs → AllByRecursion (λ (x : PureArc). Has p a x.label) arcs
+on_arcs : (p : PureProperty) (a : PureAlg) (nodes : ℕ) → ((l : PureLabel) → IsLabel a.expression l → Has p a.expression l)
+    → (arcs : List PureArc) → AllByRecursion (IsArcOf a nodes) arcs → AllByRecursion (λ (x : PureArc). Has p a.expression x.label) arcs
 on_arcs p a nodes all [] h = tt
 on_arcs p a nodes all (x ∷ arcs) h = (all x.label h.0.label_in, on_arcs p a nodes all arcs h.1)
 
@@ -25,11 +25,11 @@ all_isotone : (a : Expression) → IsPlainAdd a → (l : PureLabel) → IsLabel 
 all_isotone (add low high) p = add_isotone low high
 all_isotone _ p = absurd p
 
-pub net_monotone : (net : PureNet) → IsPlainAdd net.alg → IsNet net → NetHas monotone net
-net_monotone net p n = on_arcs monotone net.alg (length net.nodes) (all_monotone net.alg p) net.arcs n.arcs_in
+pub net_monotone : (net : PureNet) → IsPlainAdd net.alg.expression → IsNet net → NetHas monotone net
+net_monotone net p n = on_arcs monotone net.alg (length net.nodes) (all_monotone net.alg.expression p) net.arcs n.arcs_in
 
-pub net_isotone : (net : PureNet) → IsPlainAdd net.alg → IsNet net → NetHas isotone net
-net_isotone net p n = on_arcs isotone net.alg (length net.nodes) (all_isotone net.alg p) net.arcs n.arcs_in
+pub net_isotone : (net : PureNet) → IsPlainAdd net.alg.expression → IsNet net → NetHas isotone net
+net_isotone net p n = on_arcs isotone net.alg (length net.nodes) (all_isotone net.alg.expression p) net.arcs n.arcs_in
 
 -- the rows are those of the first so many destinations
 pub record AreFound (net : PureNet) (count : ℕ) (rows : List PureRow) : Type 0 where

@@ -7,3 +7,4 @@ pub mod Printable
 pub mod Written
 pub mod Servings
 pub mod Checked
+pub mod Behind

@@ -4,10 +4,9 @@ use Rattle.std.specs.Prelude.{◌≡◌, ℕ, ◌≤◌, ◌⊎◌, List, Some, 
 use Rattle.meta_base.specs.Count.{HasRisen}
 use Rattle.meta_base.specs.Shelf.{Moment}
 use Rattle.meta_base.specs.declared.limits.TheConstants.{MAX_FILE_BYTES}
-use Rattle.alg_model.specs.Expressions.{Expression}
+use Rattle.alg_model.specs.Expressions.{PureAlg}
 use Rattle.raml_syntax.specs.declared.faults.ExprFault.{ExprFault}
-use Rattle.net_graph.specs.Nets.{PureNet}
-use Rattle.topology_file.specs.NetText.{NetText, IsNetFault}
+use Rattle.topology_file.specs.NetText.{PureNetFile, NetText, IsNetFault}
 use Rattle.topology_file.specs.declared.faults.NetFault.{NetFault}
 use Rattle.metacli.specs.Served.{ServedText, ServedFault}
 use Rattle.metacli.specs.Words.{Words}
@@ -32,13 +31,13 @@ pub record IsTold (m : Moment) (name bytes : List ℕ) : Type 0 where
 -- an expression file that means no algebra, or one that isn't served, is refused with its fault, and
 -- another is checked
 pub record IsCheckComplete (bytes : List ℕ) (e : Ended) : Type 0 where
-  pub good : (a : Expression) → ServedText bytes a → IsUnlessMemory e Done
+  pub good : (a : PureAlg) → ServedText bytes a → IsUnlessMemory e Done
   pub bad : (f : ExprFault) → ServedFault bytes f → IsUnlessMemory e (BadExpr f)
 
 -- the same of two files, of which the expression file is judged first
 pub record IsRouteComplete (bytes net_bytes : List ℕ) (e : Ended) : Type 0 where
-  pub good : (a : Expression) (net : PureNet) → ServedText bytes a → NetText net_bytes a net → IsUnlessMemory e Done
-  pub bad_net : (a : Expression) (f : NetFault) → ServedText bytes a → IsNetFault net_bytes a f → IsUnlessMemory e (BadNet f)
+  pub good : (a : PureAlg) (net : PureNetFile) → ServedText bytes a → NetText net_bytes a net → IsUnlessMemory e Done
+  pub bad_net : (a : PureAlg) (f : NetFault) → ServedText bytes a → IsNetFault net_bytes a f → IsUnlessMemory e (BadNet f)
   pub bad : (f : ExprFault) → ServedFault bytes f → IsUnlessMemory e (BadExpr f)
 
 abbrev pub CompleteBy : List (List ℕ) → Moment → Moment → Ended → Result Command WordsFault → Type 0

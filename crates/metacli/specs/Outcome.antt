@@ -1,14 +1,17 @@
 -- What a run comes to, by its words.
-use Rattle.std.specs.Prelude.{◌≡◌, ℕ, ◌+◌, ◌^◌, List, [], ◌∷◌, ◌++◌, length, map, Option, Some, None, Result, Ok, Err, slice_index_or}
+use Rattle.std.specs.Prelude.{◌≡◌, ℕ, ◌+◌, List, [], ◌∷◌, ◌++◌, length, map, Option, Some, None, Result, Ok, Err, slice_index_or}
 use Rattle.meta_base.specs.Shelf.{Moment}
 use Rattle.alg_model.specs.declared.alg.TheConstants.{MAX_INSTANCE_NUMBER}
-use Rattle.alg_model.specs.Expressions.{Expression}
+use Rattle.alg_model.specs.Expressions.{PureAlg}
 use Rattle.alg_model.specs.Application.{IsLabel}
+use Rattle.alg_model.specs.Bounds.{greatest_number}
 use Rattle.alg_model.specs.Verdicts.{ExactFor}
 use Rattle.alg_model.specs.Instances.{VerdictsAtMost}
 use Rattle.net_graph.specs.Nets.{PureNet}
 use Rattle.net_graph.specs.Tables.{PureRow, BestFirst, Optimal}
-use Rattle.net_graph.specs.Views.{pure_row}
+use Rattle.net_graph.specs.Changes.{PureChange, after_all}
+use Rattle.net_graph.specs.Views.{pure_change, pure_row}
+use Rattle.topology_file.specs.NetText.{PureNetFile}
 use Rattle.metacli.specs.Words.{Words}
 use Rattle.metacli.specs.Views.{pure_verdicts}
 use Rattle.metacli.specs.Reading.{ReadsExpression, ReadsNetwork}
@@ -21,28 +24,33 @@ use Rattle.metacli.specs.declared.ended.Answer.{Answer}
 use Rattle.metacli.specs.declared.ended.Answer.TheVariants.{Done, BadWords, NoMemory}
 
 -- the verdicts are exact for all labels of the algebra, and the numbers of instances are small
-abbrev pub AreVerdictsOn : Expression → Option Verdicts → Type 0
-AreVerdictsOn a (Some v) = ExactFor a (IsLabel a) (pure_verdicts v) × VerdictsAtMost MAX_INSTANCE_NUMBER (pure_verdicts v)
+abbrev pub AreVerdictsOn : PureAlg → Option Verdicts → Type 0
+AreVerdictsOn a (Some v) =
+    ExactFor a.expression (IsLabel a.expression) (pure_verdicts v) × VerdictsAtMost (greatest_number a.edition) MAX_INSTANCE_NUMBER (pure_verdicts v)
 AreVerdictsOn a None = ⊥
 
 -- what was decided on an algebra: its verdicts, unless memory was refused
-abbrev pub IsCheckedAs : Expression → Ended → Answer → Type 0
+abbrev pub IsCheckedAs : PureAlg → Ended → Answer → Type 0
 IsCheckedAs a e Done = AreVerdictsOn a e.verdicts
 IsCheckedAs a e NoMemory = e.verdicts ≡ None
 IsCheckedAs a e _ = ⊥
 
 -- without an algebra the run ends as reading did
-abbrev pub IsCheckedBy : Ended → Result Expression Answer → Type 0
+abbrev pub IsCheckedBy : Ended → Result PureAlg Answer → Type 0
 IsCheckedBy e (Ok a) = (e.alg ≡ Some a) × IsCheckedAs a e e.decided
 IsCheckedBy e (Err answer) = (e.alg ≡ None) × (e.verdicts ≡ None) × (e.decided ≡ answer)
 
+-- nothing changes, and nothing is routed
+abbrev pub HasNoRoutes : Ended → Type 0
+HasNoRoutes e = (map pure_change e.changes ≡ []) × (map pure_row e.rows ≡ [])
+
 -- what check comes to on the expression file of that name: it is read, and then decided
 pub record IsChecked (name : List ℕ) (old new : Moment) (e : Ended) : Type 0 where
-  pub expression : Result Expression Answer
+  pub expression : Result PureAlg Answer
   pub reads : ReadsExpression name old expression new
   pub ends : IsCheckedBy e expression
   pub no_net : e.net ≡ None
-  pub no_rows : map pure_row e.rows ≡ []
+  pub no_routes : HasNoRoutes e
 
 -- the tables of the destinations from that one on: each is the one that is made best first, and no
 -- walk beats it
@@ -68,27 +76,27 @@ IsRoutedAs net rows Done = AreRoutesOn net rows
 IsRoutedAs net rows NoMemory = rows ≡ []
 IsRoutedAs net rows _ = ⊥
 
--- without a network the run ends as reading did
-abbrev pub IsRoutedTo : Result PureNet Answer → Option PureNet → List PureRow → Answer → Type 0
-IsRoutedTo (Ok net) there rows decided = (there ≡ Some net) × IsRoutedAs net rows decided
-IsRoutedTo (Err answer) there rows decided = (there ≡ None) × (rows ≡ []) × (decided ≡ answer)
+-- the routes are those of the network behind all its changes; without a network the run ends as reading did
+abbrev pub IsRoutedTo : Result PureNetFile Answer → Option PureNet → List PureChange → List PureRow → Answer → Type 0
+IsRoutedTo (Ok f) net changes rows decided = (net ≡ Some f.net) × (changes ≡ f.changes) × IsRoutedAs (after_all f.net f.changes) rows decided
+IsRoutedTo (Err answer) net changes rows decided = (net ≡ None) × (changes ≡ []) × (rows ≡ []) × (decided ≡ answer)
 
 -- the network file is read over the algebra, and then the routes are found
-pub record IsRoutedOver (a : Expression) (name : List ℕ) (old new : Moment) (e : Ended) : Type 0 where
-  pub network : Result PureNet Answer
+pub record IsRoutedOver (a : PureAlg) (name : List ℕ) (old new : Moment) (e : Ended) : Type 0 where
+  pub network : Result PureNetFile Answer
   pub reads : ReadsNetwork a name old network new
-  pub ends : IsRoutedTo network e.net (map pure_row e.rows) e.decided
+  pub ends : IsRoutedTo network e.net (map pure_change e.changes) (map pure_row e.rows) e.decided
 
 -- without an algebra the network file isn't begun
-abbrev pub IsRoutedAfter : List ℕ → Moment → Moment → Ended → Result Expression Answer → Type 0
+abbrev pub IsRoutedAfter : List ℕ → Moment → Moment → Ended → Result PureAlg Answer → Type 0
 IsRoutedAfter name old new e (Ok a) = (e.alg ≡ Some a) × IsRoutedOver a name old new e
-IsRoutedAfter name old new e (Err answer) = (new ≡ old) × (e.alg ≡ None) × (e.net ≡ None) × (map pure_row e.rows ≡ []) × (e.decided ≡ answer)
+IsRoutedAfter name old new e (Err answer) = (new ≡ old) × (e.alg ≡ None) × (e.net ≡ None) × HasNoRoutes e × (e.decided ≡ answer)
 
 -- what route comes to on the expression file and the network file of these names: the first is read,
 -- then the second, and then the routes are found
 pub record IsRouted (file net : List ℕ) (old new : Moment) (e : Ended) : Type 0 where
   pub between : Moment
-  pub expression : Result Expression Answer
+  pub expression : Result PureAlg Answer
   pub reads : ReadsExpression file old expression between
   pub ends : IsRoutedAfter net between new e expression
   pub no_verdicts : e.verdicts ≡ None
@@ -100,7 +108,7 @@ pub record IsRefused (f : WordsFault) (old new : Moment) (e : Ended) : Type 0 wh
   pub algebra : e.alg ≡ None
   pub net : e.net ≡ None
   pub verdicts : e.verdicts ≡ None
-  pub rows : map pure_row e.rows ≡ []
+  pub no_routes : HasNoRoutes e
   pub decided : e.decided ≡ BadWords f
 
 -- the word at a place

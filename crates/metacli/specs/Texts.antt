@@ -1,14 +1,16 @@
 -- The printed text of what was decided, and what of it was written.
-use Rattle.std.specs.Prelude.{◌≡◌, ℕ, ◌^◌, List, [], ◌++◌, map, Option, Some, None, Result, Ok, Err, take, codes, decimal}
+use Rattle.std.specs.Prelude.{◌≡◌, ℕ, List, [], ◌∷◌, ◌++◌, map, Option, Some, None, Result, Ok, Err, take, codes, decimal}
 use Rattle.std.specs.List.{concat, AllByRecursion}
 use Rattle.meta_base.specs.Sink.{Held, Appended, AppendedPart}
 use Rattle.meta_base.specs.declared.ids.Which.{Which}
 use Rattle.meta_base.specs.declared.ids.Which.TheVariants.{Expr, Network}
+use Rattle.alg_model.specs.declared.edition.TheConstants.{MAX_LABEL_NUMBER}
 use Rattle.alg_model.specs.declared.alg.TheConstants.{MAX_VALUE_NUMBER}
-use Rattle.alg_model.specs.Expressions.{Expression, PureCarrier, PureValue, PureLabel}
+use Rattle.alg_model.specs.Properties.{PureProperty, monotone, strict, isotone, cancellative, total}
+use Rattle.alg_model.specs.Expressions.{Expression, PureAlg, PureCarrier, PureValue, PureLabel}
 use Rattle.alg_model.specs.Carriers.{carrier_of}
 use Rattle.alg_model.specs.Application.{App}
-use Rattle.alg_model.specs.Verdicts.{PureInstance, IsInstanceOf, PureVerdict, holds, fails, PureVerdicts}
+use Rattle.alg_model.specs.Verdicts.{PureInstance, IsInstanceOf, PureVerdict, holds, fails, PureVerdicts, verdict_on, OnEach}
 use Rattle.alg_model.specs.Instances.{InstanceAtMost}
 use Rattle.alg_model.specs.Texts.{value_text, label_text}
 use Rattle.raml_syntax.specs.Faults.{fault_number}
@@ -17,6 +19,7 @@ use Rattle.net_graph.specs.Tables.{PureRow}
 use Rattle.net_graph.specs.Views.{pure_row}
 use Rattle.net_graph.specs.RowTexts.{IsRowOf, row_text}
 use Rattle.topology_file.specs.Faults.{net_kind_number}
+use Rattle.topology_file.specs.NetText.{PureNetFile}
 use Rattle.metacli.specs.Words.{words_fault_number}
 use Rattle.metacli.specs.Views.{pure_verdicts}
 use Rattle.metacli.specs.declared.verdict.Verdicts.{Verdicts}
@@ -51,14 +54,21 @@ abbrev pub verdict_text : Expression → List ℕ → PureVerdict → List ℕ
 verdict_text a word holds = word ++ codes " yes\n"
 verdict_text a word (fails x) = word ++ codes " no: " ++ instance_text a x ++ codes "\n"
 
+abbrev pub property_word : PureProperty → List ℕ
+property_word monotone = codes "monotone"
+property_word strict = codes "strict"
+property_word isotone = codes "isotone"
+property_word cancellative = codes "cancellative"
+property_word total = codes "total"
+
+-- the lines of the verdicts on these properties
+abbrev pub lines_on : Expression → PureVerdicts → List PureProperty → List ℕ
+lines_on a v [] = []
+lines_on a v (p ∷ ps) = verdict_text a (property_word p) (verdict_on v p) ++ lines_on a v ps
+
 -- the five lines of verdicts
 abbrev pub verdicts_text : Expression → PureVerdicts → List ℕ
-verdicts_text a v =
-    verdict_text a (codes "monotone") v.monotone
-    ++ verdict_text a (codes "strict") v.strict
-    ++ verdict_text a (codes "isotone") v.isotone
-    ++ verdict_text a (codes "cancellative") v.cancellative
-    ++ verdict_text a (codes "total") v.total
+verdicts_text a v = lines_on a v (monotone ∷ strict ∷ isotone ∷ cancellative ∷ total ∷ [])
 
 abbrev pub which_text : Which → List ℕ
 which_text Expr = codes "expression"
@@ -75,13 +85,13 @@ refusal_text NoMemory = codes "out of memory\n"
 refusal_text Done = []
 refusal_text WriteFault = []
 
--- the lines of routes
+-- the lines of routes; changes leave all names as they are
 abbrev pub rows_text : PureNet → List PureRow → List ℕ
 rows_text net rows = concat (map (row_text net) rows)
 
 -- what is printed where the command was carried out: verdicts, or routes
-abbrev pub checked_text : Option Expression → Option Verdicts → List ℕ
-checked_text (Some a) (Some v) = verdicts_text a (pure_verdicts v)
+abbrev pub checked_text : Option PureAlg → Option Verdicts → List ℕ
+checked_text (Some a) (Some v) = verdicts_text a.expression (pure_verdicts v)
 checked_text _ _ = []
 
 abbrev pub routed_text : Option PureNet → List PureRow → List ℕ
@@ -104,21 +114,17 @@ TextOf e = text_for e e.decided
 -- the instance is the algebra's, and its images can be computed
 pub record CanPrint (a : Expression) (x : PureInstance) : Type 0 where
   pub is_of : IsInstanceOf a x
-  pub bound : InstanceAtMost MAX_VALUE_NUMBER x
+  pub bound : InstanceAtMost MAX_LABEL_NUMBER MAX_VALUE_NUMBER x
 
 abbrev pub CanPrintVerdict : Expression → PureVerdict → Type 0
 CanPrintVerdict a holds = Unit {0}
 CanPrintVerdict a (fails x) = CanPrint a x
 
-pub record CanPrintVerdicts (a : Expression) (v : PureVerdicts) : Type 0 where
-  pub monotone : CanPrintVerdict a v.monotone
-  pub strict : CanPrintVerdict a v.strict
-  pub isotone : CanPrintVerdict a v.isotone
-  pub cancellative : CanPrintVerdict a v.cancellative
-  pub total : CanPrintVerdict a v.total
+abbrev pub CanPrintVerdicts : Expression → PureVerdicts → Type 0
+CanPrintVerdicts a = OnEach (λ p. CanPrintVerdict a)
 
-abbrev pub CanPrintChecked : Option Expression → Option Verdicts → Type 0
-CanPrintChecked (Some a) (Some v) = CanPrintVerdicts a (pure_verdicts v)
+abbrev pub CanPrintChecked : Option PureAlg → Option Verdicts → Type 0
+CanPrintChecked (Some a) (Some v) = CanPrintVerdicts a.expression (pure_verdicts v)
 CanPrintChecked _ _ = ⊥
 
 abbrev pub CanPrintRouted : Option PureNet → List PureRow → Type 0
@@ -136,9 +142,9 @@ CanPrintFound net rows Done = AllByRecursion (IsRowOf net) rows
 CanPrintFound net rows WriteFault = ⊥
 CanPrintFound net rows answer = Unit {0}
 
-abbrev pub CanPrintTo : Result PureNet Answer → Option PureNet → List PureRow → Answer → Type 0
-CanPrintTo (Ok net) there rows decided = CanPrintFound net rows decided
-CanPrintTo (Err answer) there rows decided = Unit {0}
+abbrev pub CanPrintTo : Result PureNetFile Answer → List PureRow → Answer → Type 0
+CanPrintTo (Ok f) rows decided = CanPrintFound f.net rows decided
+CanPrintTo (Err answer) rows decided = Unit {0}
 
 abbrev pub IsPrintableAs : Ended → Answer → Type 0
 IsPrintableAs e Done = CanPrintDone e e.command

@@ -4,7 +4,7 @@ ghost use Rattle.metacli.specs.Answers.{status_of};
 use crate::{Command, Verdicts, WordsFault};
 use alg_model::Alg;
 use meta_base::{List, Which};
-use net_graph::{Net, RouteRow};
+use net_graph::{Change, Net, RouteRow};
 use raml_syntax::ExprFault;
 use topology_file::NetFault;
 
@@ -36,11 +36,14 @@ pub struct Ended {
     pub command: Option<Command>,
     /// The algebra of the expression file, where that was read and means one.
     pub alg: Option<Alg>,
-    /// The network of the network file, where that was read and means one.
+    /// The network of the network file, before its changes, where that was read and means one.
     pub net: Option<Net>,
+    /// The changes of the network file, each one that the network behind those before it may have.
+    pub changes: List<Change>,
     /// The verdicts, where `check` was carried out.
     pub verdicts: Option<Verdicts>,
-    /// The routes, where `route` was carried out: for each destination in order, each node in order.
+    /// The routes, where `route` was carried out, on the network behind all changes: for each destination
+    /// in order, each node in order.
     pub rows: List<RouteRow>,
     /// The answer before anything was written.
     pub decided: Answer,

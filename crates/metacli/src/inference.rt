@@ -1,7 +1,8 @@
-ghost use Rattle.std.specs.Prelude.{◌≤◌, ◌^◌, IfOk};
+ghost use Rattle.std.specs.Prelude.{◌≤◌, ℕ, IfOk};
 ghost use Rattle.alg_model.specs.declared.alg.TheConstants.{MAX_INSTANCE_NUMBER};
 ghost use Rattle.alg_model.specs.Expressions.{add};
 ghost use Rattle.alg_model.specs.Application.{IsLabel};
+ghost use Rattle.alg_model.specs.Bounds.{greatest_number};
 ghost use Rattle.alg_model.specs.Properties.{strict};
 ghost use Rattle.alg_model.specs.Verdicts.{ExactFor, IsExact};
 ghost use Rattle.alg_model.specs.Instances.{VerdictsAtMost, VerdictAtMost};
@@ -14,12 +15,13 @@ use meta_base::NoMemory;
 use std::alloc::Global;
 
 /// The exact verdicts on an additive algebra: a property holds of all its labels, or an instance shows
-/// that one of them lacks it. No number of an instance is above
-/// [`alg_model::MAX_INSTANCE_NUMBER`].
+/// that one of them lacks it. No number of an instance's label is above the greatest of the algebra's
+/// edition, and none of its values above [`alg_model::MAX_INSTANCE_NUMBER`].
 pub fn verdicts(_alloc: Global, alg: &Alg) -> Result<Verdicts, NoMemory>
-    requires { IsPlainAdd alg.now }
-    ensures exact { IfOk result (λ verdicts. ExactFor alg.now (IsLabel alg.now) (pure_verdicts verdicts)) }
-    ensures bound { IfOk result (λ verdicts. VerdictsAtMost MAX_INSTANCE_NUMBER (pure_verdicts verdicts)) }
+    requires { IsPlainAdd alg.now.expression }
+    ensures exact { IfOk result (λ verdicts. ExactFor alg.now.expression (IsLabel alg.now.expression) (pure_verdicts verdicts)) }
+    ensures bound { IfOk result (λ verdicts.
+        VerdictsAtMost (greatest_number alg.now.edition) MAX_INSTANCE_NUMBER (pure_verdicts verdicts)) }
 {
     match alg.tree() {
         Tree::Add { low, high } => Ok(additive_verdicts(*low, *high)),
@@ -31,7 +33,7 @@ pub fn verdicts(_alloc: Global, alg: &Alg) -> Result<Verdicts, NoMemory>
 fn additive_verdicts(low: u64, high: u64) -> Verdicts
     requires { low ≤ high }
     ensures exact { ExactFor (add low high) (IsLabel (add low high)) (pure_verdicts result) }
-    ensures bound { VerdictsAtMost MAX_INSTANCE_NUMBER (pure_verdicts result) }
+    ensures bound { (m : ℕ) → VerdictsAtMost m MAX_INSTANCE_NUMBER (pure_verdicts result) }
 {
     Verdicts {
         monotone: Verdict::Yes,
@@ -47,7 +49,7 @@ fn additive_verdicts(low: u64, high: u64) -> Verdicts
 fn additive_strictness(low: u64, high: u64) -> Verdict
     requires { low ≤ high }
     ensures exact { IsExact strict (add low high) (IsLabel (add low high)) (pure_verdict result) }
-    ensures bound { VerdictAtMost MAX_INSTANCE_NUMBER (pure_verdict result) }
+    ensures bound { (m : ℕ) → VerdictAtMost m MAX_INSTANCE_NUMBER (pure_verdict result) }
 {
     if low == 0 {
         Verdict::No(Instance {

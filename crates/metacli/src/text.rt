@@ -1,6 +1,6 @@
 // The texts that are printed.
 ghost use Rattle.std.specs.Prelude.{◌≡◌, true, map, ◌<◌, ◌≤◌, ◌++◌, ◌^◌, length, codes, decimal, string_bytes, option_copied, OnOk, IfOk};
-ghost use Rattle.meta_base.specs.declared.limits.TheConstants.{MAX_NUMBER};
+ghost use Rattle.alg_model.specs.declared.edition.TheConstants.{MAX_LABEL_NUMBER};
 ghost use Rattle.alg_model.specs.declared.alg.TheConstants.{MAX_VALUE_NUMBER};
 ghost use Rattle.meta_base.specs.Sink.{Puts};
 ghost use Rattle.alg_model.specs.Views.{pure_value, pure_label};
@@ -11,10 +11,10 @@ ghost use Rattle.alg_model.specs.Texts.{value_text, label_text};
 ghost use Rattle.net_graph.specs.Nets.{is_name};
 ghost use Rattle.net_graph.specs.Views.{pure_row};
 ghost use Rattle.net_graph.specs.RowTexts.{AreNodesOf, IsRowOf, node_text, dest_text, path_text, route_text, row_text};
-ghost use Rattle.metacli.specs.Views.{pure_instance, pure_verdict, pure_verdicts};
-ghost use Rattle.metacli.specs.Texts.{CanPrint, CanPrintVerdict, CanPrintVerdicts, image_text, instance_text, verdict_text, verdicts_text, which_text, refusal_text};
+ghost use Rattle.metacli.specs.Views.{pure_property, pure_instance, pure_verdict, pure_verdicts};
+ghost use Rattle.metacli.specs.Texts.{CanPrint, CanPrintVerdict, CanPrintVerdicts, image_text, instance_text, verdict_text, lines_on, verdicts_text, which_text, refusal_text};
 
-use crate::{Answer, Instance, Verdict, Verdicts};
+use crate::{Answer, Instance, Property, Verdict, Verdicts};
 use alg_model::{Alg, Label, Value, apply};
 use meta_base::{DestId, Failed, NoMemory, NodeId, Sink, Text, Which, push_number, put_all};
 use net_graph::{Net, RouteRow};
@@ -30,12 +30,12 @@ fn push_image(
     label: &Label,
     value: &Value,
 ) -> Result<(), NoMemory>
-    requires label { IsLabel alg.now (pure_label label.now) }
-    requires value { In (carrier_of alg.now) (pure_value value.now) }
-    requires small_label { LabelAtMost MAX_NUMBER (pure_label label.now) }
+    requires label { IsLabel alg.now.expression (pure_label label.now) }
+    requires value { In (carrier_of alg.now.expression) (pure_value value.now) }
+    requires small_label { LabelAtMost MAX_LABEL_NUMBER (pure_label label.now) }
     requires small_value { AtMost MAX_VALUE_NUMBER (pure_value value.now) }
     ensures { OnOk result (string_bytes out.new ≡ string_bytes out.old
-        ++ image_text (carrier_of alg.now) (App alg.now (pure_label label.now) (pure_value value.now))) }
+        ++ image_text (carrier_of alg.now.expression) (App alg.now.expression (pure_label label.now) (pure_value value.now))) }
 {
     match apply(alloc, alg, label, value)? {
         Some(image) => push_value(out, alg, &image),
@@ -49,8 +49,8 @@ fn push_instance(
     alg: &Alg,
     instance: &Instance,
 ) -> Result<(), NoMemory>
-    requires { CanPrint alg.now (pure_instance instance.now) }
-    ensures { OnOk result (string_bytes out.new ≡ string_bytes out.old ++ instance_text alg.now (pure_instance instance.now)) }
+    requires { CanPrint alg.now.expression (pure_instance instance.now) }
+    ensures { OnOk result (string_bytes out.new ≡ string_bytes out.old ++ instance_text alg.now.expression (pure_instance instance.now)) }
 {
     push_label(out, alg, &instance.label)?;
     out.push_str(" on ")?;
@@ -75,8 +75,8 @@ fn push_verdict(
     word: &str,
     verdict: &Verdict,
 ) -> Result<(), NoMemory>
-    requires { CanPrintVerdict alg.now (pure_verdict verdict.now) }
-    ensures { OnOk result (string_bytes out.new ≡ string_bytes out.old ++ verdict_text alg.now word.now (pure_verdict verdict.now)) }
+    requires { CanPrintVerdict alg.now.expression (pure_verdict verdict.now) }
+    ensures { OnOk result (string_bytes out.new ≡ string_bytes out.old ++ verdict_text alg.now.expression word.now (pure_verdict verdict.now)) }
 {
     out.push_str(word)?;
     match verdict {
@@ -90,17 +90,34 @@ fn push_verdict(
     Ok(())
 }
 
-// The five lines of the verdicts on an algebra or on labels of it.
+// The lines of the verdicts on these properties.
+fn push_verdicts(
+    alloc: Global,
+    out: &mut String,
+    alg: &Alg,
+    verdicts: &Verdicts,
+    properties: &[Property],
+) -> Result<(), NoMemory>
+    requires { CanPrintVerdicts alg.now.expression (pure_verdicts verdicts.now) }
+    ensures { OnOk result (string_bytes out.new ≡ string_bytes out.old
+        ++ lines_on alg.now.expression (pure_verdicts verdicts.now) (map pure_property properties.now)) }
+{
+    match properties {
+        [] => Ok(()),
+        [property, rest @ ..] => {
+            push_verdict(alloc, out, alg, property.word(), verdicts.on(*property))?;
+            push_verdicts(alloc, out, alg, verdicts, rest)
+        }
+    }
+}
+
+/// The five lines of the verdicts on an algebra or on labels of it.
 pub fn verdict_lines(alloc: Global, alg: &Alg, verdicts: &Verdicts) -> Result<Text, NoMemory>
-    requires { CanPrintVerdicts alg.now (pure_verdicts verdicts.now) }
-    ensures { IfOk result (λ text. text ≡ verdicts_text alg.now (pure_verdicts verdicts.now)) }
+    requires { CanPrintVerdicts alg.now.expression (pure_verdicts verdicts.now) }
+    ensures { IfOk result (λ text. text ≡ verdicts_text alg.now.expression (pure_verdicts verdicts.now)) }
 {
     let mut out = String::new(alloc);
-    push_verdict(alloc, &mut out, alg, "monotone", &verdicts.monotone)?;
-    push_verdict(alloc, &mut out, alg, "strict", &verdicts.strict)?;
-    push_verdict(alloc, &mut out, alg, "isotone", &verdicts.isotone)?;
-    push_verdict(alloc, &mut out, alg, "cancellative", &verdicts.cancellative)?;
-    push_verdict(alloc, &mut out, alg, "total", &verdicts.total)?;
+    push_verdicts(alloc, &mut out, alg, verdicts, &Property::ALL)?;
     Ok(Text::from_string(out))
 }
 
@@ -160,7 +177,7 @@ fn push_route(out: &mut String, net: &Net, row: &RouteRow) -> Result<(), NoMemor
     }
 }
 
-// The line of a row.
+/// The line of a row.
 pub fn row_line(alloc: Global, net: &Net, row: &RouteRow) -> Result<Text, NoMemory>
     requires { IsRowOf net.now (pure_row row.now) }
     ensures { IfOk result (λ text. text ≡ row_text net.now (pure_row row.now)) }
@@ -184,7 +201,7 @@ fn which_word(which: Which) -> &'static str
     }
 }
 
-// The one line of a refusal.
+/// The one line of a refusal.
 pub fn refusal_line(alloc: Global, answer: Answer) -> Result<Text, NoMemory>
     ensures { IfOk result (λ text. text ≡ refusal_text answer) }
 {
@@ -239,7 +256,7 @@ fn line_end(text: &[u8], start: usize) -> usize
     }
 }
 
-// Writes a text, a line at a time.
+/// Writes a text, a line at a time.
 pub fn put_lines<K: Sink>(out: &mut K, text: &[u8]) -> Result<(), Failed>
     ensures { Puts (K.holds out.old) text.now result (K.holds out.new) }
 {

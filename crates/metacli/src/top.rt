@@ -6,10 +6,15 @@ ghost use Rattle.net_graph.specs.RowTexts.{IsRowOf};
 ghost use Rattle.metacli.specs.declared.ended.Answer.TheVariants.{Done, WriteFault};
 ghost use Rattle.metacli.specs.Reading.{Takes, ReadsExpression, ReadsNetwork};
 ghost use Rattle.metacli.specs.Outcome.{IsChecked, IsRouted, IsRoutedTo, IsEnded, word_at};
+ghost use Rattle.metacli.specs.Served.{IsServedFile};
+ghost use Rattle.net_graph.specs.Changes.{AreChanges};
+ghost use Rattle.net_graph.specs.Views.{pure_change};
+ghost use Rattle.raml_syntax.specs.Sequences.{map_ok};
+ghost use Rattle.topology_file.specs.Views.{pure_file};
 ghost use Rattle.metacli.specs.Complete.{IsComplete};
 ghost use Rattle.metacli.specs.Texts.{TextOf, IsPrintable, CanPrintDone, CanPrintTo, Written, done_text, rows_text};
 
-use crate::routes::all_routes;
+use crate::routes::routes_behind;
 use crate::text::{put_lines, refusal_line, row_line, verdict_lines};
 use crate::{Answer, Command, Ended, read_words, verdicts};
 use alg_model::Alg;
@@ -17,13 +22,15 @@ use meta_base::{
     Failed, Gate, List, MAX_FILE_BYTES, NoMemory, Place, Shelf, Sink, TakeError, Text, Which,
     take_all,
 };
-use net_graph::{Net, RouteRow};
+use net_graph::{Change, Net, RouteRow};
 use raml_syntax::{
     AlgError, ExprFault, ExprKind, is_plain_add, no_fault_beside_an_algebra, one_text_one_algebra,
     one_text_one_fault, read_alg,
 };
 use std::alloc::Global;
-use topology_file::{NetError, networks_keep_their_algebra, one_text_one_network, read_net};
+use topology_file::{
+    NetError, NetFile, networks_keep_their_algebra, one_text_one_network, read_net,
+};
 
 /// All that the program does: it reads what the words mean, reads the files that they name, decides,
 /// and writes what was decided.
@@ -75,12 +82,22 @@ fn name_at(words: &[Text], place: usize) -> &str
 
 // The end of a run that was refused before it had an algebra.
 fn refused(alloc: Global, command: Option<Command>, answer: Answer) -> Ended
-    ensures { result ≡ record { command = command; alg = None; net = None; verdicts = None; rows = []; decided = answer; answer = answer } }
+    ensures { result ≡ record {
+      command = command;
+      alg = None;
+      net = None;
+      changes = [];
+      verdicts = None;
+      rows = [];
+      decided = answer;
+      answer = answer;
+    } }
 {
     Ended {
         command,
         alg: None,
         net: None,
+        changes: List::new(alloc),
         verdicts: None,
         rows: List::new(alloc),
         decided: answer,
@@ -102,7 +119,8 @@ fn check<S: Shelf>(
     ensures printable { IsPrintable result }
 {
     let command = Some(Command::Check { file, net });
-    let alg = match read_expression(alloc, shelf, name_at(words, file)) {
+    let name = name_at(words, file);
+    let alg = match read_expression(alloc, shelf, name) {
         Ok(alg) => alg,
         Err(answer) => return refused(alloc, command, answer),
     };
@@ -114,6 +132,7 @@ fn check<S: Shelf>(
         command,
         alg: Some(alg),
         net: None,
+        changes: List::new(alloc),
         verdicts,
         rows: List::new(alloc),
         decided,
@@ -141,31 +160,54 @@ fn route<S: Shelf>(
         Ok(alg) => alg,
         Err(answer) => return refused(alloc, command, answer),
     };
-    let network = read_network(alloc, shelf, &alg, name_at(words, net));
-    let (net, rows, decided) = routed(alloc, network);
+    let file = read_network(alloc, shelf, &alg, name_at(words, net));
+    let routed = route_network(alloc, file);
     Ended {
         command,
         alg: Some(alg),
-        net,
+        net: routed.net,
+        changes: routed.changes,
         verdicts: None,
-        rows,
-        decided,
-        answer: decided,
+        rows: routed.rows,
+        decided: routed.decided,
+        answer: routed.decided,
     }
 }
 
-// The network with its routes, and what was decided.
-fn routed(alloc: Global, network: Result<Net, Answer>) -> (Option<Net>, List<RouteRow>, Answer)
-    requires { IfOk network (λ net. IsPlainAdd net.alg) }
-    ensures routed { IsRoutedTo network result.0 (map pure_row result.1) result.2 }
-    ensures printable { CanPrintTo network result.0 (map pure_row result.1) result.2 }
+// A network with its changes and its routes, and what was decided.
+#[derive(Drop)]
+struct Routed {
+    net: Option<Net>,
+    changes: List<Change>,
+    rows: List<RouteRow>,
+    decided: Answer,
+}
+
+// What comes of a network file.
+fn route_network(alloc: Global, file: Result<NetFile, Answer>) -> Routed
+    requires { IfOk file (λ f. IsServedFile (pure_file f)) }
+    ensures routed { IsRoutedTo (map_ok pure_file file) result.net (map pure_change result.changes) (map pure_row result.rows) result.decided }
+    ensures printable { CanPrintTo (map_ok pure_file file) (map pure_row result.rows) result.decided }
 {
-    match network {
-        Ok(net) => match all_routes(alloc, &net) {
-            Ok(rows) => (Some(net), rows, Answer::Done),
-            Err(NoMemory) => (Some(net), List::new(alloc), Answer::NoMemory),
+    match file {
+        Ok(NetFile { net, changes }) => {
+            let (rows, decided) = match routes_behind(alloc, &net, changes.as_slice()) {
+                Ok(rows) => (rows, Answer::Done),
+                Err(NoMemory) => (List::new(alloc), Answer::NoMemory),
+            };
+            Routed {
+                net: Some(net),
+                changes,
+                rows,
+                decided,
+            }
+        }
+        Err(answer) => Routed {
+            net: None,
+            changes: List::new(alloc),
+            rows: List::new(alloc),
+            decided: answer,
         },
-        Err(answer) => (None, List::new(alloc), answer),
     }
 }
 
@@ -178,7 +220,7 @@ const UNSERVED: ExprFault = ExprFault {
 // The algebra of the expression file of that name, or why there is none.
 fn read_expression<S: Shelf>(alloc: Global, shelf: &mut S, name: &str) -> Result<Alg, Answer>
     ensures reads { ReadsExpression name.now (S.now_is shelf.old) result (S.now_is shelf.new) }
-    ensures plain { IfOk result IsPlainAdd }
+    ensures plain { IfOk result (λ alg. IsPlainAdd alg.expression) }
 {
     let bytes = take_file(alloc, shelf, name, Which::Expr)?;
     match read_alg(alloc, bytes.as_slice()) {
@@ -189,26 +231,34 @@ fn read_expression<S: Shelf>(alloc: Global, shelf: &mut S, name: &str) -> Result
     }
 }
 
-// The network of the network file of that name over the algebra, or why there is none.
+// The network of the network file of that name over the algebra with its changes, or why there is none.
 fn read_network<S: Shelf>(
     alloc: Global,
     shelf: &mut S,
     alg: &Alg,
     name: &str,
-) -> Result<Net, Answer>
-    ensures reads { ReadsNetwork alg.now name.now (S.now_is shelf.old) result (S.now_is shelf.new) }
-    ensures alg { IfOk result (λ net. net.alg ≡ alg.now) }
+) -> Result<NetFile, Answer>
+    ensures reads { ReadsNetwork alg.now name.now (S.now_is shelf.old) (map_ok pure_file result) (S.now_is shelf.new) }
+    ensures alg { IfOk result (λ file. file.net.alg ≡ alg.now) }
+    ensures changes { IfOk result (λ file. AreChanges file.net (map pure_change file.changes)) }
 {
     networks_keep_their_algebra();
     let bytes = take_file(alloc, shelf, name, Which::Network)?;
-    let Ok(alg) = alg.copy_part(alloc, alg.tree()) else {
+    let Ok(alg) = copied(alloc, alg) else {
         return Err(Answer::NoMemory);
     };
     match read_net(alloc, alg, bytes.as_slice()) {
-        Ok(net) => Ok(net),
+        Ok(file) => Ok(file),
         Err(NetError::Bad(fault)) => Err(Answer::BadNet(fault)),
         Err(NetError::NoMemory) => Err(Answer::NoMemory),
     }
+}
+
+// An equal algebra.
+fn copied(alloc: Global, alg: &Alg) -> Result<Alg, NoMemory>
+    ensures { IfOk result (λ copied. copied ≡ alg.now) }
+{
+    alg.copy_part(alloc, alg.tree())
 }
 
 // The bytes of the file of that name, or why they were not taken.

@@ -1,5 +1,5 @@
 -- Names and pairs as keys.
-use Rattle.std.proofs.Common.{◌≡◌, ℕ, List, [], ◌∷◌, ◌++◌, Bool, true, false, cond, ◌||◌, ◌&&◌, eqb, ltb, refl, ap, map, position, Global, ◌+◌, ◌≤◌, length, Some, None, ◌∙◌, not, arith}
+use Rattle.std.proofs.Common.{◌≡◌, ℕ, List, [], ◌∷◌, ◌++◌, false, cond, ◌||◌, ◌&&◌, eqb, refl, ap, map, position, Global, ◌+◌, ◌∙◌, not, arith}
 use Rattle.std.proofs.lemmas.List.{length-map}
 use Rattle.std.proofs.lemmas.Bool.Decides.{nat_tests}
 use Rattle.std.specs.List.{list_any, prefix_len}
@@ -26,21 +26,6 @@ added_key (l ∷ ks) k name e = ap (λ z. l.items ∷ z) (added_key ks k name e)
 pub inserted_key : (ks new : List (Vec ℕ Global)) (k : Vec ℕ Global) (name : List ℕ) → new ≡ cond (list_any (λ y. bytes_eq k.items y.items) ks) ks (ks ++ k ∷ []) → k.items ≡ name → list_any (λ v. bytes_eq name v.items) ks ≡ false → map (λ v. v.items) new ≡ map (λ v. v.items) ks ++ name ∷ []
 inserted_key ks new k name e i absent =
     ap (map (λ (v : Vec ℕ Global). v.items)) (e ∙ ap (λ b. cond b ks (ks ++ k ∷ [])) (ap (λ n. list_any (λ (y : Vec ℕ Global). bytes_eq n y.items) ks) i ∙ absent)) ∙ added_key ks k name i
-
--- where every item was passed over, none passes
-none_in_front : {X : Type 0} (p : X → Bool) (xs : List X) → length xs ≤ prefix_len (λ x. not (p x)) xs → list_any p xs ≡ false
-none_in_front p [] h = refl
-none_in_front p (x ∷ xs) h = by (λ k. none_in_front p xs k) (p x) h
-  where
-    by : (length xs ≤ prefix_len (λ x. not (p x)) xs → list_any p xs ≡ false) → (b : Bool) → length (x ∷ xs) ≤ cond (not b) (1 + prefix_len (λ x. not (p x)) xs) 0 → (b || list_any p xs) ≡ false
-    by more true k = absurd (omega arith)
-    by more false k = more (omega arith)
-
-past_end : (m n : ℕ) → cond (ltb m n) (Some m) None ≡ None → n ≤ m
-past_end m n e = grind (arith, nat_tests)
-
-pub none_passes : {X : Type 0} (p : X → Bool) (xs : List X) → position p xs ≡ None → list_any p xs ≡ false
-none_passes p xs e = none_in_front p xs (past_end (prefix_len (λ x. not (p x)) xs) (length xs) e)
 
 -- a pair is there, whichever side it is compared from
 pub any_pair : (ps : List (ℕ × ℕ)) (a b : ℕ) → list_any (λ p. eqb a p.0 && eqb b p.1) ps ≡ list_any (λ p. eqb p.0 a && eqb p.1 b) ps

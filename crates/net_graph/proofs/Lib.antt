@@ -3,3 +3,4 @@ pub mod GroupLemmas
 pub mod CutLemmas
 pub mod NetLemmas
 pub mod FiledLemmas
+pub mod CopyLemmas

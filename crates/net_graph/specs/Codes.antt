@@ -1,9 +1,10 @@
--- How networks are stored as values of a model: a record as the tuple of its fields.
-use Rattle.std.specs.Prelude.{ℕ, List, refl}
-use Rattle.std.specs.Coded.{Coded, code_by, coded×, coded_list, coded_ℕ}
-use Rattle.alg_model.specs.Expressions.{Expression, PureLabel, PureValue}
-use Rattle.alg_model.specs.Codes.{coded_expression, coded_label, coded_value}
+-- How networks and changes are stored as values of a model: a record as the tuple of its fields.
+use Rattle.std.specs.Prelude.{◌≡◌, ℕ, List, Option, Some, None, refl}
+use Rattle.std.specs.Coded.{Coded, code_by, coded×, coded_list, coded_option, coded_ℕ}
+use Rattle.alg_model.specs.Expressions.{PureAlg, PureLabel, PureValue}
+use Rattle.alg_model.specs.Codes.{coded_alg, coded_label, coded_value}
 use Rattle.net_graph.specs.Nets.{PureArc, PureOrigin, PureNet}
+use Rattle.net_graph.specs.Changes.{PureChange, link, drop}
 
 abbrev pub coded_arc : Coded PureArc
 coded_arc =
@@ -20,7 +21,28 @@ coded_names = coded_list (coded_list coded_ℕ)
 
 abbrev pub coded_net : Coded PureNet
 coded_net =
-    code_by (Expression × (List (List ℕ) × (List (List ℕ) × (List PureArc × List PureOrigin))))
-    (coded× coded_expression (coded× coded_names (coded× coded_names (coded× (coded_list coded_arc) (coded_list coded_origin)))))
+    code_by (PureAlg × (List (List ℕ) × (List (List ℕ) × (List PureArc × List PureOrigin))))
+    (coded× coded_alg (coded× coded_names (coded× coded_names (coded× (coded_list coded_arc) (coded_list coded_origin)))))
     (λ n. (n.alg, (n.nodes, (n.dests, (n.arcs, n.origins)))))
     (λ p. record { alg = p.0; nodes = p.1.0; dests = p.1.1.0; arcs = p.1.1.1.0; origins = p.1.1.1.1 }) (λ _. refl)
+
+-- a change as its nodes, and its label if it has one
+abbrev change_parts : PureChange → ℕ × (ℕ × Option PureLabel)
+change_parts (link tail head l) = (tail, (head, Some l))
+change_parts (drop tail head) = (tail, (head, None))
+
+abbrev change_between : ℕ → ℕ → Option PureLabel → PureChange
+change_between tail head (Some l) = link tail head l
+change_between tail head None = drop tail head
+
+abbrev change_of : ℕ × (ℕ × Option PureLabel) → PureChange
+change_of p = change_between p.0 p.1.0 p.1.1
+
+pub change_again : (c : PureChange) → change_of (change_parts c) ≡ c
+change_again (link tail head l) = refl
+change_again (drop tail head) = refl
+
+abbrev pub coded_change : Coded PureChange
+coded_change =
+    code_by (ℕ × (ℕ × Option PureLabel)) (coded× coded_ℕ (coded× coded_ℕ (coded_option coded_label)))
+    change_parts change_of change_again

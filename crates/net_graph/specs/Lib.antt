@@ -1,5 +1,11 @@
+pub mod Limits
 pub mod Nets
 pub mod Lines
+pub mod NetLaws
+pub mod Changes
+pub mod ChangeLaws
+pub mod ChangeSteps
+pub mod Laws
 pub mod Routes
 pub mod Walks
 pub mod Tables
@@ -8,6 +14,8 @@ pub mod Codes
 pub mod Groups
 pub mod Cuts
 pub mod Dests
+pub mod Pairs
 pub mod Parts
+pub mod Drafts
 pub mod NetParts
 pub mod RowTexts

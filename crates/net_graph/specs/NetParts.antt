@@ -1,17 +1,18 @@
 -- What a network's parts stand for, and what holds of them.
 use Rattle.net_graph.specs.Nets.{PureNet}
 use Rattle.net_graph.specs.Groups.{items_at}
-use Rattle.net_graph.specs.Parts.{net_from, IsKnown, IsFiled}
+use Rattle.net_graph.specs.Parts.{IsKnown, IsFiled}
+use Rattle.net_graph.specs.Drafts.{net_with}
 use Rattle.net_graph.specs.declared.filed.FiledLines.{FiledLines}
 use Rattle.net_graph.specs.declared.net.Net.TheInside.{Inside}
 use Rattle.net_graph.specs.declared.parts.Known.{Known}
 
 -- the network that is known by these names and pairs, and whose lines are filed so
 abbrev pub net_in : Known → FiledLines → PureNet
-net_in known lines = net_from known.alg known.nodes known.dests (items_at lines.out.groups lines.out.spots.items) (items_at lines.homes.groups lines.homes.spots.items)
+net_in known lines = net_with known (items_at lines.out.groups lines.out.spots.items) (items_at lines.homes.groups lines.homes.spots.items)
 
 abbrev pub net_of : Inside → PureNet
-net_of n = net_from n.known.alg n.known.nodes n.known.dests (items_at n.out n.arc_spots.items) (items_at n.homes n.origin_spots.items)
+net_of n = net_with n.known (items_at n.out n.arc_spots.items) (items_at n.homes n.origin_spots.items)
 
 pub record IsWhole (n : Inside) : Type 0 where
   pub known : IsKnown (net_of n) n.known.arc_pairs n.known.origin_pairs

@@ -2,12 +2,13 @@
 use Rattle.std.specs.Prelude.{◌≡◌, ℕ, ◌+◌, ◌<◌, ◌≤◌, List, [], ◌∷◌, Bool, true, false, ◌==◌, ◌&&◌, ◌||◌, nat_le, Option, option_map, length, filter, find, position}
 use Rattle.std.specs.List.{list_any, list_all, AllByRecursion}
 use Rattle.std.specs.Str.{bytes_eq}
-use Rattle.meta_base.specs.declared.limits.TheConstants.{MAX_NUMBER}
-use Rattle.alg_model.specs.Expressions.{Expression, PureLabel, PureValue}
+use Rattle.net_graph.specs.declared.limits.TheConstants.{MAX_ARCS}
+use Rattle.net_graph.specs.Limits.{max_nodes, max_dests}
+use Rattle.alg_model.specs.Expressions.{PureAlg, PureLabel, PureValue}
 use Rattle.alg_model.specs.Carriers.{carrier_of, In}
 use Rattle.alg_model.specs.Application.{IsLabel}
-use Rattle.alg_model.specs.Bounds.{AtMost, LabelAtMost}
-use Rattle.alg_model.specs.Formation.{IsFormed}
+use Rattle.alg_model.specs.Bounds.{AtMost, LabelAtMost, greatest_number}
+use Rattle.alg_model.specs.Formation.{IsAlg}
 
 -- an arc: its tail may route by its head, so the tail listens and the head speaks
 pub record PureArc : Type 0 where
@@ -24,7 +25,7 @@ pub record PureOrigin : Type 0 where
 
 -- the names of nodes and destinations in order of first sight; arcs and origins in file order
 pub record PureNet : Type 0 where
-  pub alg : Expression
+  pub alg : PureAlg
   pub nodes : List (List ℕ)
   pub dests : List (List ℕ)
   pub arcs : List PureArc
@@ -67,16 +68,6 @@ origin_value net dest node = option_map (λ (o : PureOrigin). o.value) (find (is
 abbrev pub number_of : List (List ℕ) → List ℕ → Option ℕ
 number_of names name = position (λ n. bytes_eq name n) names
 
--- the most nodes, arcs and destinations
-abbrev pub max_nodes : ℕ
-max_nodes = 512
-
-abbrev pub max_arcs : ℕ
-max_arcs = 8192
-
-abbrev pub max_dests : ℕ
-max_dests = 64
-
 -- a byte of a name: an ASCII letter or digit, or one of _ - .
 abbrev pub is_name_byte : ℕ → Bool
 is_name_byte c = (nat_le 97 c && nat_le c 122) || (nat_le 65 c && nat_le c 90) || (nat_le 48 c && nat_le c 57) || c == 95 || c == 45 || c == 46
@@ -85,19 +76,20 @@ is_name_byte c = (nat_le 97 c && nat_le c 122) || (nat_le 65 c && nat_le c 90) |
 abbrev pub is_name : List ℕ → Bool
 is_name name = nat_le 1 (length name) && nat_le (length name) 32 && list_all is_name_byte name
 
--- what holds of an arc, and of an origin, in a network of so many nodes and destinations
-pub record IsArcOf (alg : Expression) (nodes : ℕ) (a : PureArc) : Type 0 where
+-- what holds of an arc, and of an origin, in a network over the algebra of so many nodes and destinations:
+-- labels and values are the algebra's, and their numbers those of a text of its edition
+pub record IsArcOf (alg : PureAlg) (nodes : ℕ) (a : PureArc) : Type 0 where
   pub tail_in : a.tail < nodes
   pub head_in : a.head < nodes
   pub apart : (a.tail == a.head) ≡ false
-  pub label_in : IsLabel alg a.label
-  pub bound : LabelAtMost MAX_NUMBER a.label
+  pub label_in : IsLabel alg.expression a.label
+  pub bound : LabelAtMost (greatest_number alg.edition) a.label
 
-pub record IsOriginOf (alg : Expression) (nodes dests : ℕ) (o : PureOrigin) : Type 0 where
+pub record IsOriginOf (alg : PureAlg) (nodes dests : ℕ) (o : PureOrigin) : Type 0 where
   pub node_in : o.node < nodes
   pub dest_in : o.dest < dests
-  pub value_in : In (carrier_of alg) o.value
-  pub bound : AtMost MAX_NUMBER o.value
+  pub value_in : In (carrier_of alg.expression) o.value
+  pub bound : AtMost (greatest_number alg.edition) o.value
 
 -- no item of the list passes the test with an earlier one
 abbrev pub AreDistinct : {X : Type 0} → (X → X → Bool) → List X → Type 0
@@ -118,10 +110,10 @@ stands_same o q = o.dest == q.dest && o.node == q.node
 -- the rules of a network: names are told apart, no two arcs join one ordered pair of nodes and none a
 -- node to itself, no node has two origins of a destination, and all is within its bounds
 pub record IsNet (net : PureNet) : Type 0 where
-  pub formed : IsFormed net.alg
-  pub node_room : length net.nodes ≤ max_nodes
-  pub arc_room : length net.arcs ≤ max_arcs
-  pub dest_room : length net.dests ≤ max_dests
+  pub is_alg : IsAlg net.alg
+  pub node_room : length net.nodes ≤ max_nodes net.alg.edition
+  pub arc_room : length net.arcs ≤ MAX_ARCS
+  pub dest_room : length net.dests ≤ max_dests net.alg.edition
   pub node_names : AllByRecursion (λ n. is_name n ≡ true) net.nodes
   pub dest_names : AllByRecursion (λ n. is_name n ≡ true) net.dests
   pub node_apart : AreDistinct (λ m n. bytes_eq m n) net.nodes

@@ -1,7 +1,7 @@
 -- The parts that a network is made of.
 use Rattle.std.specs.Prelude.{◌≡◌, ℕ, List, map, length}
 use Rattle.meta_base.specs.declared.ids.ArcId.{ArcId}
-use Rattle.alg_model.specs.Expressions.{Expression}
+use Rattle.alg_model.specs.Expressions.{PureAlg}
 use Rattle.net_graph.specs.Nets.{PureArc, PureOrigin, PureNet, IsNet, arcs_from, arcs_to, origins_of}
 use Rattle.net_graph.specs.Views.{pure_arc, pure_origin}
 use Rattle.net_graph.specs.Groups.{group_at, items_at, StandAt}
@@ -9,7 +9,7 @@ use Rattle.net_graph.specs.declared.parts.Arc.{Arc}
 use Rattle.net_graph.specs.declared.parts.Origin.{Origin}
 use Rattle.net_graph.specs.declared.groups.Spot.{Spot}
 
-abbrev pub net_from : Expression → List (List ℕ) → List (List ℕ) → List Arc → List Origin → PureNet
+abbrev pub net_from : PureAlg → List (List ℕ) → List (List ℕ) → List Arc → List Origin → PureNet
 net_from a nodes dests arcs origins = record { alg = a; nodes = nodes; dests = dests; arcs = map pure_arc arcs; origins = map pure_origin origins }
 
 -- the pair of nodes that an arc joins; the destination and the node of an origin

@@ -13,7 +13,7 @@ use Rattle.net_graph.specs.Walks.{Walk, Weight, along}
 
 -- the labels on all arcs have the property
 abbrev pub NetHas : PureProperty → PureNet → Type 0
-NetHas p net = AllByRecursion (λ (a : PureArc). Has p net.alg a.label) net.arcs
+NetHas p net = AllByRecursion (λ (a : PureArc). Has p net.alg.expression a.label) net.arcs
 
 -- a node's route for a destination, or none
 pub record PureRow : Type 0 where
@@ -22,7 +22,7 @@ pub record PureRow : Type 0 where
   pub route : Option PureRoute
 
 abbrev pub carrier : PureNet → PureCarrier
-carrier net = carrier_of net.alg
+carrier net = carrier_of net.alg.expression
 
 -- a node's route in a table, if it has one
 abbrev pub route_at : List PureRow → ℕ → Option PureRoute
@@ -75,41 +75,46 @@ is_among nodes i = list_any (λ j. j == i) nodes
 abbrev pub IsOwnOffer : PureNet → ℕ → ℕ → PureRoute → Type 0
 IsOwnOffer net dest i r = (origin_value net dest i ≡ Some r.value) × (r.path ≡ i ∷ [])
 
--- what an arc to j makes of the route of j, where that is a value and the path of j doesn't pass i
-pub record IsOfferBy (net : PureNet) (table : List PureRow) (i j : ℕ) (r : PureRoute) : Type 0 where
+-- what was told of a node's route, if it has one: a table's rows tell it, and so does what a node heard
+abbrev pub Told : Type 0
+Told = ℕ → Option PureRoute
+
+-- what an arc to j makes of the route that is told of j, where that is a value and the path of j
+-- doesn't pass i
+pub record IsOfferBy (net : PureNet) (told : Told) (i j : ℕ) (r : PureRoute) : Type 0 where
   pub next : PureRoute
-  pub told : route_at table j ≡ Some next
+  pub is_told : told j ≡ Some next
   pub weighs : along net i j (Some next.value) ≡ Some r.value
   pub loopless : is_among next.path i ≡ false
   pub path : r.path ≡ i ∷ next.path
 
 -- an offer to i made by its own origin or by one of these nodes
-abbrev pub IsOfferFrom : PureNet → ℕ → List PureRow → List ℕ → ℕ → PureRoute → Type 0
-IsOfferFrom net dest table nodes i r = IsOwnOffer net dest i r ⊎ ((j : ℕ) × (is_among nodes j ≡ true) × IsOfferBy net table i j r)
+abbrev pub IsOfferFrom : PureNet → ℕ → Told → List ℕ → ℕ → PureRoute → Type 0
+IsOfferFrom net dest told nodes i r = IsOwnOffer net dest i r ⊎ ((j : ℕ) × (is_among nodes j ≡ true) × IsOfferBy net told i j r)
 
 -- an offer to i for the destination
-abbrev pub Offers : PureNet → ℕ → List PureRow → ℕ → PureRoute → Type 0
-Offers net dest table i r = IsOwnOffer net dest i r ⊎ ((j : ℕ) × IsOfferBy net table i j r)
+abbrev pub Offers : PureNet → ℕ → Told → ℕ → PureRoute → Type 0
+Offers net dest told i r = IsOwnOffer net dest i r ⊎ ((j : ℕ) × IsOfferBy net told i j r)
 
--- the row is the offer that no other is better than, or none where there is no offer
-abbrev pub IsChoice : PureNet → ℕ → List PureRow → ℕ → Option PureRoute → Type 0
-IsChoice net dest table i (Some r) = Offers net dest table i r × ((s : PureRoute) → Offers net dest table i s → ¬ Better (carrier net) s r)
-IsChoice net dest table i None = (r : PureRoute) → ¬ Offers net dest table i r
+-- the choice is the offer that no other is better than, or none where there is no offer
+abbrev pub IsChoice : PureNet → ℕ → Told → ℕ → Option PureRoute → Type 0
+IsChoice net dest told i (Some r) = Offers net dest told i r × ((s : PureRoute) → Offers net dest told i s → ¬ Better (carrier net) s r)
+IsChoice net dest told i None = (r : PureRoute) → ¬ Offers net dest told i r
 
--- each row is its node's choice
+-- each row is its node's choice from what the table tells
 pub record Stable (net : PureNet) (dest : ℕ) (table : List PureRow) : Type 0 where
   pub table_of : TableOf net dest table
-  pub choices : (i : ℕ) → i < length net.nodes → IsChoice net dest table i (route_at table i)
+  pub choices : (i : ℕ) → i < length net.nodes → IsChoice net dest (route_at table) i (route_at table i)
 
 -- The nodes with a route, in the order in which they are fixed behind those before: each one's row is
 -- an offer made by its own origin or by nodes before it, and no such offer to a node that isn't before
 -- it is better. The nodes that are left have no route and no offer.
 abbrev pub AreFixed : PureNet → ℕ → List PureRow → List ℕ → List ℕ → Type 0
 AreFixed net dest table before [] = (i : ℕ) → i < length net.nodes → is_among before i ≡ false
-    → (route_at table i ≡ None) × ((r : PureRoute) → ¬ IsOfferFrom net dest table before i r)
+    → (route_at table i ≡ None) × ((r : PureRoute) → ¬ IsOfferFrom net dest (route_at table) before i r)
 AreFixed net dest table before (i ∷ order) = (i < length net.nodes) × (is_among before i ≡ false)
-    × ((r : PureRoute) × (route_at table i ≡ Some r) × IsOfferFrom net dest table before i r
-    × ((k : ℕ) (s : PureRoute) → k < length net.nodes → is_among before k ≡ false → IsOfferFrom net dest table before k s → ¬ Better (carrier net) s r))
+    × ((r : PureRoute) × (route_at table i ≡ Some r) × IsOfferFrom net dest (route_at table) before i r
+    × ((k : ℕ) (s : PureRoute) → k < length net.nodes → is_among before k ≡ false → IsOfferFrom net dest (route_at table) before k s → ¬ Better (carrier net) s r))
     × AreFixed net dest table (i ∷ before) order
 
 -- the table is made best first

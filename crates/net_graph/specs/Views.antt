@@ -7,6 +7,9 @@ use Rattle.net_graph.specs.declared.route.Route.{Route}
 use Rattle.net_graph.specs.declared.route.RouteRow.{RouteRow}
 use Rattle.net_graph.specs.declared.route.DestTable.{DestTable}
 use Rattle.net_graph.specs.Nets.{PureArc, PureOrigin}
+use Rattle.net_graph.specs.declared.change.Change.{Change}
+use Rattle.net_graph.specs.declared.change.Change.TheVariants as change
+use Rattle.net_graph.specs.Changes.{PureChange, link, drop}
 use Rattle.net_graph.specs.Routes.{PureRoute}
 use Rattle.net_graph.specs.Tables.{PureRow}
 
@@ -15,6 +18,10 @@ pure_arc a = record { id = a.id.0; tail = a.tail.0; head = a.head.0; label = pur
 
 abbrev pub pure_origin : Origin → PureOrigin
 pure_origin o = record { node = o.node.0; dest = o.dest.0; value = pure_value o.value }
+
+abbrev pub pure_change : Change → PureChange
+pure_change (change.Link tail head l) = link tail.0 head.0 (pure_label l)
+pure_change (change.Drop tail head) = drop tail.0 head.0
 
 abbrev pub pure_route : Route → PureRoute
 pure_route r = record { value = pure_value r.value; path = map (λ n. n.0) r.path }

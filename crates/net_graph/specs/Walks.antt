@@ -12,7 +12,7 @@ Walk net dest (i ∷ j ∷ p) = (has_arc net i j ≡ true) × Walk net dest (j �
 
 -- what the arc from i to j makes of a value or none
 abbrev pub along : PureNet → ℕ → ℕ → Option PureValue → Option PureValue
-along net i j v = option_and_then (λ l. option_and_then (App net.alg l) v) (label_between net i j)
+along net i j v = option_and_then (λ l. option_and_then (App net.alg.expression l) v) (label_between net i j)
 
 -- the origin's value, changed by the labels of the arcs from the last to the first; none once a label
 -- gives none

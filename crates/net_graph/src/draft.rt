@@ -1,18 +1,19 @@
-ghost use Rattle.std.specs.Prelude.{◌≡◌, ◌≢◌, ◌<◌, Some, None, true, false, length, option_map, IfOk, IfSome, OnOk, OnErr};
-ghost use Rattle.meta_base.specs.declared.limits.TheConstants.{MAX_NUMBER};
+ghost use Rattle.std.specs.Prelude.{◌≡◌, ◌≢◌, ◌<◌, ◌≤◌, Some, None, true, false, length, option_map, IfOk, IfSome, OnOk, OnErr};
 ghost use Rattle.alg_model.specs.Views.{pure_value, pure_label};
 ghost use Rattle.alg_model.specs.Carriers.{carrier_of, In};
 ghost use Rattle.alg_model.specs.Application.{IsLabel};
-ghost use Rattle.alg_model.specs.Bounds.{AtMost, LabelAtMost};
-ghost use Rattle.net_graph.specs.Nets.{IsNet, number_of, has_arc, has_origin, is_name, max_nodes, max_arcs, max_dests};
-ghost use Rattle.net_graph.specs.Lines.{empty_net, with_node, with_arc, with_origin};
+ghost use Rattle.alg_model.specs.Bounds.{AtMost, LabelAtMost, greatest_number};
+ghost use Rattle.net_graph.specs.Nets.{IsNet, number_of, has_arc, has_origin, is_name};
+ghost use Rattle.net_graph.specs.Limits.{max_nodes, max_dests};
+ghost use Rattle.net_graph.specs.declared.limits.TheConstants.{MAX_ARCS, MAX_NODES_TWO, MAX_DESTS_ONE};
+ghost use Rattle.net_graph.specs.Lines.{empty_net, with_node, with_arc, with_dest, with_origin, with_origin_at};
 
 use crate::filed::file_lines;
 use crate::names::Names;
 use crate::pairs::Pairs;
 use crate::parts::Known;
 use crate::{Arc, Net, Origin};
-use alg_model::{Alg, Label, Value};
+use alg_model::{Alg, Edition, Label, Value};
 use meta_base::{ArcId, DestId, NoMemory, NodeId};
 use std::alloc::Global;
 use std::marker::Model;
@@ -35,20 +36,22 @@ impl Model for NetDraft {
 
     ghost coded = { coded_net };
 
-    ghost use Rattle.net_graph.specs.Parts.{net_from, IsKnown};
+    ghost use Rattle.net_graph.specs.Drafts.{net_with, IsDraft};
 
-    ghost view = { λ d. net_from d.known.alg d.known.nodes d.known.dests d.arcs.items d.origins.items };
+    ghost view = { λ d. net_with d.known d.arcs.items d.origins.items };
 
-    ghost invariant = { λ d. IsKnown (net_from d.known.alg d.known.nodes d.known.dests d.arcs.items d.origins.items) d.known.arc_pairs d.known.origin_pairs };
+    ghost invariant = { λ d. IsDraft d.known d.arcs.items d.origins.items };
 }
 
 impl NetDraft {
+    ghost use Rattle.net_graph.specs.Drafts.{net_with, IsDraft};
+
     /// The network of the algebra with no node, arc or origin. It takes no memory before something is
     /// added.
     pub fn new(alloc: Global, alg: Alg) -> NetDraft
         ensures { result ≡ empty_net alg }
     {
-        // To look at the tree is to know that it is formed.
+        // To look at the tree is to know that the algebra meets its rules.
         let _ = alg.tree();
         NetDraft {
             alloc,
@@ -64,13 +67,31 @@ impl NetDraft {
         }
     }
 
+    // The draft of these parts.
+    pub(crate) fn from_parts(
+        alloc: Global,
+        known: Known,
+        arcs: Vec<Arc>,
+        origins: Vec<Origin>,
+    ) -> NetDraft
+        requires { IsDraft known arcs.items origins.items }
+        ensures { result ≡ net_with known arcs.items origins.items }
+    {
+        NetDraft {
+            alloc,
+            known,
+            arcs,
+            origins,
+        }
+    }
+
     /// Adds a node of that name, with the next number. The name is 1 to 32 letters, digits and bytes
-    /// of `_-.`, no other node has it, and there are fewer than 512 nodes. After a refusal the draft is
-    /// as it was.
+    /// of `_-.`, no other node has it, and there are fewer nodes than [`crate::max_nodes`] of the edition.
+    /// After a refusal the draft is as it was.
     pub fn add_node(&mut self, name: &[u8]) -> Result<(), NoMemory>
         requires name { is_name name.now ≡ true }
         requires absent { number_of self.old.nodes name.now ≡ None }
-        requires room { length self.old.nodes < max_nodes }
+        requires room { length self.old.nodes < max_nodes self.old.alg.edition }
         ensures ok { OnOk result (self.new ≡ with_node self.old name.now) }
         ensures err { OnErr result (self.new ≡ self.old) }
     {
@@ -79,16 +100,17 @@ impl NetDraft {
     }
 
     /// Adds an arc, with the next number. Both are nodes and differ, no arc joins them in this
-    /// direction, the label is the algebra's with no number above [`meta_base::MAX_NUMBER`], and there
-    /// are fewer than 8,192 arcs. After a refusal the draft is as it was, and the label is dropped.
+    /// direction, the label is the algebra's with numbers that a text of its edition may hold
+    /// ([`alg_model::Edition::greatest_number`]), and there are fewer than [`crate::MAX_ARCS`] arcs. After a
+    /// refusal the draft is as it was, and the label is dropped.
     pub fn add_arc(&mut self, tail: NodeId, head: NodeId, label: Label) -> Result<(), NoMemory>
         requires tail { tail.0 < length self.old.nodes }
         requires head { head.0 < length self.old.nodes }
         requires apart { tail.0 ≢ head.0 }
         requires absent { has_arc self.old tail.0 head.0 ≡ false }
-        requires label { IsLabel self.old.alg (pure_label label) }
-        requires small { LabelAtMost MAX_NUMBER (pure_label label) }
-        requires room { length self.old.arcs < max_arcs }
+        requires label { IsLabel self.old.alg.expression (pure_label label) }
+        requires small { LabelAtMost (greatest_number self.old.alg.edition) (pure_label label) }
+        requires room { length self.old.arcs < MAX_ARCS }
         ensures ok { OnOk result (self.new ≡ with_arc self.old tail.0 head.0 (pure_label label)) }
         ensures err { OnErr result (self.new ≡ self.old) }
     {
@@ -105,23 +127,61 @@ impl NetDraft {
         Ok(())
     }
 
+    /// Adds a destination of that name without an origin, with the next number. The name is 1 to 32
+    /// letters, digits and bytes of `_-.`, no other destination has it, and there are fewer than
+    /// [`crate::max_dests`] of the edition. After a refusal the draft is as it was.
+    pub fn add_dest(&mut self, name: &[u8]) -> Result<(), NoMemory>
+        requires name { is_name name.now ≡ true }
+        requires absent { number_of self.old.dests name.now ≡ None }
+        requires room { length self.old.dests < max_dests self.old.alg.edition }
+        ensures ok { OnOk result (self.new ≡ with_dest self.old name.now) }
+        ensures err { OnErr result (self.new ≡ self.old) }
+    {
+        self.known.dests.add(self.alloc, name)?;
+        Ok(())
+    }
+
     /// Adds an origin of the destination of that name, which gets the next number where it is new.
     /// The name is 1 to 32 letters, digits and bytes of `_-.`, `node` is a node with no origin of the
-    /// destination, the value is the algebra's with no number above [`meta_base::MAX_NUMBER`], and
-    /// where the destination is new there are fewer than 64. After a refusal the draft is as it was,
-    /// and the value is dropped.
+    /// destination, the value is the algebra's with numbers that a text of its edition may hold
+    /// ([`alg_model::Edition::greatest_number`]), and where the destination is new there are fewer than
+    /// [`crate::max_dests`] of the edition. After a refusal the draft is as it was, and the value is dropped.
     pub fn add_origin(&mut self, dest: &[u8], node: NodeId, value: Value) -> Result<(), NoMemory>
         requires name { is_name dest.now ≡ true }
         requires node { node.0 < length self.old.nodes }
         requires absent { IfSome (number_of self.old.dests dest.now) (λ d. has_origin self.old d node.0 ≡ false) }
-        requires value { In (carrier_of self.old.alg) (pure_value value) }
-        requires small { AtMost MAX_NUMBER (pure_value value) }
-        requires room { number_of self.old.dests dest.now ≡ None → length self.old.dests < max_dests }
+        requires value { In (carrier_of self.old.alg.expression) (pure_value value) }
+        requires small { AtMost (greatest_number self.old.alg.edition) (pure_value value) }
+        requires room { number_of self.old.dests dest.now ≡ None →
+            length self.old.dests < max_dests self.old.alg.edition }
         ensures ok { OnOk result (self.new ≡ with_origin self.old dest.now node.0 (pure_value value)) }
         ensures err { OnErr result (self.new ≡ self.old) }
     {
         self.origins.reserve(1)?;
         let dest = self.known.add_origin(self.alloc, dest, node)?;
+        self.origins.push(Origin { node, dest, value }).unwrap();
+        Ok(())
+    }
+
+    /// Adds an origin of the destination, which is there. `node` is a node with no origin of it, and the
+    /// value is as for [`NetDraft::add_origin`]. After a refusal the draft is as it was, and the value is
+    /// dropped.
+    pub fn add_origin_of(
+        &mut self,
+        dest: DestId,
+        node: NodeId,
+        value: Value,
+    ) -> Result<(), NoMemory>
+        requires dest { dest.0 < length self.old.dests }
+        requires node { node.0 < length self.old.nodes }
+        requires absent { has_origin self.old dest.0 node.0 ≡ false }
+        requires value { In (carrier_of self.old.alg.expression) (pure_value value) }
+        requires small { AtMost (greatest_number self.old.alg.edition) (pure_value value) }
+        ensures ok { OnOk result (self.new ≡ with_origin_at self.old dest.0 node.0 (pure_value value)) }
+        ensures err { OnErr result (self.new ≡ self.old) }
+    {
+        self.origins.reserve(1)?;
+        self.known.origin_pairs.add(dest.0, node.0)?;
         self.origins.push(Origin { node, dest, value }).unwrap();
         Ok(())
     }
@@ -153,15 +213,26 @@ impl NetDraft {
         &self.known.alg
     }
 
-    /// How many nodes there are, at most 512.
+    /// The edition of the algebra, which says how large the network may be. It takes no memory.
+    pub fn edition(&self) -> Edition
+        ensures edition { result ≡ self.now.alg.edition }
+        ensures net { IsNet self.now }
+    {
+        self.known.alg.edition()
+    }
+
+    /// How many nodes there are, at most [`crate::max_nodes`] of the edition, and at most
+    /// [`crate::MAX_NODES_TWO`] in any.
+    #[tactic(auto, using(crate::specs::NetLaws::few_nodes))]
     pub fn node_count(&self) -> usize
         ensures count { result ≡ length self.now.nodes }
+        ensures few { result ≤ MAX_NODES_TWO }
         ensures net { IsNet self.now }
     {
         self.known.nodes.count()
     }
 
-    /// How many arcs there are, at most 8,192.
+    /// How many arcs there are, at most [`crate::MAX_ARCS`].
     pub fn arc_count(&self) -> usize
         ensures count { result ≡ length self.now.arcs }
         ensures net { IsNet self.now }
@@ -169,9 +240,13 @@ impl NetDraft {
         self.arcs.len()
     }
 
-    /// How many destinations there are, at most 64.
+    /// How many destinations there are, at most [`crate::max_dests`] of the edition, and at most
+    /// [`crate::MAX_DESTS_ONE`] in any.
+    #[tactic(auto, using(crate::specs::NetLaws::few_dests))]
     pub fn dest_count(&self) -> usize
-        ensures { result ≡ length self.now.dests }
+        ensures count { result ≡ length self.now.dests }
+        ensures few { result ≤ MAX_DESTS_ONE }
+        ensures net { IsNet self.now }
     {
         self.known.dests.count()
     }
@@ -192,7 +267,8 @@ impl NetDraft {
 
     /// There is an arc from `tail` to `head`.
     pub fn has_arc(&self, tail: NodeId, head: NodeId) -> bool
-        ensures { result ≡ has_arc self.now tail.0 head.0 }
+        ensures there { result ≡ has_arc self.now tail.0 head.0 }
+        ensures net { IsNet self.now }
     {
         self.known.arc_pairs.contains(tail.0, head.0)
     }

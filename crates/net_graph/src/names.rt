@@ -1,4 +1,4 @@
-ghost use Rattle.std.specs.Prelude.{◌≡◌, ◌<◌, ◌^◌, ◌++◌, ◌∷◌, [], ℕ, List, Some, None, length, slice_get, OnOk, OnErr};
+ghost use Rattle.std.specs.Prelude.{◌≡◌, ◌<◌, ◌^◌, ◌++◌, ◌∷◌, [], ℕ, List, Some, None, length, slice_get, IfOk, OnOk, OnErr};
 ghost use Rattle.net_graph.specs.Nets.{number_of};
 
 use indexmap::IndexSet;
@@ -64,6 +64,15 @@ impl Names {
     {
         self.names.insert(Vec::from_slice(alloc, name)?)?;
         Ok(())
+    }
+
+    // The same names.
+    pub fn copy(&self) -> Result<Names, NoMemory>
+        ensures { IfOk result (λ copied. copied ≡ self.now) }
+    {
+        Ok(Names {
+            names: self.names.clone()?,
+        })
     }
 
     // Drops the last name.

@@ -1,17 +1,21 @@
-ghost use Rattle.std.specs.Prelude.{◌≡◌, ◌<◌, Some, map, length, slice_get, option_map};
-ghost use Rattle.net_graph.specs.Nets.{IsNet, number_of, has_arc, has_origin, arcs_from, arcs_to, origins_of};
+ghost use Rattle.std.specs.Prelude.{◌≡◌, ◌<◌, ◌≤◌, Some, true, map, length, slice_get, option_map, IfOk};
+ghost use Rattle.std.specs.List.{AllByRecursion};
+ghost use Rattle.net_graph.specs.declared.limits.TheConstants.{MAX_NODES_TWO, MAX_DESTS_ONE};
+ghost use Rattle.net_graph.specs.Nets.{IsNet, IsArcOf, IsOriginOf, is_name, number_of, has_arc, has_origin, arcs_from, arcs_to, origins_of};
 
+use crate::change::{Change, changed_arcs};
 use crate::filed::FiledLines;
 use crate::groups::{Groups, Spot};
 use crate::parts::Known;
-use crate::{Arc, Origin};
-use alg_model::Alg;
-use meta_base::{ArcId, DestId, NodeId};
+use crate::{Arc, NetDraft, Origin};
+use alg_model::{Alg, Edition};
+use meta_base::{ArcId, DestId, NoMemory, NodeId};
+use std::alloc::Global;
 use std::marker::Model;
 
 /// A network: an algebra, nodes, destinations, arcs and origins. Contracts see the lists of these, and
-/// each network meets its rules. No call takes memory, and every id that a call is given is below the
-/// count of its kind.
+/// each network meets its rules. Only [`Net::changed`] takes memory, and every id that a call is given
+/// is below the count of its kind.
 #[derive(Drop)]
 pub struct Net {
     known: Known,
@@ -26,6 +30,7 @@ pub struct Net {
 }
 
 impl Model for Net {
+    ghost use Rattle.std.specs.List.{AllByRecursion};
     ghost use Rattle.net_graph.specs.Nets.{PureNet};
     ghost use Rattle.net_graph.specs.Codes.{coded_net};
 
@@ -41,14 +46,16 @@ impl Model for Net {
 }
 
 impl Net {
-    ghost use Rattle.net_graph.specs.Views.{pure_arc, pure_origin};
+    ghost use Rattle.net_graph.specs.Views.{pure_arc, pure_origin, pure_change};
+    ghost use Rattle.net_graph.specs.Changes.{changed, MayChange};
     ghost use Rattle.net_graph.specs.Parts.{IsKnown, IsFiled};
     ghost use Rattle.net_graph.specs.NetParts.{net_in};
 
     // The network of these parts.
     pub(crate) fn from_parts(known: Known, lines: FiledLines) -> Net
         requires known { IsKnown (net_in known lines) known.arc_pairs known.origin_pairs }
-        requires filed { IsFiled (net_in known lines) lines.out.groups lines.out.spots.items lines.heard lines.homes.groups lines.homes.spots.items }
+        requires filed { IsFiled (net_in known lines)
+            lines.out.groups lines.out.spots.items lines.heard lines.homes.groups lines.homes.spots.items }
         ensures { result ≡ net_in known lines }
     {
         Net {
@@ -63,20 +70,32 @@ impl Net {
 
     /// Lends the algebra.
     pub fn alg(&self) -> &Alg
-        ensures { result.now ≡ self.now.alg }
+        ensures alg { result.now ≡ self.now.alg }
+        ensures net { IsNet self.now }
     {
         &self.known.alg
     }
 
-    /// How many nodes there are, at most 512.
+    /// The edition of the algebra, which says how large the network may be. It takes no memory.
+    pub fn edition(&self) -> Edition
+        ensures edition { result ≡ self.now.alg.edition }
+        ensures net { IsNet self.now }
+    {
+        self.known.alg.edition()
+    }
+
+    /// How many nodes there are, at most [`crate::max_nodes`] of the edition, and at most
+    /// [`crate::MAX_NODES_TWO`] in any.
+    #[tactic(auto, using(crate::specs::NetLaws::few_nodes))]
     pub fn node_count(&self) -> usize
         ensures count { result ≡ length self.now.nodes }
+        ensures few { result ≤ MAX_NODES_TWO }
         ensures net { IsNet self.now }
     {
         self.known.nodes.count()
     }
 
-    /// How many arcs there are, at most 8,192.
+    /// How many arcs there are, at most [`crate::MAX_ARCS`].
     pub fn arc_count(&self) -> usize
         ensures count { result ≡ length self.now.arcs }
         ensures net { IsNet self.now }
@@ -84,9 +103,12 @@ impl Net {
         self.arc_spots.len()
     }
 
-    /// How many destinations there are, at most 64.
+    /// How many destinations there are, at most [`crate::max_dests`] of the edition, and at most
+    /// [`crate::MAX_DESTS_ONE`] in any.
+    #[tactic(auto, using(crate::specs::NetLaws::few_dests))]
     pub fn dest_count(&self) -> usize
         ensures count { result ≡ length self.now.dests }
+        ensures few { result ≤ MAX_DESTS_ONE }
         ensures net { IsNet self.now }
     {
         self.known.dests.count()
@@ -123,7 +145,8 @@ impl Net {
     /// Lends the arcs that the node may route by, in file order.
     pub fn out_arcs(&self, node: NodeId) -> &[Arc]
         requires { node.0 < length self.now.nodes }
-        ensures { map pure_arc result.now ≡ arcs_from self.now node.0 }
+        ensures arcs { map pure_arc result.now ≡ arcs_from self.now node.0 }
+        ensures within { AllByRecursion (λ a. IsArcOf self.now.alg (length self.now.nodes) (pure_arc a)) result.now }
     {
         self.out.group(node.0 as usize)
     }
@@ -139,7 +162,8 @@ impl Net {
     /// Lends the arc of that number.
     pub fn arc(&self, id: ArcId) -> &Arc
         requires { id.0 < length self.now.arcs }
-        ensures { slice_get self.now.arcs id.0 ≡ Some (pure_arc result.now) }
+        ensures arc { slice_get self.now.arcs id.0 ≡ Some (pure_arc result.now) }
+        ensures within { IsArcOf self.now.alg (length self.now.nodes) (pure_arc result.now) }
     {
         self.out.item(self.arc_spots[id.0 as usize])
     }
@@ -147,15 +171,41 @@ impl Net {
     /// Lends the origins of the destination, in file order.
     pub fn origins_of(&self, dest: DestId) -> &[Origin]
         requires { dest.0 < length self.now.dests }
-        ensures { map pure_origin result.now ≡ origins_of self.now dest.0 }
+        ensures origins { map pure_origin result.now ≡ origins_of self.now dest.0 }
+        ensures within { AllByRecursion (λ o.
+            IsOriginOf self.now.alg (length self.now.nodes) (length self.now.dests) (pure_origin o)) result.now }
     {
         self.homes.group(dest.0 as usize)
+    }
+
+    // Equal origins, in file order.
+    fn copy_origins(&self, alloc: Global) -> Result<Vec<Origin>, NoMemory>
+        ensures { IfOk result (λ origins. map pure_origin origins.items ≡ self.now.origins) }
+    {
+        let mut origins = Vec::new(alloc);
+        for spot in &self.origin_spots {
+            origins.push(self.homes.item(*spot).copy(alloc)?)?;
+        }
+        Ok(origins)
+    }
+
+    /// The network with a change that it may have. It costs a copy of the network and no search for an
+    /// arc, and leaves this network as it is.
+    pub fn changed(&self, alloc: Global, change: &Change) -> Result<Net, NoMemory>
+        requires { MayChange self.now (pure_change change.now) }
+        ensures { IfOk result (λ net. net ≡ changed self.now (pure_change change.now)) }
+    {
+        let arcs = changed_arcs(alloc, self, change)?;
+        let origins = self.copy_origins(alloc)?;
+        let known = self.known.copy_with(alloc, &arcs)?;
+        NetDraft::from_parts(alloc, known, arcs, origins).finish()
     }
 
     /// Lends the name of the node.
     pub fn node_name(&self, node: NodeId) -> &[u8]
         requires { node.0 < length self.now.nodes }
-        ensures { slice_get self.now.nodes node.0 ≡ Some result.now }
+        ensures name { slice_get self.now.nodes node.0 ≡ Some result.now }
+        ensures is_name { is_name result.now ≡ true }
     {
         self.known.nodes.name(node.0 as usize)
     }
@@ -163,7 +213,8 @@ impl Net {
     /// Lends the name of the destination.
     pub fn dest_name(&self, dest: DestId) -> &[u8]
         requires { dest.0 < length self.now.dests }
-        ensures { slice_get self.now.dests dest.0 ≡ Some result.now }
+        ensures name { slice_get self.now.dests dest.0 ≡ Some result.now }
+        ensures is_name { is_name result.now ≡ true }
     {
         self.known.dests.name(dest.0 as usize)
     }

@@ -1,6 +1,7 @@
-ghost use Rattle.std.specs.Prelude.{◌≡◌, ◌==◌, ◌&&◌, ◌++◌, ◌∷◌, [], false, OnOk, OnErr};
-ghost use Rattle.std.specs.List.{list_any};
+ghost use Rattle.std.specs.Prelude.{◌≡◌, ◌++◌, ◌∷◌, [], false, IfOk, OnOk, OnErr};
+ghost use Rattle.net_graph.specs.Pairs.{has_pair};
 
+use crate::Arc;
 use indexmap::IndexSet;
 use meta_base::NoMemory;
 use std::alloc::Global;
@@ -21,6 +22,11 @@ impl Model for Pairs {
 }
 
 impl Pairs {
+    ghost use Rattle.std.specs.Prelude.{map};
+    ghost use Rattle.net_graph.specs.Nets.{AreDistinct, joins_same};
+    ghost use Rattle.net_graph.specs.Parts.{arc_pair};
+    ghost use Rattle.net_graph.specs.Views.{pure_arc};
+
     // No pair.
     pub fn new(alloc: Global) -> Pairs
         ensures { result ≡ [] }
@@ -32,14 +38,35 @@ impl Pairs {
 
     // The pair is there.
     pub fn contains(&self, first: u32, second: u32) -> bool
-        ensures { result ≡ list_any (λ p. p.0 == first && p.1 == second) self.now }
+        ensures { result ≡ has_pair self.now first second }
     {
         self.pairs.contains(&(first, second))
     }
 
+    // The same pairs.
+    pub fn copy(&self) -> Result<Pairs, NoMemory>
+        ensures { IfOk result (λ copied. copied ≡ self.now) }
+    {
+        Ok(Pairs {
+            pairs: self.pairs.clone()?,
+        })
+    }
+
+    // The tails and heads of the arcs.
+    pub fn of_arcs(alloc: Global, arcs: &[Arc]) -> Result<Pairs, NoMemory>
+        requires { AreDistinct joins_same (map pure_arc arcs.now) }
+        ensures { IfOk result (λ pairs. pairs ≡ map arc_pair (map pure_arc arcs.now)) }
+    {
+        let mut pairs = Pairs::new(alloc);
+        for arc in arcs {
+            pairs.add(arc.tail.0, arc.head.0)?;
+        }
+        Ok(pairs)
+    }
+
     // Adds a pair that isn't there. After a refusal nothing has changed.
     pub fn add(&mut self, first: u32, second: u32) -> Result<(), NoMemory>
-        requires { list_any (λ p. p.0 == first && p.1 == second) self.old ≡ false }
+        requires { has_pair self.old first second ≡ false }
         ensures ok { OnOk result (self.new ≡ self.old ++ (first, second) ∷ []) }
         ensures err { OnErr result (self.new ≡ self.old) }
     {

@@ -1,7 +1,7 @@
-ghost use Rattle.std.specs.Prelude.{◌≡◌, ◌==◌, ◌&&◌, ◌<◌, ◌^◌, ◌++◌, ◌∷◌, [], ℕ, false, length, option_map, IfOk, OnOk, OnErr};
-ghost use Rattle.std.specs.List.{list_any};
+ghost use Rattle.std.specs.Prelude.{◌≡◌, ◌<◌, ◌^◌, ◌++◌, ◌∷◌, [], ℕ, false, length, option_map, IfOk, OnOk, OnErr};
 ghost use Rattle.net_graph.specs.Nets.{number_of};
 ghost use Rattle.net_graph.specs.Dests.{dests_with, dest_number};
+ghost use Rattle.net_graph.specs.Pairs.{has_pair};
 
 use crate::names::Names;
 use crate::pairs::Pairs;
@@ -27,6 +27,28 @@ pub struct Origin {
     pub value: Value,
 }
 
+impl Origin {
+    ghost use Rattle.net_graph.specs.Views.{pure_origin};
+
+    // An equal origin.
+    pub(crate) fn copy(&self, alloc: Global) -> Result<Origin, NoMemory>
+        ensures { IfOk result (λ copied. pure_origin copied ≡ pure_origin self.now) }
+    {
+        Ok(Origin {
+            node: self.node,
+            dest: self.dest,
+            value: self.value.copy(alloc)?,
+        })
+    }
+}
+
+// An equal algebra.
+fn copy_alg(alloc: Global, alg: &Alg) -> Result<Alg, NoMemory>
+    ensures { IfOk result (λ copied. copied ≡ alg.now) }
+{
+    alg.copy_part(alloc, alg.tree())
+}
+
 // What a network is looked up by.
 #[derive(Drop)]
 pub(crate) struct Known {
@@ -40,6 +62,11 @@ pub(crate) struct Known {
 }
 
 impl Known {
+    ghost use Rattle.std.specs.Prelude.{map};
+    ghost use Rattle.net_graph.specs.Nets.{AreDistinct, joins_same};
+    ghost use Rattle.net_graph.specs.Parts.{arc_pair};
+    ghost use Rattle.net_graph.specs.Views.{pure_arc};
+
     // The node of that name.
     pub fn node_named(&self, name: &[u8]) -> Option<NodeId>
         requires { length self.now.nodes < 2 ^ 32 }
@@ -56,6 +83,20 @@ impl Known {
         self.dests.named(name).map(DestId)
     }
 
+    // The same, with these arcs in place of those that there are.
+    pub fn copy_with(&self, alloc: Global, arcs: &[Arc]) -> Result<Known, NoMemory>
+        requires { AreDistinct joins_same (map pure_arc arcs.now) }
+        ensures { IfOk result (λ known. known ≡ record self.now { arc_pairs = map arc_pair (map pure_arc arcs.now) }) }
+    {
+        Ok(Known {
+            alg: copy_alg(alloc, &self.alg)?,
+            nodes: self.nodes.copy()?,
+            dests: self.dests.copy()?,
+            arc_pairs: Pairs::of_arcs(alloc, arcs)?,
+            origin_pairs: self.origin_pairs.copy()?,
+        })
+    }
+
     // Notes an origin of the destination of that name, which is added where it is new. After a
     // refusal nothing has changed.
     pub fn add_origin(
@@ -65,7 +106,7 @@ impl Known {
         node: NodeId,
     ) -> Result<DestId, NoMemory>
         requires room { length self.old.dests < 2 ^ 32 }
-        requires absent { list_any (λ p. p.0 == dest_number self.old.dests dest.now && p.1 == node.0) self.old.origin_pairs ≡ false }
+        requires absent { has_pair self.old.origin_pairs (dest_number self.old.dests dest.now) node.0 ≡ false }
         ensures number { IfOk result (λ d. d.0 ≡ dest_number self.old.dests dest.now) }
         ensures ok { OnOk result (self.new ≡ record self.old {
           dests = dests_with self.old.dests dest.now;

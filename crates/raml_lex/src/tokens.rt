@@ -38,7 +38,8 @@ impl<'a> Tokens<'a> {
     ghost use Rattle.raml_lex.specs.Tokens.{step_of, end};
 
     /// The tokens of the source, none of which was taken. The source has at most
-    /// [`meta_base::MAX_FILE_BYTES`] bytes, and a number is at most [`meta_base::MAX_NUMBER`].
+    /// [`meta_base::MAX_FILE_BYTES`] bytes, and a number is at most [`meta_base::MAX_NUMBER`] until
+    /// [`Tokens::set_greatest`] sets another bound.
     pub fn new(source: &'a [u8]) -> Tokens<'a>
         requires { length source.now ≤ MAX_FILE_BYTES }
         ensures { result ≡ record { before = []; rest = source.now; greatest = MAX_NUMBER; fault = None } }
@@ -57,6 +58,13 @@ impl<'a> Tokens<'a> {
         ensures { result ≡ place_after self.now.before }
     {
         self.here.place()
+    }
+
+    /// Sets the greatest number that a token may hold: it is the bound of the tokens that come after.
+    pub fn set_greatest(&mut self, greatest: u64)
+        ensures { self.new ≡ record self.old { greatest = greatest } }
+    {
+        self.greatest = greatest;
     }
 
     /// The next token, or `None` exactly where only spaces and comments are left.

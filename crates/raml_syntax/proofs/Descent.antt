@@ -25,6 +25,7 @@ use Rattle.raml_syntax.specs.Reading.{TakesOne}
 use Rattle.raml_syntax.specs.Leaves.{TakesAt, Lacks, IsRefusal, IsTok, IsWord}
 use Rattle.raml_syntax.specs.Sequences.{Nothing, One, Then, Reads, IsDetermined, IsPossible, map_ok}
 use Rattle.raml_syntax.specs.Trees.{Table, Expr}
+use Rattle.raml_syntax.specs.Definitions.{ReadAs}
 use Rattle.raml_syntax.specs.Heads.{ranged_of, counted_of, paired_of, single_of, head_word}
 use Rattle.raml_syntax.specs.Forms.{Behind, NumberBefore, Last, RangedTail, CountedTail, TableTail, Closed, PairedTail, SingleTail, Tail, Resolves}
 use Rattle.raml_syntax.proofs.Sequences.{reads_inside, reads_then, reads_not_first, one_determined, then_possible}
@@ -461,3 +462,10 @@ pub single_reads : (ds : List Definition) (n : ℕ) (k : Single) (a : Expression
     → Reads (Behind right_paren (Nothing (single_meaning k a))) mid result new → Reads (SingleTail ds n k) old result new
 single_reads ds n k a old mid new result x y =
     reads_then (Behind left_paren (Expr ds n)) (λ a. Behind right_paren (Nothing (single_meaning k a))) old mid new a result (part_determined ds n left_paren) x y
+
+-- What was read came to this.
+
+pub read_as : (P : Expression → List Mark → Type 0) (old new : Lexer) (read result : Result Expression AlgError) → ReadAs read result → Reads P old read new → Reads P old result new
+read_as P old new read (Ok a) e x = subst (λ r. Reads P old r new) e x
+read_as P old new read (Err (Bad f)) e x = subst (λ r. Reads P old r new) e x
+read_as P old new read (Err NoMemory) e x = tt

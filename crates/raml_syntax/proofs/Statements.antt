@@ -25,7 +25,7 @@ use Rattle.raml_syntax.specs.Reading.{Takes}
 use Rattle.raml_syntax.specs.Leaves.{TakesAt, Lacks}
 use Rattle.raml_syntax.specs.Sequences.{Nothing, One, Then, Reads, IsDetermined, IsPossible}
 use Rattle.raml_syntax.specs.Forms.{Behind}
-use Rattle.raml_syntax.specs.Trees.{Expr, Rest, File}
+use Rattle.raml_syntax.specs.Trees.{Expr, Rest}
 use Rattle.raml_syntax.specs.Statements.{is_keyword, is_reserved, keyword_word, Opens, Body, Let, Statement, Leads}
 use Rattle.raml_syntax.proofs.Sequences.{fault_inside, reads_not_first, reads_then, one_determined, nothing_determined, then_determined, then_possible}
 use Rattle.raml_syntax.proofs.OneToken.{one_lacks}
@@ -140,7 +140,7 @@ statement_possible ds k.Let = then_possible (Let ds) Rest (let_possible ds) rest
 statement_possible ds k.Main = body_possible ds
 
 -- a statement and what follows it are the rest of a file
-rest_from : (ds : List Definition) (a : Expression) (ms : List Mark) → Then Opens (Statement ds) a ms → Rest ds a ms
+pub rest_from : (ds : List Definition) (a : Expression) (ms : List Mark) → Then Opens (Statement ds) a ms → Rest ds a ms
 rest_from ds a ms (k.Let, xs, ys, b, (es, us, vs, lt, rest, e2), e) =
     let l = let_marks_of ds es us lt in
     let r : Rest (with_let ds l.0) a vs = subst (λ x. Rest x a vs) l.2 rest in
@@ -156,7 +156,7 @@ rest_from ds a ms (k.Main, xs, ys, b, body, e) =
     let p = body_marks ds a ys body in
     record { lets = []; main = p.0; are_lets = tt; is_main = p.1; means = p.2; marks = e ∙ ap₂ (λ x y. x ++ y) b p.3 }
 
-rest_to : (ds : List Definition) (a : Expression) (ms : List Mark) → Rest ds a ms → Then Opens (Statement ds) a ms
+pub rest_to : (ds : List Definition) (a : Expression) (ms : List Mark) → Rest ds a ms → Then Opens (Statement ds) a ms
 rest_to ds a ms p = by p.lets p.main p.are_lets p.is_main p.means p.marks
   where
     by : (ls : List LetSyntax) (main : Syntax) → AreLets ls → IsSyntax main → a ≡ meaning (with_lets ds ls) main → ms ≡ rest_marks ds ls main → Then Opens (Statement ds) a ms
@@ -230,41 +230,21 @@ name_free ds w h = name_fault (is_expression_word w) (is_keyword w) (is_among (n
 
 -- what stood before leads here
 
-file_from : (a : Expression) (ms : List Mark) → Rest [] a ms → File a ms
-file_from a ms p = record {
-  syntax = record { lets = p.lets; main = p.main };
-  is_file = record { lets = p.are_lets; main = p.is_main };
-  means = p.means;
-  marks = p.marks;
-}
+-- a `let` was read, and then a word that begins a statement
+pub leads_on : (first key : Keyword) (old now mid new : Lexer) (ds es : List Definition)
+    → Leads first old ds k.Let now → Reads (Let ds) now (Ok es) mid → Reads Opens mid (Ok key) new → Leads first old es key new
+leads_on first key old now mid new ds es leads x y result last z =
+    leads result last (reads_then (Let ds) Rest now mid last es result (let_determined ds) x (rest_read es mid last result (reads_then Opens (Statement es) mid new last key result begun_determined y z)))
 
-file_to : (a : Expression) (ms : List Mark) → File a ms → Rest [] a ms
-file_to a ms p = record { lets = p.syntax.lets; main = p.syntax.main; are_lets = p.is_file.lets; is_main = p.is_file.main; means = p.means; marks = p.marks }
-
-pub leads_here : (old : Lexer) → Leads old [] old
-leads_here old result new x = reads_as (Rest []) File old new result file_from file_to x
-
--- no statement begins here
-pub leads_lacking : (old now new : Lexer) (ds : List Definition) (e : AlgError) → Leads old ds now → Reads Opens now (Err e) new → Reads File old (Err e) new
-leads_lacking old now new ds e leads x = leads (Err e) new (rest_read ds now new (Err e) (reads_not_first Opens (Statement ds) now new e (statement_possible ds) x))
-
--- a statement was begun, and what is left was read or not
-leads_begun : (old now mid new : Lexer) (ds : List Definition) (key : Keyword) (result : Result Expression AlgError)
-    → Leads old ds now → Reads Opens now (Ok key) mid → Reads (Statement ds key) mid result new → Reads File old result new
-leads_begun old now mid new ds key result leads x y = leads result new (rest_read ds now new result (reads_then Opens (Statement ds) now mid new key result begun_determined x y))
-
--- a `let` was read
-pub leads_on : (old now mid new : Lexer) (ds es : List Definition) → Leads old ds now → Reads Opens now (Ok k.Let) mid → Reads (Let ds) mid (Ok es) new → Leads old es new
-leads_on old now mid new ds es leads x y result last z = leads_begun old now mid last ds k.Let result leads x (reads_then (Let ds) Rest mid new last es result (let_determined ds) y z)
+-- a `let` was read, and no statement begins behind it
+pub leads_lacking : (first : Keyword) (old now mid new : Lexer) (ds es : List Definition) (e : AlgError)
+    → Leads first old ds k.Let now → Reads (Let ds) now (Ok es) mid → Reads Opens mid (Err e) new → Reads (Statement [] first) old (Err e) new
+leads_lacking first old now mid new ds es e leads x y =
+    leads (Err e) new (reads_then (Let ds) Rest now mid new es (Err e) (let_determined ds) x (rest_read es mid new (Err e) (reads_not_first Opens (Statement es) mid new e (statement_possible es) y)))
 
 -- a `let` was not read
-pub leads_broken : (old now mid new : Lexer) (ds : List Definition) (e : AlgError) → Leads old ds now → Reads Opens now (Ok k.Let) mid → Reads (Let ds) mid (Err e) new → Reads File old (Err e) new
-leads_broken old now mid new ds e leads x y = leads_begun old now mid new ds k.Let (Err e) leads x (reads_not_first (Let ds) Rest mid new e rest_possible y)
-
--- `main` was read or not
-pub leads_main : (old now mid new : Lexer) (ds : List Definition) (result : Result Expression AlgError)
-    → Leads old ds now → Reads Opens now (Ok k.Main) mid → Reads (Body ds) mid result new → Reads File old result new
-leads_main old now mid new ds result leads x y = leads_begun old now mid new ds k.Main result leads x y
+pub leads_broken : (first : Keyword) (old now new : Lexer) (ds : List Definition) (e : AlgError) → Leads first old ds k.Let now → Reads (Let ds) now (Err e) new → Reads (Statement [] first) old (Err e) new
+leads_broken first old now new ds e leads x = leads (Err e) new (reads_not_first (Let ds) Rest now new e rest_possible x)
 
 -- the word that begins a statement makes the text shorter
 pub begun_shorter : (key : Keyword) (old new : Lexer) → Reads Opens old (Ok key) new → length new.rest < length old.rest

@@ -24,7 +24,7 @@ takes_found old new t f = record {
 }
 
 pub ready_found : (old new : Lexer) (t : Token) → IsReady old → Found old t new → IsReady new
-ready_found old new t r f = record { no_fault = f.still_none; greatest = f.greatest ∙ r.greatest }
+ready_found old new t r f = record { no_fault = f.still_none }
 
 -- where nothing is left, the place behind all bytes is that of what stands next
 pub place_ended : (old new : Lexer) → Ended old new → place_after new.before ≡ next_place old

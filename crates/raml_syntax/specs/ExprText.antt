@@ -1,22 +1,48 @@
 -- Which algebra a text means, and which fault refuses it.
-use Rattle.std.specs.Prelude.{◌≡◌, ◌⊎◌, List, ℕ, [], None}
-use Rattle.meta_base.specs.declared.limits.TheConstants.{MAX_NUMBER}
+use Rattle.std.specs.Prelude.{◌≡◌, ◌⊎◌, List, ℕ, [], ◌∷◌, ◌++◌, false, Option, Some, None, if◌then◌else◌, codes}
+use Rattle.std.specs.Str.{bytes_eq}
 use Rattle.raml_lex.specs.declared.token.LexKind.TheVariants as lex
-use Rattle.raml_lex.specs.Tokens.{Tok, Step, end, bad, token, step_of, Lexes}
-use Rattle.raml_lex.specs.Lexers.{Lexer, next_place}
-use Rattle.alg_model.specs.Expressions.{Expression}
+use Rattle.raml_lex.specs.Gaps.{gap_of}
+use Rattle.raml_lex.specs.Places.{place_after}
+use Rattle.raml_lex.specs.Tokens.{Tok, word, number, semicolon, Step, end, bad, token, step_of}
+use Rattle.alg_model.specs.Bounds.{greatest_number}
+use Rattle.alg_model.specs.Expressions.{PureAlg}
 use Rattle.raml_syntax.specs.declared.faults.ExprFault.{ExprFault}
 use Rattle.raml_syntax.specs.declared.faults.ExprKind.{ExprKind}
 use Rattle.raml_syntax.specs.declared.faults.ExprKind.TheVariants.{BadByte, NumberTooLarge, TrailingText}
+use Rattle.raml_syntax.specs.Meaning.{edition_of}
 use Rattle.raml_syntax.specs.Trees.{File}
 use Rattle.raml_syntax.specs.Productions.{clean, FaultAt}
-use Rattle.raml_syntax.specs.Reading.{Takes}
+
+-- the number of the header that these tokens are, if they are one
+abbrev pub header_from : Tok → Tok → Tok → Option ℕ
+header_from (word w) (number n) semicolon = if bytes_eq w (codes "raml") then Some n else None
+header_from _ _ _ = None
+
+-- the number of the header that the tokens begin with, if they begin with one
+abbrev pub header_of : List Tok → Option ℕ
+header_of (t ∷ u ∷ v ∷ ts) = header_from t u v
+header_of _ = None
+
+-- the greatest number that may stand next behind these tokens: that of profile 2 exactly where they begin
+-- with `raml`, 2 and `;`, and else that of profile 1
+abbrev pub greatest_behind : List Tok → ℕ
+greatest_behind before = greatest_number (edition_of (header_of before))
+
+-- behind the tokens `before` the text begins with the tokens `ts`, and the rest is left
+abbrev pub BeginsWith : List Tok → List Tok → List ℕ → List ℕ → Type 0
+BeginsWith before [] text rest = text ≡ rest
+BeginsWith before (t ∷ ts) text rest =
+    (behind : List ℕ) × (step_of (greatest_behind before) text ≡ token t behind) × BeginsWith (before ++ t ∷ []) ts behind rest
 
 -- the text means the algebra: its tokens are those of a file, and no fault stands at any of them
-pub record ExprText (text : List ℕ) (a : Expression) : Type 0 where
+pub record ExprText (text : List ℕ) (a : PureAlg) : Type 0 where
   pub tokens : List Tok
   pub file : File a (clean tokens)
-  pub lexed : Lexes MAX_NUMBER tokens text
+  -- the bytes behind the last of them, where no other stands
+  pub rest : List ℕ
+  pub lexed : BeginsWith [] tokens text rest
+  pub ended : step_of (greatest_behind tokens) rest ≡ end
 
 -- what comes behind a whole file is at fault
 abbrev pub Trails : Step → ExprKind → Type 0
@@ -27,13 +53,20 @@ Trails (token t rest) k = k ≡ TrailingText
 
 -- the tokens at the front are a file without a fault
 abbrev pub IsWhole : List Tok → Type 0
-IsWhole front = (a : Expression) × File a (clean front)
+IsWhole front = (a : PureAlg) × File a (clean front)
+
+-- what comes next behind the front is at fault
+abbrev pub Stands : List Tok → Step → ExprKind → Type 0
+Stands front step k = FaultAt File front step k ⊎ (IsWhole front × Trails step k)
 
 -- the text means no algebra, and this is its first fault
 pub record IsExprFault (text : List ℕ) (f : ExprFault) : Type 0 where
   pub front : List Tok
-  -- where the reader of tokens stands behind the front
-  pub at : Lexer
-  pub taken : Takes front (record { before = []; rest = text; greatest = MAX_NUMBER; fault = None }) at
-  pub place : f.place ≡ next_place at
-  pub shows : FaultAt File front (step_of at.greatest at.rest) f.kind ⊎ (IsWhole front × Trails (step_of at.greatest at.rest) f.kind)
+  -- the bytes up to the end of the front, and those behind it
+  pub passed : List ℕ
+  pub rest : List ℕ
+  pub split : text ≡ passed ++ rest
+  pub lexed : BeginsWith [] front text rest
+  -- the place of what comes next, behind spaces and comments
+  pub place : f.place ≡ place_after (passed ++ gap_of false rest)
+  pub shows : Stands front (step_of (greatest_behind front) rest) f.kind

@@ -1,7 +1,7 @@
 -- The numbers of faults.
 use Rattle.std.specs.Prelude.{ℕ}
 use Rattle.raml_syntax.specs.declared.faults.ExprKind.{ExprKind}
-use Rattle.raml_syntax.specs.declared.faults.ExprKind.TheVariants.{BadByte, Unexpected, EndOfText, NumberTooLarge, UnknownName, NameTwice, BadRange, CarriersDiffer, TooLarge, BadTable, TrailingText}
+use Rattle.raml_syntax.specs.declared.faults.ExprKind.TheVariants.{BadByte, Unexpected, EndOfText, NumberTooLarge, UnknownName, NameTwice, BadRange, CarriersDiffer, TooLarge, BadTable, TrailingText, UnknownProfile}
 
 -- the number that stands behind the X of a printed fault
 abbrev pub fault_number : ExprKind → ℕ
@@ -16,3 +16,4 @@ fault_number CarriersDiffer = 8
 fault_number TooLarge = 9
 fault_number BadTable = 10
 fault_number TrailingText = 11
+fault_number UnknownProfile = 12

@@ -1,7 +1,6 @@
 -- What an attempt to read one token comes to.
 use Rattle.std.specs.Prelude.{◌≡◌, ℕ, List, None}
 use Rattle.meta_base.specs.declared.ids.Place.{Place}
-use Rattle.meta_base.specs.declared.limits.TheConstants.{MAX_NUMBER}
 use Rattle.raml_lex.specs.declared.token.LexKind.TheVariants as lex
 use Rattle.raml_lex.specs.declared.token.TokenKind.{TokenKind}
 use Rattle.raml_lex.specs.declared.token.TokenKind.TheVariants as kind
@@ -13,10 +12,9 @@ use Rattle.raml_syntax.specs.declared.faults.AlgError.{AlgError}
 use Rattle.raml_syntax.specs.declared.faults.AlgError.TheVariants.{Bad, NoMemory}
 use Rattle.raml_syntax.specs.Reading.{TakesOne}
 
--- a reader of the tokens of an expression file that has met no fault
+-- a reader of tokens that has met no fault
 pub record IsReady (x : Lexer) : Type 0 where
   pub no_fault : x.fault ≡ None
-  pub greatest : x.greatest ≡ MAX_NUMBER
 
 -- a token was taken, and stood at this place
 pub record TakesAt (t : Tok) (here : Place) (old new : Lexer) : Type 0 where

@@ -15,7 +15,9 @@ pub mod Tested
 pub mod Values
 pub mod Maps
 pub mod Rows
+pub mod Forest
 pub mod Definitions
 pub mod Statements
+pub mod Headers
 pub mod Plain
 pub mod Printed

@@ -1,6 +1,6 @@
 -- The tokens of a tree of the grammar, each with the fault that stands at it. A text has these tokens
 -- and none of these faults, or it is at fault at the first of them.
-use Rattle.std.specs.Prelude.{ℕ, ◌+◌, List, [], ◌∷◌, ◌++◌, length, map, Bool, not, ◌&&◌, ◌||◌, Option, Some, None, nat_le, if◌then◌else◌, codes}
+use Rattle.std.specs.Prelude.{ℕ, ◌+◌, List, [], ◌∷◌, ◌++◌, length, map, Bool, not, ◌&&◌, ◌||◌, ◌==◌, Option, Some, None, nat_le, if◌then◌else◌, codes}
 use Rattle.raml_lex.specs.Tokens.{Tok, word, left_paren, right_paren, left_brace, right_brace, comma, semicolon, colon, dots, equals, less, arrow}
 use Rattle.raml_lex.specs.Tokens as tok
 use Rattle.alg_model.specs.declared.alg.TheConstants.{MAX_TREE_NODES, MAX_TABLE_NAMES}
@@ -8,7 +8,7 @@ use Rattle.alg_model.specs.Expressions.{Expression, add}
 use Rattle.alg_model.specs.Carriers.{carrier_of}
 use Rattle.alg_model.specs.Formation.{node_count}
 use Rattle.raml_syntax.specs.declared.faults.ExprKind.{ExprKind}
-use Rattle.raml_syntax.specs.declared.faults.ExprKind.TheVariants.{UnknownName, NameTwice, BadRange, CarriersDiffer, TooLarge, BadTable}
+use Rattle.raml_syntax.specs.declared.faults.ExprKind.TheVariants.{UnknownName, NameTwice, BadRange, CarriersDiffer, TooLarge, BadTable, UnknownProfile}
 use Rattle.raml_syntax.specs.Syntax.{ranged_word, counted_word, Paired, lex_head, scoped_head, union_head, sum_head, plus_head, paired_word, single_word, is_among, is_expression_word, is_none}
 use Rattle.raml_syntax.specs.Syntax.{ValueSyntax, MapSyntax, MapsSyntax, no_maps, maps, RowSyntax, TableSyntax, Syntax, named, add_syntax, ranged, counted, gate_syntax, table_syntax, paired, single, LetSyntax, FileSyntax}
 use Rattle.raml_syntax.specs.Meaning.{Definition, lookup, ranged_meaning, counted_meaning, value_names, meaning, with_let}
@@ -124,5 +124,18 @@ abbrev pub rest_marks : List Definition → List LetSyntax → Syntax → List M
 rest_marks ds [] main = plain_word (codes "main") ∷ (marks ds 0 main ++ plain semicolon ∷ [])
 rest_marks ds (l ∷ ls) main = let_marks ds l ++ rest_marks (with_let ds l) ls main
 
+-- there is a profile of this number
+abbrev pub is_profile : ℕ → Bool
+is_profile n = n == 1 || n == 2
+
+-- the number of a header
+abbrev pub header_number : ℕ → Mark
+header_number n = tested (tok.number n) UnknownProfile (is_profile n)
+
+-- the header of a file, if it has one
+abbrev pub header_marks : Option ℕ → List Mark
+header_marks None = []
+header_marks (Some n) = plain_word (codes "raml") ∷ header_number n ∷ plain semicolon ∷ []
+
 abbrev pub file_marks : FileSyntax → List Mark
-file_marks file = rest_marks [] file.lets file.main
+file_marks file = header_marks file.header ++ rest_marks [] file.lets file.main

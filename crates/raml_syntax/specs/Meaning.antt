@@ -1,9 +1,11 @@
 -- What a tree of the grammar means, where each name stands for the expression of its `let`.
-use Rattle.std.specs.Prelude.{ℕ, ◌+◌, List, [], ◌∷◌, map, Option, Some, None, option_and_then, position, if◌then◌else◌}
+use Rattle.std.specs.Prelude.{ℕ, ◌+◌, ◌==◌, List, [], ◌∷◌, map, Option, Some, None, option_and_then, position, if◌then◌else◌}
 use Rattle.std.specs.Str.{bytes_eq}
 use Rattle.alg_model.specs.declared.tree.TableSpec.{TableSpec}
 use Rattle.alg_model.specs.declared.tree.TableRow.{TableRow}
-use Rattle.alg_model.specs.Expressions.{Expression, add, cap, worst, width, pref, orig, seq, simseq, tags, guard, gate, table, lex, scoped, union, sum, plus, left, right}
+use Rattle.alg_model.specs.declared.edition.Edition.{Edition}
+use Rattle.alg_model.specs.declared.edition.Edition.TheVariants.{One, Two}
+use Rattle.alg_model.specs.Expressions.{PureAlg, Expression, add, cap, worst, width, pref, orig, seq, simseq, tags, guard, gate, table, lex, scoped, union, sum, plus, left, right}
 use Rattle.raml_syntax.specs.Syntax.{Ranged, cap_head, worst_head, width_head, Counted, lp_head, op_head, seq_head, simseq_head, tags_head, guard_head, Paired, lex_head, scoped_head, union_head, sum_head, plus_head, Single, left_head, right_head}
 use Rattle.raml_syntax.specs.Syntax.{ValueSyntax, MapSyntax, MapsSyntax, no_maps, maps, RowSyntax, TableSyntax, Syntax, named, add_syntax, ranged, counted, gate_syntax, table_syntax, paired, single, LetSyntax, FileSyntax}
 
@@ -101,6 +103,12 @@ abbrev pub with_lets : List Definition → List LetSyntax → List Definition
 with_lets ds [] = ds
 with_lets ds (l ∷ ls) = with_lets (with_let ds l) ls
 
+-- the edition of a file with this header, if it has one; a number other than 1 and 2 is at fault, so its
+-- edition plays no part
+abbrev pub edition_of : Option ℕ → Edition
+edition_of None = One
+edition_of (Some n) = if n == 2 then Two else One
+
 -- what a file means
-abbrev pub file_meaning : FileSyntax → Expression
-file_meaning file = meaning (with_lets [] file.lets) file.main
+abbrev pub file_meaning : FileSyntax → PureAlg
+file_meaning file = record { expression = meaning (with_lets [] file.lets) file.main; edition = edition_of file.header }

@@ -1,8 +1,11 @@
--- The text in which an algebra is printed: one `main`, with a space behind that word alone.
+-- The text in which an algebra is printed: one `main`, with a space behind that word, and a header before
+-- it where a text without one would mean another edition.
 use Rattle.std.specs.Prelude.{ℕ, ◌==◌, List, [], ◌∷◌, ◌++◌, Option, Some, None, slice_index_or, if◌then◌else◌, decimal, codes}
 use Rattle.alg_model.specs.declared.tree.TableSpec.{TableSpec}
 use Rattle.alg_model.specs.declared.tree.TableRow.{TableRow}
-use Rattle.alg_model.specs.Expressions.{Expression, add, cap, worst, width, pref, orig, seq, simseq, tags, guard, gate, table, lex, scoped, union, sum, plus, left, right}
+use Rattle.alg_model.specs.declared.edition.Edition.{Edition}
+use Rattle.alg_model.specs.declared.edition.Edition.TheVariants.{One, Two}
+use Rattle.alg_model.specs.Expressions.{PureAlg, Expression, add, cap, worst, width, pref, orig, seq, simseq, tags, guard, gate, table, lex, scoped, union, sum, plus, left, right}
 use Rattle.raml_syntax.specs.Syntax.{Ranged, cap_head, worst_head, width_head, ranged_word, Counted, lp_head, op_head, seq_head, simseq_head, tags_head, guard_head, counted_word}
 use Rattle.raml_syntax.specs.Syntax.{Paired, lex_head, scoped_head, union_head, sum_head, plus_head, paired_word, Single, left_head, right_head, single_word, MapSyntax}
 
@@ -82,6 +85,11 @@ expression_text (plus a b) = paired_text plus_head (expression_text a) (expressi
 expression_text (left a) = single_text left_head (expression_text a)
 expression_text (right a) = single_text right_head (expression_text a)
 
+-- the header of a text of this edition
+abbrev pub header_text : Edition → List ℕ
+header_text One = []
+header_text Two = codes "raml 2;"
+
 -- the whole text
-abbrev pub alg_text : Expression → List ℕ
-alg_text a = codes "main " ++ expression_text a ++ codes ";\n"
+abbrev pub alg_text : PureAlg → List ℕ
+alg_text a = header_text a.edition ++ codes "main " ++ expression_text a.expression ++ codes ";\n"

@@ -1,4 +1,4 @@
--- A file as it is read, statement by statement.
+-- The statements of a file as they are read, one after another.
 use Rattle.std.specs.Prelude.{ℕ, List, [], ◌∷◌, ◌||◌, Bool, Result, None, codes}
 use Rattle.meta_base.specs.declared.limits.TheConstants.{MAX_NUMBER}
 use Rattle.raml_lex.specs.Tokens.{semicolon, equals}
@@ -12,7 +12,7 @@ use Rattle.raml_syntax.specs.Syntax.{is_among, is_expression_word}
 use Rattle.raml_syntax.specs.Meaning.{Definition}
 use Rattle.raml_syntax.specs.Marks.{Mark, plain_word, let_name}
 use Rattle.raml_syntax.specs.Forms.{Behind}
-use Rattle.raml_syntax.specs.Trees.{Expr, Rest, File}
+use Rattle.raml_syntax.specs.Trees.{Expr, Rest}
 use Rattle.raml_syntax.specs.ExprText.{IsExprFault}
 use Rattle.raml_syntax.specs.Sequences.{Nothing, One, Then, Reads}
 
@@ -45,9 +45,10 @@ abbrev pub Statement : List Definition → Keyword → Expression → List Mark 
 Statement ds k.Let = Then (Let ds) Rest
 Statement ds k.Main = Body ds
 
--- what stood before leads to here: whatever is read as the rest of the file makes the file
-abbrev pub Leads : Lexer → List Definition → Lexer → Type 0
-Leads old ds now = (result : Result Expression AlgError) (new : Lexer) → Reads (Rest ds) now result new → Reads File old result new
+-- the statement that began with `first` leads to one that begins with `key`: whatever is read behind that
+-- word makes all from the first on
+abbrev pub Leads : Keyword → Lexer → List Definition → Keyword → Lexer → Type 0
+Leads first old ds key now = (result : Result Expression AlgError) (new : Lexer) → Reads (Statement ds key) now result new → Reads (Statement [] first) old result new
 
 -- the reader at the start of a text
 abbrev pub start : List ℕ → Lexer

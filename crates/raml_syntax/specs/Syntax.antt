@@ -1,5 +1,5 @@
 -- The trees of words and numbers that the grammar allows, before names are replaced.
-use Rattle.std.specs.Prelude.{◌≡◌, ℕ, List, [], ◌∷◌, Bool, false, codes}
+use Rattle.std.specs.Prelude.{◌≡◌, ℕ, List, [], ◌∷◌, Bool, false, Option, codes}
 use Rattle.std.specs.List.{AllByRecursion, list_any}
 use Rattle.std.specs.Str.{bytes_eq}
 
@@ -73,7 +73,9 @@ pub record LetSyntax : Type 0 where
   pub name : List ℕ
   pub body : Syntax
 
+-- `raml header ;`, if the file has it, and then the statements
 pub record FileSyntax : Type 0 where
+  pub header : Option ℕ
   pub lets : List LetSyntax
   pub main : Syntax
 

@@ -2,7 +2,7 @@
 use Rattle.std.specs.Prelude.{◌≡◌, ℕ, List}
 use Rattle.std.specs.List.{AllByRecursion}
 use Rattle.alg_model.specs.declared.tree.TableSpec.{TableSpec}
-use Rattle.alg_model.specs.Expressions.{Expression}
+use Rattle.alg_model.specs.Expressions.{Expression, PureAlg}
 use Rattle.raml_syntax.specs.Syntax.{IsRow, IsSyntax, TableSyntax, Syntax, LetSyntax, FileSyntax, IsFile}
 use Rattle.raml_syntax.specs.Meaning.{Definition, table_meaning, meaning, file_meaning, with_lets}
 use Rattle.raml_syntax.specs.Marks.{Mark, table_marks, marks, rest_marks, file_marks}
@@ -32,7 +32,7 @@ pub record Rest (ds : List Definition) (a : Expression) (ms : List Mark) : Type 
   pub marks : ms ≡ rest_marks ds lets main
 
 -- a file
-pub record File (a : Expression) (ms : List Mark) : Type 0 where
+pub record File (a : PureAlg) (ms : List Mark) : Type 0 where
   pub syntax : FileSyntax
   pub is_file : IsFile syntax
   pub means : a ≡ file_meaning syntax

@@ -1,6 +1,5 @@
 // Single tokens: the one that is wanted, or the fault of what stands in its place.
 ghost use Rattle.std.specs.Prelude.{◌≡◌, ◌≤◌, IfOk, IfErr, OnOk, [], Ok, Err};
-ghost use Rattle.meta_base.specs.declared.limits.TheConstants.{MAX_NUMBER};
 ghost use Rattle.raml_lex.specs.Tokens.{word};
 ghost use Rattle.raml_lex.specs.Tokens as tok;
 ghost use Rattle.raml_lex.specs.Lexers.{next_place};

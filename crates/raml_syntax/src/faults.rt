@@ -16,7 +16,8 @@ pub enum ExprKind {
     Unexpected,
     /// The end of the text, where more is needed; printed as X3.
     EndOfText,
-    /// A number above [`meta_base::MAX_NUMBER`]; printed as X4.
+    /// A number above the greatest of the file's profile ([`alg_model::Edition::greatest_number`]), and
+    /// up to the semicolon of a header above that of profile 1; printed as X4.
     NumberTooLarge,
     /// A word in place of an expression that no earlier `let` names; printed as X5.
     UnknownName,
@@ -33,6 +34,8 @@ pub enum ExprKind {
     BadTable,
     /// A token behind the semicolon of `main`; printed as X11.
     TrailingText,
+    /// The number of a header that is neither 1 nor 2; printed as X12.
+    UnknownProfile,
 }
 
 impl ExprKind {
@@ -52,6 +55,7 @@ impl ExprKind {
             ExprKind::TooLarge => 9,
             ExprKind::BadTable => 10,
             ExprKind::TrailingText => 11,
+            ExprKind::UnknownProfile => 12,
         }
     }
 }

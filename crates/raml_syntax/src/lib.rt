@@ -9,6 +9,7 @@ mod expect;
 mod expression;
 mod faults;
 mod file;
+mod forest;
 mod heads;
 mod laws;
 mod maps;
@@ -21,6 +22,6 @@ pub use faults::{AlgError, ExprFault, ExprKind};
 pub use file::{is_plain_add, read_alg};
 pub use laws::{
     no_fault_beside_an_algebra, one_text_one_algebra, one_text_one_fault,
-    printed_text_means_the_algebra,
+    printed_text_means_the_algebra, texts_mean_algebras,
 };
 pub use print::print_alg;

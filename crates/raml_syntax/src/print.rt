@@ -3,25 +3,36 @@ ghost use Rattle.std.specs.Prelude.{◌≡◌, ◌++◌, slice_index_or, decimal
 ghost use Rattle.alg_model.specs.Views.{expression_of};
 ghost use Rattle.raml_syntax.specs.Heads.{ranged_of, counted_of, paired_of, single_of};
 ghost use Rattle.raml_syntax.specs.Syntax.{ranged_word, counted_word, paired_word, single_word};
-ghost use Rattle.raml_syntax.specs.Printed.{ranged_text, counted_text, paired_text, single_text, rank_text, more_values_text, values_text, maps_of, map_text, more_maps_text, maps_text, row_text, rows_text, table_text, expression_text, alg_text};
+ghost use Rattle.raml_syntax.specs.Printed.{ranged_text, counted_text, paired_text, single_text, rank_text, more_values_text, values_text, maps_of, map_text, more_maps_text, maps_text, row_text, rows_text, table_text, expression_text, header_text, alg_text};
 
 use crate::heads::{
     Counted, Paired, Ranged, Single, counted_word, paired_word, ranged_word, single_word,
 };
-use alg_model::{Alg, TableRow, TableSpec, Tree};
+use alg_model::{Alg, Edition, TableRow, TableSpec, Tree};
 use meta_base::{NoMemory, Text, push_number};
 use std::alloc::Global;
 
-/// The text of an algebra as a file of one `main`. It means that algebra
-/// ([`crate::printed_text_means_the_algebra`]).
+/// The text of an algebra as a file of one `main`, behind a header where its edition is the second. It
+/// means that algebra ([`crate::printed_text_means_the_algebra`]).
 pub fn print_alg(alloc: Global, alg: &Alg) -> Result<Text, NoMemory>
     ensures { IfOk result (λ text. text ≡ alg_text alg.now) }
 {
     let mut out = String::new(alloc);
+    out.push_str(header_text(alg.edition()))?;
     out.push_str("main ")?;
     push_tree(&mut out, alg.tree())?;
     out.push_str(";\n")?;
     Ok(Text::from_string(out))
+}
+
+// The header of a text of this edition: a text without one is of the first.
+fn header_text(edition: Edition) -> &'static str
+    ensures { result.now ≡ header_text edition }
+{
+    match edition {
+        Edition::One => "",
+        Edition::Two => "raml 2;",
+    }
 }
 
 #[cycle(trees)]

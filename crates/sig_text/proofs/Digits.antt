@@ -3,11 +3,12 @@ use Rattle.std.proofs.Common.{◌≡◌, ℕ, ◌+◌, ◌-◌, ◌*◌, ◌/◌
 use Rattle.std.specs.Prelude.{decimal}
 use Rattle.std.specs.List.{list_all}
 use Rattle.std.proofs.lemmas.Bool.Decides.{nat_tests}
-use Rattle.std.proofs.lemmas.Fmt.{decimal_by_steps}
-use Rattle.meta_base.specs.declared.limits.TheConstants.{MAX_NUMBER}
+use Rattle.std.proofs.lemmas.Fmt.{decimal_by_steps_wide}
+use Rattle.sig_text.specs.declared.bytes.TheConstants.{MAX_LITERAL_NUMBER}
 use Rattle.meta_base.specs.Bytes.{is_digit, is_letter, is_word_byte, is_word, front, behind, number_from}
 use Rattle.alg_model.specs.Texts.{more_numbers, numbers_text}
-use Rattle.sig_text.specs.Parts.{is_blank, Part, word, digits, mark, part, part_at, step_of, Begins}
+use Rattle.meta_base.specs.Bytes.{is_blank}
+use Rattle.sig_text.specs.Parts.{Part, word, digits, mark, part, part_at, step_of, Begins}
 use Rattle.sig_text.specs.Shapes.{more_parts, numbers_parts, AreSmall}
 use Rattle.sig_text.proofs.Sequences.{at_word, at_digits}
 use Rattle.sig_text.proofs.Meant.{both_true}
@@ -39,8 +40,8 @@ more_digits n ds h p =
     let l = length-append ds ((48 + n % 10) ∷ []) in
     (all_append ds (48 + n % 10) p.0 (digit_48 (n % 10) small), number_from_append 0 ds (48 + n % 10) ∙ v, omega arith)
 
-decimal_digits : (n : ℕ) → n < 2 ^ 64 → AreDigits n (decimal n)
-decimal_digits n h = decimal_by_steps AreDigits one_digit more_digits n h
+decimal_digits : (n : ℕ) → n < 10 ^ 64 → AreDigits n (decimal n)
+decimal_digits n h = decimal_by_steps_wide AreDigits one_digit more_digits n h
 
 -- the text ends, or goes on with a byte that goes on with no word
 abbrev pub stops : List ℕ → Bool
@@ -99,7 +100,7 @@ step_run (c ∷ cs) rest n d s =
     ∙ ap (λ xs. part (digits (number_from 0 (c ∷ xs))) (behind is_digit (cs ++ rest))) f
     ∙ ap (λ us. part (digits (number_from 0 (c ∷ cs))) us) g ∙ ap (λ k. part (digits k) rest) d.1
 
-pub step_digits : (n : ℕ) (rest : List ℕ) → n ≤ MAX_NUMBER → stops rest ≡ true → step_of (decimal n ++ rest) ≡ part (digits n) rest
+pub step_digits : (n : ℕ) (rest : List ℕ) → n ≤ MAX_LITERAL_NUMBER → stops rest ≡ true → step_of (decimal n ++ rest) ≡ part (digits n) rest
 step_digits n rest h s = step_run (decimal n) rest n (decimal_digits n (omega arith)) s
 
 pub step_word : (w rest : List ℕ) → is_word w ≡ true → stops rest ≡ true → step_of (w ++ rest) ≡ part (word w) rest
@@ -122,7 +123,7 @@ more_stop : (ns : List ℕ) (m : ℕ) (rest : List ℕ) → is_word_byte m ≡ f
 more_stop [] m rest h = rw h refl
 more_stop (n ∷ ns) m rest h = refl
 
-more_begin : (ns : List ℕ) (m : ℕ) (rest : List ℕ) → AreSmall ns → is_word_byte m ≡ false → step_of (m ∷ rest) ≡ part (mark m) rest → Begins (more_parts ns ++ mark m ∷ []) (more_numbers ns ++ m ∷ rest) rest
+more_begin : (ns : List ℕ) (m : ℕ) (rest : List ℕ) → AreSmall MAX_LITERAL_NUMBER ns → is_word_byte m ≡ false → step_of (m ∷ rest) ≡ part (mark m) rest → Begins (more_parts ns ++ mark m ∷ []) (more_numbers ns ++ m ∷ rest) rest
 more_begin [] m rest s h e = begins_one (mark m) (m ∷ rest) rest e
 more_begin (n ∷ ns) m rest s h e =
     let tail = more_numbers ns ++ m ∷ rest in
@@ -130,14 +131,14 @@ more_begin (n ∷ ns) m rest s h e =
     subst (λ x. Begins (mark 44 ∷ digits n ∷ (more_parts ns ++ mark m ∷ [])) x rest) r
     (decimal n ++ tail, refl, (tail, step_digits n tail s.0 (more_stop ns m rest h), more_begin ns m rest s.1 h e))
 
-numbers_begin : (ns : List ℕ) (m : ℕ) (rest : List ℕ) → AreSmall ns → is_word_byte m ≡ false → step_of (m ∷ rest) ≡ part (mark m) rest → Begins (numbers_parts ns ++ mark m ∷ []) (numbers_text ns ++ m ∷ rest) rest
+numbers_begin : (ns : List ℕ) (m : ℕ) (rest : List ℕ) → AreSmall MAX_LITERAL_NUMBER ns → is_word_byte m ≡ false → step_of (m ∷ rest) ≡ part (mark m) rest → Begins (numbers_parts ns ++ mark m ∷ []) (numbers_text ns ++ m ∷ rest) rest
 numbers_begin [] m rest s h e = begins_one (mark m) (m ∷ rest) rest e
 numbers_begin (n ∷ ns) m rest s h e =
     let tail = more_numbers ns ++ m ∷ rest in
     subst (λ x. Begins (digits n ∷ (more_parts ns ++ mark m ∷ [])) x rest) (sym (append_assoc (decimal n) (more_numbers ns) (m ∷ rest)))
     (tail, step_digits n tail s.0 (more_stop ns m rest h), more_begin ns m rest s.1 h e)
 
-pub list_begins : (o m : ℕ) (ns rest : List ℕ) → AreSmall ns → is_word_byte m ≡ false → step_of (m ∷ rest) ≡ part (mark m) rest → step_of (o ∷ (numbers_text ns ++ m ∷ rest)) ≡ part (mark o) (numbers_text ns ++ m ∷ rest)
+pub list_begins : (o m : ℕ) (ns rest : List ℕ) → AreSmall MAX_LITERAL_NUMBER ns → is_word_byte m ≡ false → step_of (m ∷ rest) ≡ part (mark m) rest → step_of (o ∷ (numbers_text ns ++ m ∷ rest)) ≡ part (mark o) (numbers_text ns ++ m ∷ rest)
     → Begins (mark o ∷ (numbers_parts ns ++ mark m ∷ [])) (((o ∷ []) ++ numbers_text ns ++ (m ∷ [])) ++ rest) rest
 list_begins o m ns rest s h e f =
     subst (λ x. Begins (mark o ∷ (numbers_parts ns ++ mark m ∷ [])) (o ∷ x) rest) (sym (append_assoc (numbers_text ns) (m ∷ []) rest))

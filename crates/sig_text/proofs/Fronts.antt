@@ -2,7 +2,6 @@
 use Rattle.std.proofs.Common.{◌≡◌, ℕ, ◌≤◌, Bool, true, false, cond, List, [], ◌∷◌, ◌++◌, Option, Some, None, refl, sym, ap, ◌∙◌, subst, arith, append_assoc, nat_le, ◌==◌}
 use Rattle.std.specs.Prelude.{option_map, option_and_then}
 use Rattle.std.proofs.lemmas.Bool.Decides.{nat_tests}
-use Rattle.meta_base.specs.declared.limits.TheConstants.{MAX_NUMBER}
 use Rattle.sig_text.specs.Parts.{Part, word, digits, mark, Step, end, part, step_of, Begins, Splits}
 use Rattle.sig_text.specs.Sequences.{parts_of}
 use Rattle.sig_text.specs.Shapes.{more_parts, numbers_parts, AreSmall}
@@ -47,15 +46,15 @@ take_mark_is m (mark c ∷ ps) z e =
     cc
 take_mark_is m _ z e = absurd (cc)
 
-pub take_number_is : (ps z : List Part) (n : ℕ) → take_number ps ≡ Some (n, z) → (ps ≡ digits n ∷ z) × (n ≤ MAX_NUMBER)
-take_number_is (digits k ∷ ps) z n e =
-    let t = test_is (nat_le k MAX_NUMBER) (k, ps) (n, z) e in
+pub take_number_is : (greatest : ℕ) (ps z : List Part) (n : ℕ) → take_number greatest ps ≡ Some (n, z) → (ps ≡ digits n ∷ z) × (n ≤ greatest)
+take_number_is greatest (digits k ∷ ps) z n e =
+    let t = test_is (nat_le k greatest) (k, ps) (n, z) e in
     let pq = same_pairs (k, ps) (n, z) (ap (λ (r : ℕ × List Part). Some r) t.1) in
     let p : k ≡ n = pq.0 in
     let q : ps ≡ z = pq.1 in
-    let b : k ≤ MAX_NUMBER = grind (arith, nat_tests, t.0) in
+    let b : k ≤ greatest = grind (arith, nat_tests, t.0) in
     (cc, rw (← p) b)
-take_number_is _ z n e = absurd (cc)
+take_number_is greatest _ z n e = absurd (cc)
 
 pub take_word_is : (ps z : List Part) (w : List ℕ) → take_word ps ≡ Some (w, z) → ps ≡ word w ∷ z
 take_word_is (word v ∷ ps) z w e =
@@ -69,8 +68,8 @@ take_word_is _ z w e = absurd (cc)
 pub takes_mark : (m : ℕ) (z : List Part) → take_mark m (mark m ∷ z) ≡ Some z
 takes_mark m z = rw (is_same m) refl
 
-pub takes_number : (n : ℕ) (z : List Part) → n ≤ MAX_NUMBER → take_number (digits n ∷ z) ≡ Some (n, z)
-takes_number n z h = let t : nat_le n MAX_NUMBER ≡ true = grind (arith, nat_tests) in rw t refl
+pub takes_number : (greatest : ℕ) (n : ℕ) (z : List Part) → n ≤ greatest → take_number greatest (digits n ∷ z) ≡ Some (n, z)
+takes_number greatest n z h = let t : nat_le n greatest ≡ true = grind (arith, nat_tests) in rw t refl
 
 -- a pair in parentheses, before these parts
 pub pair_regroup : (m : ℕ) (a b z : List Part) → (mark 40 ∷ (a ++ mark m ∷ (b ++ mark 41 ∷ []))) ++ z ≡ mark 40 ∷ (a ++ mark m ∷ (b ++ mark 41 ∷ z))
@@ -112,42 +111,42 @@ pub takes_pair : {A B C : Type 0} (m : ℕ) (f : A → B → C) (x : List Part �
 takes_pair m f x y a b qs us z h k = rw (h, is_same m, k) refl
 
 -- lists of numbers
-items_taken : (m : ℕ) → (44 == m) ≡ false → (ns : List ℕ) (n : ℕ) (ks : List ℕ) (z : List Part) → AreSmall (n ∷ ks)
-    → items_until m ns (digits n ∷ (more_parts ks ++ mark m ∷ z)) ≡ Some (ns ++ n ∷ ks, z)
-items_taken m d ns n [] z s = let t : nat_le n MAX_NUMBER ≡ true = grind (arith, nat_tests, s.0) in rw (t, is_same m) refl
-items_taken m d ns n (k ∷ ks) z s =
-    let t : nat_le n MAX_NUMBER ≡ true = grind (arith, nat_tests, s.0) in
-    rw (t, d) (items_taken m d (ns ++ n ∷ []) k ks z s.1 ∙ ap (λ xs. Some (xs, z)) (append_assoc ns (n ∷ []) (k ∷ ks)))
+items_taken : (greatest : ℕ) (m : ℕ) → (44 == m) ≡ false → (ns : List ℕ) (n : ℕ) (ks : List ℕ) (z : List Part) → AreSmall greatest (n ∷ ks)
+    → items_until greatest m ns (digits n ∷ (more_parts ks ++ mark m ∷ z)) ≡ Some (ns ++ n ∷ ks, z)
+items_taken greatest m d ns n [] z s = let t : nat_le n greatest ≡ true = grind (arith, nat_tests, s.0) in rw (t, is_same m) refl
+items_taken greatest m d ns n (k ∷ ks) z s =
+    let t : nat_le n greatest ≡ true = grind (arith, nat_tests, s.0) in
+    rw (t, d) (items_taken greatest m d (ns ++ n ∷ []) k ks z s.1 ∙ ap (λ xs. Some (xs, z)) (append_assoc ns (n ∷ []) (k ∷ ks)))
 
-pub takes_list : (o m : ℕ) → (44 == m) ≡ false → (ns : List ℕ) (z : List Part) → AreSmall ns → take_list o m ((mark o ∷ (numbers_parts ns ++ mark m ∷ [])) ++ z) ≡ Some (ns, z)
-takes_list o m d [] z s = rw (is_same o, is_same m) refl
-takes_list o m d (n ∷ ns) z s =
+pub takes_list : (greatest : ℕ) (o m : ℕ) → (44 == m) ≡ false → (ns : List ℕ) (z : List Part) → AreSmall greatest ns → take_list greatest o m ((mark o ∷ (numbers_parts ns ++ mark m ∷ [])) ++ z) ≡ Some (ns, z)
+takes_list greatest o m d [] z s = rw (is_same o, is_same m) refl
+takes_list greatest o m d (n ∷ ns) z s =
     let e : (more_parts ns ++ mark m ∷ []) ++ z ≡ more_parts ns ++ mark m ∷ z = append_assoc (more_parts ns) (mark m ∷ []) z in
-    rw (is_same o, e) (items_taken m d [] n ns z s)
+    rw (is_same o, e) (items_taken greatest m d [] n ns z s)
 
-pub record ItemsFront (m : ℕ) (ns : List ℕ) (ps : List Part) (all : List ℕ) (z : List Part) : Type 0 where
+pub record ItemsFront (greatest : ℕ) (m : ℕ) (ns : List ℕ) (ps : List Part) (all : List ℕ) (z : List Part) : Type 0 where
   pub n : ℕ
   pub ks : List ℕ
   pub all_is : all ≡ ns ++ n ∷ ks
   pub parts : ps ≡ digits n ∷ (more_parts ks ++ mark m ∷ z)
-  pub small : AreSmall (n ∷ ks)
+  pub small : AreSmall greatest (n ∷ ks)
 
-items_step : (m n c : ℕ) (ns : List ℕ) (ps : List Part) (all : List ℕ) (z : List Part) (b d f : Bool)
-    → nat_le n MAX_NUMBER ≡ b → (c == m) ≡ d → (c == 44) ≡ f
-    → (items_until m (ns ++ n ∷ []) ps ≡ Some (all, z) → ItemsFront m (ns ++ n ∷ []) ps all z)
-    → items_until m ns (digits n ∷ mark c ∷ ps) ≡ Some (all, z) → ItemsFront m ns (digits n ∷ mark c ∷ ps) all z
-items_step m n c ns ps all z false d f h k l more e =
-    let v : items_until m ns (digits n ∷ mark c ∷ ps) ≡ None = rw h refl in
+items_step : (greatest : ℕ) (m n c : ℕ) (ns : List ℕ) (ps : List Part) (all : List ℕ) (z : List Part) (b d f : Bool)
+    → nat_le n greatest ≡ b → (c == m) ≡ d → (c == 44) ≡ f
+    → (items_until greatest m (ns ++ n ∷ []) ps ≡ Some (all, z) → ItemsFront greatest m (ns ++ n ∷ []) ps all z)
+    → items_until greatest m ns (digits n ∷ mark c ∷ ps) ≡ Some (all, z) → ItemsFront greatest m ns (digits n ∷ mark c ∷ ps) all z
+items_step greatest m n c ns ps all z false d f h k l more e =
+    let v : items_until greatest m ns (digits n ∷ mark c ∷ ps) ≡ None = rw h refl in
     absurd (cc)
-items_step m n c ns ps all z true true f h k l more e =
-    let v : items_until m ns (digits n ∷ mark c ∷ ps) ≡ Some (ns ++ n ∷ [], ps) = rw (h, k) refl in
+items_step greatest m n c ns ps all z true true f h k l more e =
+    let v : items_until greatest m ns (digits n ∷ mark c ∷ ps) ≡ Some (ns ++ n ∷ [], ps) = rw (h, k) refl in
     let pq = same_pairs (ns ++ n ∷ [], ps) (all, z) (sym v ∙ e) in
-    let s : n ≤ MAX_NUMBER = grind (arith, nat_tests) in
+    let s : n ≤ greatest = grind (arith, nat_tests) in
     let t = same_mark c m k in
     record { n = n; ks = []; all_is = sym pq.0; parts = ap (λ x. digits n ∷ mark x ∷ ps) t ∙ ap (λ us. digits n ∷ mark m ∷ us) pq.1; small = (s, tt) }
-items_step m n c ns ps all z true false true h k l more e =
-    let v : items_until m ns (digits n ∷ mark c ∷ ps) ≡ items_until m (ns ++ n ∷ []) ps = rw (h, k, l) refl in
-    let s : n ≤ MAX_NUMBER = grind (arith, nat_tests) in
+items_step greatest m n c ns ps all z true false true h k l more e =
+    let v : items_until greatest m ns (digits n ∷ mark c ∷ ps) ≡ items_until greatest m (ns ++ n ∷ []) ps = rw (h, k, l) refl in
+    let s : n ≤ greatest = grind (arith, nat_tests) in
     let t = same_mark c 44 l in
     let i = more (sym v ∙ e) in
     record {
@@ -157,38 +156,38 @@ items_step m n c ns ps all z true false true h k l more e =
       parts = ap (λ x. digits n ∷ mark x ∷ ps) t ∙ ap (λ us. digits n ∷ mark 44 ∷ us) i.parts;
       small = (s, i.small);
     }
-items_step m n c ns ps all z true false false h k l more e =
-    let v : items_until m ns (digits n ∷ mark c ∷ ps) ≡ None = rw (h, k, l) refl in
+items_step greatest m n c ns ps all z true false false h k l more e =
+    let v : items_until greatest m ns (digits n ∷ mark c ∷ ps) ≡ None = rw (h, k, l) refl in
     absurd (cc)
 
-pub items_is : (m : ℕ) (ns : List ℕ) (ps : List Part) (all : List ℕ) (z : List Part) → items_until m ns ps ≡ Some (all, z) → ItemsFront m ns ps all z
-items_is m ns (digits n ∷ mark c ∷ ps) all z e =
-    items_step m n c ns ps all z (nat_le n MAX_NUMBER) (c == m) (c == 44) refl refl refl (λ h. items_is m (ns ++ n ∷ []) ps all z h) e
-items_is m ns _ all z e = absurd (cc)
+pub items_is : (greatest : ℕ) (m : ℕ) (ns : List ℕ) (ps : List Part) (all : List ℕ) (z : List Part) → items_until greatest m ns ps ≡ Some (all, z) → ItemsFront greatest m ns ps all z
+items_is greatest m ns (digits n ∷ mark c ∷ ps) all z e =
+    items_step greatest m n c ns ps all z (nat_le n greatest) (c == m) (c == 44) refl refl refl (λ h. items_is greatest m (ns ++ n ∷ []) ps all z h) e
+items_is greatest m ns _ all z e = absurd (cc)
 
-pub record ListFront (o m : ℕ) (ps : List Part) (ns : List ℕ) (z : List Part) : Type 0 where
+pub record ListFront (greatest : ℕ) (o m : ℕ) (ps : List Part) (ns : List ℕ) (z : List Part) : Type 0 where
   pub parts : ps ≡ (mark o ∷ (numbers_parts ns ++ mark m ∷ [])) ++ z
-  pub small : AreSmall ns
+  pub small : AreSmall greatest ns
 
-list_by : (o m : ℕ) (qs : List Part) (ns : List ℕ) (z : List Part) (t : Option (List Part)) → take_mark m qs ≡ t → or_none t (items_until m [] qs) ≡ Some (ns, z) → ListFront o m (mark o ∷ qs) ns z
-list_by o m qs ns z (Some us) h e =
+list_by : (greatest : ℕ) (o m : ℕ) (qs : List Part) (ns : List ℕ) (z : List Part) (t : Option (List Part)) → take_mark m qs ≡ t → or_none t (items_until greatest m [] qs) ≡ Some (ns, z) → ListFront greatest o m (mark o ∷ qs) ns z
+list_by greatest o m qs ns z (Some us) h e =
     let pq = same_pairs ([], us) (ns, z) e in
     let p = pq.0 in
     let q = pq.1 in
     let r = take_mark_is m qs us h in
-    subst (λ xs. ListFront o m (mark o ∷ qs) xs z) p (record { parts = cc; small = tt })
-list_by o m qs ns z None h e =
-    let i = items_is m [] qs ns z e in
-    subst (λ xs. ListFront o m (mark o ∷ qs) xs z) (sym i.all_is) (record {
+    subst (λ xs. ListFront greatest o m (mark o ∷ qs) xs z) p (record { parts = cc; small = tt })
+list_by greatest o m qs ns z None h e =
+    let i = items_is greatest m [] qs ns z e in
+    subst (λ xs. ListFront greatest o m (mark o ∷ qs) xs z) (sym i.all_is) (record {
       parts = ap (λ us. mark o ∷ us) i.parts ∙ ap (λ us. mark o ∷ digits i.n ∷ us) (sym (append_assoc (more_parts i.ks) (mark m ∷ []) z));
       small = i.small;
     })
 
-pub list_is : (o m : ℕ) (ps : List Part) (ns : List ℕ) (z : List Part) → take_list o m ps ≡ Some (ns, z) → ListFront o m ps ns z
-list_is o m ps ns z e =
-    let h = and_then_is (λ qs. or_none (take_mark m qs) (items_until m [] qs)) (take_mark o ps) (ns, z) e in
+pub list_is : (greatest : ℕ) (o m : ℕ) (ps : List Part) (ns : List ℕ) (z : List Part) → take_list greatest o m ps ≡ Some (ns, z) → ListFront greatest o m ps ns z
+list_is greatest o m ps ns z e =
+    let h = and_then_is (λ qs. or_none (take_mark m qs) (items_until greatest m [] qs)) (take_mark o ps) (ns, z) e in
     let k = take_mark_is o ps h.0 h.1 in
-    rw k (list_by o m h.0 ns z (take_mark m h.0) refl h.2)
+    rw k (list_by greatest o m h.0 ns z (take_mark m h.0) refl h.2)
 
 -- the parts of a text are those that it splits into
 begins_parts : (ps : List Part) (text rest : List ℕ) → Begins ps text rest → parts_of text ≡ ps ++ parts_of rest

@@ -5,7 +5,7 @@ use Rattle.std.specs.List.{list_all}
 use Rattle.std.specs.Str.{bytes_eq}
 use Rattle.std.proofs.lemmas.Bool.Decides.{nat_tests}
 use Rattle.std.proofs.lemmas.Option.{slice_get-get_or}
-use Rattle.meta_base.specs.declared.limits.TheConstants.{MAX_NUMBER}
+use Rattle.sig_text.specs.declared.bytes.TheConstants.{MAX_LITERAL_NUMBER}
 use Rattle.meta_base.specs.Bytes.{is_word}
 use Rattle.alg_model.specs.declared.tree.TableSpec.{TableSpec}
 use Rattle.alg_model.specs.declared.tree.TableRow.{TableRow}
@@ -20,26 +20,26 @@ use Rattle.alg_model.specs.Texts.{value_text, label_text, row_text}
 use Rattle.sig_text.specs.declared.faults.LitFault.TheVariants.{NotALabel}
 use Rattle.sig_text.specs.Parts.{Part, word, digits, mark, part, step_of, Begins}
 use Rattle.sig_text.specs.Shapes.{LabelShape, number_label_shape, word_label_shape, marked_shape, pair_label_shape, both_shape, first_label_shape, second_label_shape, value_label_shape, outer_shape, inner_shape, label_parts, value_parts, HasLabelShape}
-use Rattle.sig_text.specs.Literals.{both_of, one_of, placed, value_of, label_of, LabelText}
+use Rattle.sig_text.specs.Literals.{both_of, one_of, placed, value_of, label_of, LabelTextTo}
 use Rattle.sig_text.proofs.Meant.{both_true}
 use Rattle.sig_text.proofs.Digits.{step_digits, step_word, begins_append, begins_one}
 use Rattle.sig_text.proofs.Sets.{all_at, placed_at}
-use Rattle.sig_text.proofs.RoundTrips.{readable, Reads, pair_reads, reads_whole, told}
+use Rattle.sig_text.proofs.RoundTrips.{HasRoom, readable_number, readable, Reads, pair_reads, reads_whole, told}
 
 -- a shape that spells the label, whose parts are those of the printed text
-pub record LabelTold (a : Expression) (l : PureLabel) : Type 0 where
+pub record LabelTold (greatest : ℕ) (a : Expression) (l : PureLabel) : Type 0 where
   pub shape : LabelShape
-  pub has : HasLabelShape a shape
+  pub has : HasLabelShape greatest a shape
   pub means : label_of a shape ≡ Ok l
   pub reads : Reads (label_parts shape) (label_text a l)
 
-number_reads : (n : ℕ) → n ≤ MAX_NUMBER → Reads (digits n ∷ []) (decimal n)
+number_reads : (n : ℕ) → n ≤ MAX_LITERAL_NUMBER → Reads (digits n ∷ []) (decimal n)
 number_reads n s = λ rest h. begins_one (digits n) (decimal n ++ rest) rest (step_digits n rest s h)
 
 word_reads : (w : List ℕ) → is_word w ≡ true → Reads (word w ∷ []) w
 word_reads w i = λ rest h. begins_one (word w) (w ++ rest) rest (step_word w rest i h)
 
-marked_reads : (c n : ℕ) → ((r : List ℕ) → step_of (c ∷ r) ≡ part (mark c) r) → n ≤ MAX_NUMBER → Reads (mark c ∷ digits n ∷ []) (c ∷ decimal n)
+marked_reads : (c n : ℕ) → ((r : List ℕ) → step_of (c ∷ r) ≡ part (mark c) r) → n ≤ MAX_LITERAL_NUMBER → Reads (mark c ∷ digits n ∷ []) (c ∷ decimal n)
 marked_reads c n e s = λ rest h. (decimal n ++ rest, e (decimal n ++ rest), number_reads n s rest h)
 
 parens_regroup : (t rest : List ℕ) → ((40 ∷ []) ++ t ++ (41 ∷ [])) ++ rest ≡ 40 ∷ (t ++ 41 ∷ rest)
@@ -57,8 +57,8 @@ both_tests low n high h k =
     let q : nat_le n high ≡ true = grind (arith, nat_tests) in
     rw (p, q) refl
 
-told_row : (t : TableSpec) (k : ℕ) → are_named row_name t.rows ≡ true → k < length t.rows → LabelTold (table t) (row_label k)
-told_row t k r i =
+told_row : (greatest : ℕ) (t : TableSpec) (k : ℕ) → are_named row_name t.rows ≡ true → k < length t.rows → LabelTold greatest (table t) (row_label k)
+told_row greatest t k r i =
     let none : TableRow = record { name = []; images = [] } in
     let both = both_true (list_all (λ (row : TableRow). is_table_name (row_name row)) t.rows) (are_distinct row_name t.rows) r in
     let named = all_at (λ (row : TableRow). is_table_name (row_name row)) t.rows k none i both.0 in
@@ -72,70 +72,74 @@ told_row t k r i =
       reads = subst (Reads (word w ∷ [])) text (word_reads w is);
     }
 
-pub label_told : (a : Expression) (l : PureLabel) → MeetsRanges a → MeetsNames a → IsLabel a l → LabelAtMost MAX_NUMBER l → LabelTold a l
-label_told (add low high) (number_label n) r m i s = record { shape = number_label_shape n; has = s; means = rw (both_tests low n high i.0 i.1) refl; reads = number_reads n s }
-label_told (add low high) _ r m i s = absurd i
-label_told (cap top low high) (number_label n) r m i s = record { shape = number_label_shape n; has = s; means = rw (both_tests low n high i.0 i.1) refl; reads = number_reads n s }
-label_told (cap top low high) _ r m i s = absurd i
-label_told (worst top low high) (number_label n) r m i s = record { shape = number_label_shape n; has = s; means = rw (both_tests low n high i.0 i.1) refl; reads = number_reads n s }
-label_told (worst top low high) _ r m i s = absurd i
-label_told (width top low high) (number_label n) r m i s = record { shape = number_label_shape n; has = s; means = rw (both_tests low n high i.0 i.1) refl; reads = number_reads n s }
-label_told (width top low high) _ r m i s = absurd i
-label_told (pref top) (number_label n) r m i s =
+pub label_told : (greatest : ℕ) → HasRoom greatest → (a : Expression) (l : PureLabel) → MeetsRanges a → MeetsNames a → IsLabel a l → LabelAtMost greatest l → LabelTold greatest a l
+label_told greatest room (add low high) (number_label n) r m i s = record { shape = number_label_shape n; has = s; means = rw (both_tests low n high i.0 i.1) refl; reads = number_reads n (readable_number greatest n room s) }
+label_told greatest room (add low high) _ r m i s = absurd i
+label_told greatest room (cap top low high) (number_label n) r m i s = record { shape = number_label_shape n; has = s; means = rw (both_tests low n high i.0 i.1) refl; reads = number_reads n (readable_number greatest n room s) }
+label_told greatest room (cap top low high) _ r m i s = absurd i
+label_told greatest room (worst top low high) (number_label n) r m i s = record { shape = number_label_shape n; has = s; means = rw (both_tests low n high i.0 i.1) refl; reads = number_reads n (readable_number greatest n room s) }
+label_told greatest room (worst top low high) _ r m i s = absurd i
+label_told greatest room (width top low high) (number_label n) r m i s = record { shape = number_label_shape n; has = s; means = rw (both_tests low n high i.0 i.1) refl; reads = number_reads n (readable_number greatest n room s) }
+label_told greatest room (width top low high) _ r m i s = absurd i
+label_told greatest room (pref top) (number_label n) r m i s =
     let t : nat_le n top ≡ true = grind (arith, nat_tests) in
-    record { shape = number_label_shape n; has = s; means = rw t refl; reads = number_reads n s }
-label_told (pref top) _ r m i s = absurd i
-label_told (orig top) keep r m i s = record { shape = word_label_shape (codes "keep"); has = refl; means = refl; reads = word_reads (codes "keep") refl }
-label_told (orig top) _ r m i s = absurd i
-label_told (seq k) (symbol_label n) r m i s =
+    record { shape = number_label_shape n; has = s; means = rw t refl; reads = number_reads n (readable_number greatest n room s) }
+label_told greatest room (pref top) _ r m i s = absurd i
+label_told greatest room (orig top) keep r m i s = record { shape = word_label_shape (codes "keep"); has = refl; means = refl; reads = word_reads (codes "keep") refl }
+label_told greatest room (orig top) _ r m i s = absurd i
+label_told greatest room (seq k) (symbol_label n) r m i s =
     let t : nat_lt n k ≡ true = grind (arith, nat_tests) in
-    record { shape = number_label_shape n; has = s; means = rw t refl; reads = number_reads n s }
-label_told (seq k) _ r m i s = absurd i
-label_told (simseq k) (symbol_label n) r m i s =
+    record { shape = number_label_shape n; has = s; means = rw t refl; reads = number_reads n (readable_number greatest n room s) }
+label_told greatest room (seq k) _ r m i s = absurd i
+label_told greatest room (simseq k) (symbol_label n) r m i s =
     let t : nat_lt n k ≡ true = grind (arith, nat_tests) in
-    record { shape = number_label_shape n; has = s; means = rw t refl; reads = number_reads n s }
-label_told (simseq k) _ r m i s = absurd i
-label_told (tags k) keep r m i s = record { shape = word_label_shape (codes "keep"); has = refl; means = refl; reads = word_reads (codes "keep") refl }
-label_told (tags k) (labels.mark n) r m i s =
+    record { shape = number_label_shape n; has = s; means = rw t refl; reads = number_reads n (readable_number greatest n room s) }
+label_told greatest room (simseq k) _ r m i s = absurd i
+label_told greatest room (tags k) keep r m i s = record { shape = word_label_shape (codes "keep"); has = refl; means = refl; reads = word_reads (codes "keep") refl }
+label_told greatest room (tags k) (labels.mark n) r m i s =
     let few = r.1 in
     let t : nat_lt n k ≡ true = grind (arith, nat_tests) in
-    let small : n ≤ MAX_NUMBER = omega arith in
-    record { shape = marked_shape 43 n; has = (inl refl, small); means = rw t refl; reads = marked_reads 43 n (λ r. refl) small }
-label_told (tags k) (unmark n) r m i s =
+    let least = room.0 in
+    let small : n ≤ greatest = omega arith in
+    record { shape = marked_shape 43 n; has = (inl refl, small); means = rw t refl; reads = marked_reads 43 n (λ r. refl) (readable_number greatest n room small) }
+label_told greatest room (tags k) (unmark n) r m i s =
     let few = r.1 in
     let t : nat_lt n k ≡ true = grind (arith, nat_tests) in
-    let small : n ≤ MAX_NUMBER = omega arith in
-    record { shape = marked_shape 45 n; has = (inr refl, small); means = rw t refl; reads = marked_reads 45 n (λ r. refl) small }
-label_told (tags k) _ r m i s = absurd i
-label_told (guard k) (need n) r m i s =
+    let least = room.0 in
+    let small : n ≤ greatest = omega arith in
+    record { shape = marked_shape 45 n; has = (inr refl, small); means = rw t refl; reads = marked_reads 45 n (λ r. refl) (readable_number greatest n room small) }
+label_told greatest room (tags k) _ r m i s = absurd i
+label_told greatest room (guard k) (need n) r m i s =
     let few = r.1 in
     let t : nat_lt n k ≡ true = grind (arith, nat_tests) in
-    let small : n ≤ MAX_NUMBER = omega arith in
-    record { shape = marked_shape 63 n; has = (inl refl, small); means = rw t refl; reads = marked_reads 63 n (λ r. refl) small }
-label_told (guard k) (bar n) r m i s =
+    let least = room.0 in
+    let small : n ≤ greatest = omega arith in
+    record { shape = marked_shape 63 n; has = (inl refl, small); means = rw t refl; reads = marked_reads 63 n (λ r. refl) (readable_number greatest n room small) }
+label_told greatest room (guard k) (bar n) r m i s =
     let few = r.1 in
     let t : nat_lt n k ≡ true = grind (arith, nat_tests) in
-    let small : n ≤ MAX_NUMBER = omega arith in
-    record { shape = marked_shape 33 n; has = (inr refl, small); means = rw t refl; reads = marked_reads 33 n (λ r. refl) small }
-label_told (guard k) _ r m i s = absurd i
-label_told gate allow r m i s = record { shape = word_label_shape (codes "allow"); has = inl refl; means = refl; reads = word_reads (codes "allow") refl }
-label_told gate deny r m i s = record { shape = word_label_shape (codes "deny"); has = inr refl; means = refl; reads = word_reads (codes "deny") refl }
-label_told gate _ r m i s = absurd i
-label_told (table t) (row_label k) r m i s = told_row t k (both_true (are_named (λ name. name) t.names) (are_named row_name t.rows) m).1 i
-label_told (table t) _ r m i s = absurd i
-label_told (lex a b) (pair_label l n) r m i s =
-    let x = label_told a l r.0 m.0 i.0 s.0 in
-    let y = label_told b n r.1 m.1 i.1 s.1 in
+    let least = room.0 in
+    let small : n ≤ greatest = omega arith in
+    record { shape = marked_shape 33 n; has = (inr refl, small); means = rw t refl; reads = marked_reads 33 n (λ r. refl) (readable_number greatest n room small) }
+label_told greatest room (guard k) _ r m i s = absurd i
+label_told greatest room gate allow r m i s = record { shape = word_label_shape (codes "allow"); has = inl refl; means = refl; reads = word_reads (codes "allow") refl }
+label_told greatest room gate deny r m i s = record { shape = word_label_shape (codes "deny"); has = inr refl; means = refl; reads = word_reads (codes "deny") refl }
+label_told greatest room gate _ r m i s = absurd i
+label_told greatest room (table t) (row_label k) r m i s = told_row greatest t k (both_true (are_named (λ name. name) t.names) (are_named row_name t.rows) m).1 i
+label_told greatest room (table t) _ r m i s = absurd i
+label_told greatest room (lex a b) (pair_label l n) r m i s =
+    let x = label_told greatest room a l r.0 m.0 i.0 s.0 in
+    let y = label_told greatest room b n r.1 m.1 i.1 s.1 in
     record {
       shape = pair_label_shape x.shape y.shape;
       has = (x.has, y.has);
       means = ap (λ o. both_of pair_label o (label_of b y.shape)) x.means ∙ ap (λ o. both_of pair_label (Ok l) o) y.means;
       reads = pair_reads 44 (label_parts x.shape) (label_parts y.shape) (label_text a l) (label_text b n) refl (λ r. refl) x.reads y.reads;
     }
-label_told (lex a b) _ r m i s = absurd i
-label_told (scoped a b) (outer l v) r m i s =
-    let x = label_told a l r.0 m.0 i.0 s.0 in
-    let y = told (carrier_of b) v (readable b r.1 m.1) i.1 s.1 in
+label_told greatest room (lex a b) _ r m i s = absurd i
+label_told greatest room (scoped a b) (outer l v) r m i s =
+    let x = label_told greatest room a l r.0 m.0 i.0 s.0 in
+    let y = told greatest room (carrier_of b) v (readable b r.1 m.1) i.1 s.1 in
     let inside = pair_reads 44 (label_parts x.shape) (value_parts y.shape) (label_text a l) (value_text (carrier_of b) v) refl (λ r. refl) x.reads y.reads in
     record {
       shape = outer_shape x.shape y.shape;
@@ -143,8 +147,8 @@ label_told (scoped a b) (outer l v) r m i s =
       means = ap (λ o. both_of outer o (value_of (carrier_of b) y.shape)) x.means ∙ ap (λ o. both_of outer (Ok l) o) y.means;
       reads = λ rest h. (((40 ∷ []) ++ label_text a l ++ (44 ∷ []) ++ value_text (carrier_of b) v ++ (41 ∷ [])) ++ rest, refl, inside rest h);
     }
-label_told (scoped a b) (inner n) r m i s =
-    let y = label_told b n r.1 m.1 i s in
+label_told greatest room (scoped a b) (inner n) r m i s =
+    let y = label_told greatest room b n r.1 m.1 i s in
     let inside = parens_reads (label_parts y.shape) (label_text b n) y.reads in
     record {
       shape = inner_shape y.shape;
@@ -152,39 +156,39 @@ label_told (scoped a b) (inner n) r m i s =
       means = ap (one_of inner) y.means;
       reads = λ rest h. (((40 ∷ []) ++ label_text b n ++ (41 ∷ [])) ++ rest, refl, inside rest h);
     }
-label_told (scoped a b) _ r m i s = absurd i
-label_told (union a b) (first_label l) r m i s =
-    let x = label_told a l r.0 m.0 i s in
+label_told greatest room (scoped a b) _ r m i s = absurd i
+label_told greatest room (union a b) (first_label l) r m i s =
+    let x = label_told greatest room a l r.0 m.0 i s in
     record { shape = first_label_shape x.shape; has = x.has; means = ap (one_of first_label) x.means; reads = λ rest h. (58 ∷ (label_text a l ++ rest), refl, (label_text a l ++ rest, refl, x.reads rest h)) }
-label_told (union a b) (second_label n) r m i s =
-    let y = label_told b n r.1 m.1 i s in
+label_told greatest room (union a b) (second_label n) r m i s =
+    let y = label_told greatest room b n r.1 m.1 i s in
     record { shape = second_label_shape y.shape; has = y.has; means = ap (one_of second_label) y.means; reads = λ rest h. (58 ∷ (label_text b n ++ rest), refl, (label_text b n ++ rest, refl, y.reads rest h)) }
-label_told (union a b) _ r m i s = absurd i
-label_told (sum a b) (both_label l n) r m i s =
-    let x = label_told a l r.0 m.0 i.0 s.0 in
-    let y = label_told b n r.1 m.1 i.1 s.1 in
+label_told greatest room (union a b) _ r m i s = absurd i
+label_told greatest room (sum a b) (both_label l n) r m i s =
+    let x = label_told greatest room a l r.0 m.0 i.0 s.0 in
+    let y = label_told greatest room b n r.1 m.1 i.1 s.1 in
     record {
       shape = both_shape x.shape y.shape;
       has = (x.has, y.has);
       means = ap (λ o. both_of both_label o (label_of b y.shape)) x.means ∙ ap (λ o. both_of both_label (Ok l) o) y.means;
       reads = pair_reads 124 (label_parts x.shape) (label_parts y.shape) (label_text a l) (label_text b n) refl (λ r. refl) x.reads y.reads;
     }
-label_told (sum a b) _ r m i s = absurd i
-label_told (plus a b) (first_label l) r m i s =
-    let x = label_told a l r.0 m.0 i s in
+label_told greatest room (sum a b) _ r m i s = absurd i
+label_told greatest room (plus a b) (first_label l) r m i s =
+    let x = label_told greatest room a l r.0 m.0 i s in
     record { shape = first_label_shape x.shape; has = x.has; means = ap (one_of first_label) x.means; reads = λ rest h. (58 ∷ (label_text a l ++ rest), refl, (label_text a l ++ rest, refl, x.reads rest h)) }
-label_told (plus a b) (second_label n) r m i s =
-    let y = label_told b n r.1 m.1 i s in
+label_told greatest room (plus a b) (second_label n) r m i s =
+    let y = label_told greatest room b n r.1 m.1 i s in
     record { shape = second_label_shape y.shape; has = y.has; means = ap (one_of second_label) y.means; reads = λ rest h. (58 ∷ (label_text b n ++ rest), refl, (label_text b n ++ rest, refl, y.reads rest h)) }
-label_told (plus a b) _ r m i s = absurd i
-label_told (left a) (const_label v) r m i s =
-    let y = told (carrier_of a) v (readable a r m) i s in
+label_told greatest room (plus a b) _ r m i s = absurd i
+label_told greatest room (left a) (const_label v) r m i s =
+    let y = told greatest room (carrier_of a) v (readable a r m) i s in
     record { shape = value_label_shape y.shape; has = y.has; means = ap (one_of const_label) y.means; reads = y.reads }
-label_told (left a) _ r m i s = absurd i
-label_told (right a) keep r m i s = record { shape = word_label_shape (codes "keep"); has = refl; means = refl; reads = word_reads (codes "keep") refl }
-label_told (right a) _ r m i s = absurd i
+label_told greatest room (left a) _ r m i s = absurd i
+label_told greatest room (right a) keep r m i s = record { shape = word_label_shape (codes "keep"); has = refl; means = refl; reads = word_reads (codes "keep") refl }
+label_told greatest room (right a) _ r m i s = absurd i
 
-pub label_round : (a : Expression) (l : PureLabel) → IsFormed a → IsLabel a l → LabelAtMost MAX_NUMBER l → LabelText a (label_text a l) l
-label_round a l f i s =
-    let t = label_told a l f.ranges f.names i s in
+pub label_round : (greatest : ℕ) → HasRoom greatest → (a : Expression) (l : PureLabel) → IsFormed a → IsLabel a l → LabelAtMost greatest l → LabelTextTo greatest a (label_text a l) l
+label_round greatest room a l f i s =
+    let t = label_told greatest room a l f.ranges f.names i s in
     record { shape = t.shape; has = t.has; splits = reads_whole (label_parts t.shape) (label_text a l) t.reads; means = t.means }

@@ -11,3 +11,4 @@ pub mod Digits
 pub mod Sets
 pub mod RoundTrips
 pub mod LabelRoundTrips
+pub mod Distinct

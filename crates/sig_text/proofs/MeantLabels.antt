@@ -5,7 +5,6 @@ use Rattle.std.specs.Prelude.{codes, position, if◌then◌else◌}
 use Rattle.std.specs.Str.{bytes_eq}
 use Rattle.std.proofs.lemmas.Bool.Decides.{nat_tests}
 use Rattle.std.proofs.lemmas.List.Quantifiers.{position-Some}
-use Rattle.meta_base.specs.declared.limits.TheConstants.{MAX_NUMBER}
 use Rattle.alg_model.specs.declared.tree.TableRow.{TableRow}
 use Rattle.alg_model.specs.Expressions.{Expression, add, cap, worst, width, pref, orig, seq, simseq, tags, guard, gate, table, lex, scoped, union, sum, plus, left, right}
 use Rattle.alg_model.specs.Expressions.{PureLabel, number_label, keep, symbol_label, allow, deny, row_label, pair_label, both_label, first_label, second_label, const_label, outer, inner}
@@ -14,232 +13,248 @@ use Rattle.alg_model.specs.Application.{IsLabel}
 use Rattle.alg_model.specs.Bounds.{LabelAtMost}
 use Rattle.sig_text.specs.declared.faults.LitFault.{LitFault}
 use Rattle.sig_text.specs.declared.faults.LitFault.TheVariants.{BadText, NotInCarrier, NotALabel}
-use Rattle.sig_text.specs.Parts.{Part, Splits}
+use Rattle.sig_text.specs.Parts.{Splits}
 use Rattle.sig_text.specs.Sequences.{parts_of}
 use Rattle.sig_text.specs.Shapes.{LabelShape, number_label_shape, word_label_shape, marked_shape, pair_label_shape, both_shape, first_label_shape, second_label_shape, value_label_shape, outer_shape, inner_shape, label_parts, HasLabelShape}
-use Rattle.sig_text.specs.Literals.{where_true, tag_label, guard_label, value_of, label_of, LabelText, IsLabelFault}
+use Rattle.sig_text.specs.Literals.{where_true, tag_label, guard_label, value_of, label_of, LabelTextTo, HasLabelFault, IsLabelFaultTo}
+use Rattle.sig_text.specs.Spelled.{Tells, spelled_label_to}
 use Rattle.sig_text.specs.Reading.{NotWhole, label_at}
 use Rattle.sig_text.proofs.Fronts.{splits_parts, parts_splits, append_none}
-use Rattle.sig_text.proofs.Meant.{true_is, placed_is, both_made, one_made, both_true, meant, not_bad, not_where, not_placed, not_both, not_one}
+use Rattle.sig_text.proofs.Meant.{true_is, placed_is, both_made, one_made, both_true, meant, not_bad, not_where, not_placed, not_both, not_one, whole_is, not_whole, taken_whole}
 use Rattle.sig_text.proofs.Labels.{LabelFront, label_complete, label_sound}
 
 -- it is a label of the algebra, and its numbers are those of a text
-pub record LabelMember (a : Expression) (l : PureLabel) : Type 0 where
+pub record LabelMember (greatest : ℕ) (a : Expression) (l : PureLabel) : Type 0 where
   pub is_label : IsLabel a l
-  pub small : LabelAtMost MAX_NUMBER l
+  pub small : LabelAtMost greatest l
 
-ranged_member : (a : Expression) (low high n : ℕ) (l : PureLabel) → (low ≤ n → n ≤ high → IsLabel a (number_label n)) → n ≤ MAX_NUMBER
-    → where_true (nat_le low n && nat_le n high) NotALabel (number_label n) ≡ Ok l → LabelMember a l
-ranged_member a low high n l is h e =
+ranged_member : (greatest : ℕ) (a : Expression) (low high n : ℕ) (l : PureLabel) → (low ≤ n → n ≤ high → IsLabel a (number_label n)) → n ≤ greatest
+    → where_true (nat_le low n && nat_le n high) NotALabel (number_label n) ≡ Ok l → LabelMember greatest a l
+ranged_member greatest a low high n l is h e =
     let t = true_is (nat_le low n && nat_le n high) NotALabel (number_label n) l e in
     let b = both_true (nat_le low n) (nat_le n high) t.0 in
     let p : low ≤ n = grind (arith, nat_tests, b.0) in
     let q : n ≤ high = grind (arith, nat_tests, b.1) in
-    subst (LabelMember a) t.1 (record { is_label = is p q; small = h })
+    subst (LabelMember greatest a) t.1 (record { is_label = is p q; small = h })
 
-symbol_member : (a : Expression) (k n : ℕ) (l : PureLabel) → (n < k → IsLabel a (symbol_label n)) → n ≤ MAX_NUMBER → where_true (nat_lt n k) NotALabel (symbol_label n) ≡ Ok l → LabelMember a l
-symbol_member a k n l is h e =
+symbol_member : (greatest : ℕ) (a : Expression) (k n : ℕ) (l : PureLabel) → (n < k → IsLabel a (symbol_label n)) → n ≤ greatest → where_true (nat_lt n k) NotALabel (symbol_label n) ≡ Ok l → LabelMember greatest a l
+symbol_member greatest a k n l is h e =
     let t = true_is (nat_lt n k) NotALabel (symbol_label n) l e in
     let p : n < k = grind (arith, nat_tests, t.0) in
-    subst (LabelMember a) t.1 (record { is_label = is p; small = h })
+    subst (LabelMember greatest a) t.1 (record { is_label = is p; small = h })
 
-tag_member : (k c n : ℕ) (b : Bool) → (c == 43) ≡ b → n < k → LabelMember (tags k) (tag_label c n)
-tag_member k c n true h p = rw h (record { is_label = p; small = tt })
-tag_member k c n false h p = rw h (record { is_label = p; small = tt })
+tag_member : (greatest : ℕ) (k c n : ℕ) (b : Bool) → (c == 43) ≡ b → n < k → LabelMember greatest (tags k) (tag_label c n)
+tag_member greatest k c n true h p = rw h (record { is_label = p; small = tt })
+tag_member greatest k c n false h p = rw h (record { is_label = p; small = tt })
 
-guard_member : (k c n : ℕ) (b : Bool) → (c == 63) ≡ b → n < k → LabelMember (guard k) (guard_label c n)
-guard_member k c n true h p = rw h (record { is_label = p; small = tt })
-guard_member k c n false h p = rw h (record { is_label = p; small = tt })
+guard_member : (greatest : ℕ) (k c n : ℕ) (b : Bool) → (c == 63) ≡ b → n < k → LabelMember greatest (guard k) (guard_label c n)
+guard_member greatest k c n true h p = rw h (record { is_label = p; small = tt })
+guard_member greatest k c n false h p = rw h (record { is_label = p; small = tt })
 
-keep_member : (a : Expression) (l : PureLabel) → IsLabel a keep → ◌≡◌ {A = Result PureLabel LitFault} (Ok keep) (Ok l) → LabelMember a l
-keep_member a l i e = let p : keep ≡ l = cc in subst (LabelMember a) p (record { is_label = i; small = tt })
+keep_member : (greatest : ℕ) (a : Expression) (l : PureLabel) → IsLabel a keep → ◌≡◌ {A = Result PureLabel LitFault} (Ok keep) (Ok l) → LabelMember greatest a l
+keep_member greatest a l i e = let p : keep ≡ l = cc in subst (LabelMember greatest a) p (record { is_label = i; small = tt })
 
-gate_member : (b : Bool) (l : PureLabel) → ◌≡◌ {A = Result PureLabel LitFault} (Ok (if b then allow else deny)) (Ok l) → LabelMember gate l
-gate_member true l e = let p : allow ≡ l = cc in subst (LabelMember gate) p (record { is_label = tt; small = tt })
-gate_member false l e = let p : deny ≡ l = cc in subst (LabelMember gate) p (record { is_label = tt; small = tt })
+gate_member : (greatest : ℕ) (b : Bool) (l : PureLabel) → ◌≡◌ {A = Result PureLabel LitFault} (Ok (if b then allow else deny)) (Ok l) → LabelMember greatest gate l
+gate_member greatest true l e = let p : allow ≡ l = cc in subst (LabelMember greatest gate) p (record { is_label = tt; small = tt })
+gate_member greatest false l e = let p : deny ≡ l = cc in subst (LabelMember greatest gate) p (record { is_label = tt; small = tt })
 
-pub label_meant : (a : Expression) (s : LabelShape) (l : PureLabel) → HasLabelShape a s → label_of a s ≡ Ok l → LabelMember a l
-label_meant (add low high) (number_label_shape n) l h e = ranged_member (add low high) low high n l (λ p q. (p, q)) h e
-label_meant (add low high) _ l h e = absurd h
-label_meant (cap top low high) (number_label_shape n) l h e = ranged_member (cap top low high) low high n l (λ p q. (p, q)) h e
-label_meant (cap top low high) _ l h e = absurd h
-label_meant (worst top low high) (number_label_shape n) l h e = ranged_member (worst top low high) low high n l (λ p q. (p, q)) h e
-label_meant (worst top low high) _ l h e = absurd h
-label_meant (width top low high) (number_label_shape n) l h e = ranged_member (width top low high) low high n l (λ p q. (p, q)) h e
-label_meant (width top low high) _ l h e = absurd h
-label_meant (pref top) (number_label_shape n) l h e =
+pub label_meant : (greatest : ℕ) (a : Expression) (s : LabelShape) (l : PureLabel) → HasLabelShape greatest a s → label_of a s ≡ Ok l → LabelMember greatest a l
+label_meant greatest (add low high) (number_label_shape n) l h e = ranged_member greatest (add low high) low high n l (λ p q. (p, q)) h e
+label_meant greatest (add low high) _ l h e = absurd h
+label_meant greatest (cap top low high) (number_label_shape n) l h e = ranged_member greatest (cap top low high) low high n l (λ p q. (p, q)) h e
+label_meant greatest (cap top low high) _ l h e = absurd h
+label_meant greatest (worst top low high) (number_label_shape n) l h e = ranged_member greatest (worst top low high) low high n l (λ p q. (p, q)) h e
+label_meant greatest (worst top low high) _ l h e = absurd h
+label_meant greatest (width top low high) (number_label_shape n) l h e = ranged_member greatest (width top low high) low high n l (λ p q. (p, q)) h e
+label_meant greatest (width top low high) _ l h e = absurd h
+label_meant greatest (pref top) (number_label_shape n) l h e =
     let t = true_is (nat_le n top) NotALabel (number_label n) l e in
     let p : n ≤ top = grind (arith, nat_tests, t.0) in
-    subst (LabelMember (pref top)) t.1 (record { is_label = p; small = h })
-label_meant (pref top) _ l h e = absurd h
-label_meant (orig top) (word_label_shape w) l h e = keep_member (orig top) l tt e
-label_meant (orig top) _ l h e = absurd h
-label_meant (seq k) (number_label_shape n) l h e = symbol_member (seq k) k n l (λ p. p) h e
-label_meant (seq k) _ l h e = absurd h
-label_meant (simseq k) (number_label_shape n) l h e = symbol_member (simseq k) k n l (λ p. p) h e
-label_meant (simseq k) _ l h e = absurd h
-label_meant (tags k) (word_label_shape w) l h e = keep_member (tags k) l tt e
-label_meant (tags k) (marked_shape c n) l h e =
+    subst (LabelMember greatest (pref top)) t.1 (record { is_label = p; small = h })
+label_meant greatest (pref top) _ l h e = absurd h
+label_meant greatest (orig top) (word_label_shape w) l h e = keep_member greatest (orig top) l tt e
+label_meant greatest (orig top) _ l h e = absurd h
+label_meant greatest (seq k) (number_label_shape n) l h e = symbol_member greatest (seq k) k n l (λ p. p) h e
+label_meant greatest (seq k) _ l h e = absurd h
+label_meant greatest (simseq k) (number_label_shape n) l h e = symbol_member greatest (simseq k) k n l (λ p. p) h e
+label_meant greatest (simseq k) _ l h e = absurd h
+label_meant greatest (tags k) (word_label_shape w) l h e = keep_member greatest (tags k) l tt e
+label_meant greatest (tags k) (marked_shape c n) l h e =
     let t = true_is (nat_lt n k) NotALabel (tag_label c n) l e in
     let p : n < k = grind (arith, nat_tests, t.0) in
-    subst (LabelMember (tags k)) t.1 (tag_member k c n (c == 43) refl p)
-label_meant (tags k) _ l h e = absurd h
-label_meant (guard k) (marked_shape c n) l h e =
+    subst (LabelMember greatest (tags k)) t.1 (tag_member greatest k c n (c == 43) refl p)
+label_meant greatest (tags k) _ l h e = absurd h
+label_meant greatest (guard k) (marked_shape c n) l h e =
     let t = true_is (nat_lt n k) NotALabel (guard_label c n) l e in
     let p : n < k = grind (arith, nat_tests, t.0) in
-    subst (LabelMember (guard k)) t.1 (guard_member k c n (c == 63) refl p)
-label_meant (guard k) _ l h e = absurd h
-label_meant gate (word_label_shape w) l h e = gate_member (bytes_eq w (codes "allow")) l e
-label_meant gate _ l h e = absurd h
-label_meant (table t) (word_label_shape w) l h e =
+    subst (LabelMember greatest (guard k)) t.1 (guard_member greatest k c n (c == 63) refl p)
+label_meant greatest (guard k) _ l h e = absurd h
+label_meant greatest gate (word_label_shape w) l h e = gate_member greatest (bytes_eq w (codes "allow")) l e
+label_meant greatest gate _ l h e = absurd h
+label_meant greatest (table t) (word_label_shape w) l h e =
     let p = placed_is row_label NotALabel (position (λ (row : TableRow). bytes_eq row.name w) t.rows) l e in
     let q = position-Some (λ (row : TableRow). bytes_eq row.name w) t.rows p.0 (record { name = []; images = [] }) p.1 in
-    subst (LabelMember (table t)) p.2 (record { is_label = q.0; small = tt })
-label_meant (table t) _ l h e = absurd h
-label_meant (lex a b) (pair_label_shape s t) l h e =
+    subst (LabelMember greatest (table t)) p.2 (record { is_label = q.0; small = tt })
+label_meant greatest (table t) _ l h e = absurd h
+label_meant greatest (lex a b) (pair_label_shape s t) l h e =
     let m = both_made pair_label (label_of a s) (label_of b t) l e in
-    let x = label_meant a s m.a h.0 m.first in
-    let y = label_meant b t m.b h.1 m.second in
-    subst (LabelMember (lex a b)) m.makes (record { is_label = (x.is_label, y.is_label); small = (x.small, y.small) })
-label_meant (lex a b) _ l h e = absurd h
-label_meant (scoped a b) (outer_shape s t) l h e =
+    let x = label_meant greatest a s m.a h.0 m.first in
+    let y = label_meant greatest b t m.b h.1 m.second in
+    subst (LabelMember greatest (lex a b)) m.makes (record { is_label = (x.is_label, y.is_label); small = (x.small, y.small) })
+label_meant greatest (lex a b) _ l h e = absurd h
+label_meant greatest (scoped a b) (outer_shape s t) l h e =
     let m = both_made outer (label_of a s) (value_of (carrier_of b) t) l e in
-    let x = label_meant a s m.a h.0 m.first in
-    let y = meant (carrier_of b) t m.b h.1 m.second in
-    subst (LabelMember (scoped a b)) m.makes (record { is_label = (x.is_label, y.is_in); small = (x.small, y.small) })
-label_meant (scoped a b) (inner_shape t) l h e =
+    let x = label_meant greatest a s m.a h.0 m.first in
+    let y = meant greatest (carrier_of b) t m.b h.1 m.second in
+    subst (LabelMember greatest (scoped a b)) m.makes (record { is_label = (x.is_label, y.is_in); small = (x.small, y.small) })
+label_meant greatest (scoped a b) (inner_shape t) l h e =
     let m = one_made inner (label_of b t) l e in
-    let y = label_meant b t m.0 h m.1 in
-    subst (LabelMember (scoped a b)) m.2 (record { is_label = y.is_label; small = y.small })
-label_meant (scoped a b) _ l h e = absurd h
-label_meant (union a b) (first_label_shape s) l h e =
+    let y = label_meant greatest b t m.0 h m.1 in
+    subst (LabelMember greatest (scoped a b)) m.2 (record { is_label = y.is_label; small = y.small })
+label_meant greatest (scoped a b) _ l h e = absurd h
+label_meant greatest (union a b) (first_label_shape s) l h e =
     let m = one_made first_label (label_of a s) l e in
-    let x = label_meant a s m.0 h m.1 in
-    subst (LabelMember (union a b)) m.2 (record { is_label = x.is_label; small = x.small })
-label_meant (union a b) (second_label_shape t) l h e =
+    let x = label_meant greatest a s m.0 h m.1 in
+    subst (LabelMember greatest (union a b)) m.2 (record { is_label = x.is_label; small = x.small })
+label_meant greatest (union a b) (second_label_shape t) l h e =
     let m = one_made second_label (label_of b t) l e in
-    let y = label_meant b t m.0 h m.1 in
-    subst (LabelMember (union a b)) m.2 (record { is_label = y.is_label; small = y.small })
-label_meant (union a b) _ l h e = absurd h
-label_meant (sum a b) (both_shape s t) l h e =
+    let y = label_meant greatest b t m.0 h m.1 in
+    subst (LabelMember greatest (union a b)) m.2 (record { is_label = y.is_label; small = y.small })
+label_meant greatest (union a b) _ l h e = absurd h
+label_meant greatest (sum a b) (both_shape s t) l h e =
     let m = both_made both_label (label_of a s) (label_of b t) l e in
-    let x = label_meant a s m.a h.0 m.first in
-    let y = label_meant b t m.b h.1 m.second in
-    subst (LabelMember (sum a b)) m.makes (record { is_label = (x.is_label, y.is_label); small = (x.small, y.small) })
-label_meant (sum a b) _ l h e = absurd h
-label_meant (plus a b) (first_label_shape s) l h e =
+    let x = label_meant greatest a s m.a h.0 m.first in
+    let y = label_meant greatest b t m.b h.1 m.second in
+    subst (LabelMember greatest (sum a b)) m.makes (record { is_label = (x.is_label, y.is_label); small = (x.small, y.small) })
+label_meant greatest (sum a b) _ l h e = absurd h
+label_meant greatest (plus a b) (first_label_shape s) l h e =
     let m = one_made first_label (label_of a s) l e in
-    let x = label_meant a s m.0 h m.1 in
-    subst (LabelMember (plus a b)) m.2 (record { is_label = x.is_label; small = x.small })
-label_meant (plus a b) (second_label_shape t) l h e =
+    let x = label_meant greatest a s m.0 h m.1 in
+    subst (LabelMember greatest (plus a b)) m.2 (record { is_label = x.is_label; small = x.small })
+label_meant greatest (plus a b) (second_label_shape t) l h e =
     let m = one_made second_label (label_of b t) l e in
-    let y = label_meant b t m.0 h m.1 in
-    subst (LabelMember (plus a b)) m.2 (record { is_label = y.is_label; small = y.small })
-label_meant (plus a b) _ l h e = absurd h
-label_meant (left a) (value_label_shape v) l h e =
+    let y = label_meant greatest b t m.0 h m.1 in
+    subst (LabelMember greatest (plus a b)) m.2 (record { is_label = y.is_label; small = y.small })
+label_meant greatest (plus a b) _ l h e = absurd h
+label_meant greatest (left a) (value_label_shape v) l h e =
     let m = one_made const_label (value_of (carrier_of a) v) l e in
-    let y = meant (carrier_of a) v m.0 h m.1 in
-    subst (LabelMember (left a)) m.2 (record { is_label = y.is_in; small = y.small })
-label_meant (left a) _ l h e = absurd h
-label_meant (right a) (word_label_shape w) l h e = keep_member (right a) l tt e
-label_meant (right a) _ l h e = absurd h
+    let y = meant greatest (carrier_of a) v m.0 h m.1 in
+    subst (LabelMember greatest (left a)) m.2 (record { is_label = y.is_in; small = y.small })
+label_meant greatest (left a) _ l h e = absurd h
+label_meant greatest (right a) (word_label_shape w) l h e = keep_member greatest (right a) l tt e
+label_meant greatest (right a) _ l h e = absurd h
 
 not_a_label : NotALabel ≡ BadText → ⊥
 not_a_label e = cc
 
 -- a shape of the kind that is asked for is never bad text
-pub label_not_bad : (a : Expression) (s : LabelShape) → HasLabelShape a s → label_of a s ≡ Err BadText → ⊥
-label_not_bad (add low high) (number_label_shape n) h e = not_where (nat_le low n && nat_le n high) NotALabel (number_label n) not_a_label e
-label_not_bad (add low high) _ h e = h
-label_not_bad (cap top low high) (number_label_shape n) h e = not_where (nat_le low n && nat_le n high) NotALabel (number_label n) not_a_label e
-label_not_bad (cap top low high) _ h e = h
-label_not_bad (worst top low high) (number_label_shape n) h e = not_where (nat_le low n && nat_le n high) NotALabel (number_label n) not_a_label e
-label_not_bad (worst top low high) _ h e = h
-label_not_bad (width top low high) (number_label_shape n) h e = not_where (nat_le low n && nat_le n high) NotALabel (number_label n) not_a_label e
-label_not_bad (width top low high) _ h e = h
-label_not_bad (pref top) (number_label_shape n) h e = not_where (nat_le n top) NotALabel (number_label n) not_a_label e
-label_not_bad (pref top) _ h e = h
-label_not_bad (orig top) (word_label_shape w) h e = cc
-label_not_bad (orig top) _ h e = h
-label_not_bad (seq k) (number_label_shape n) h e = not_where (nat_lt n k) NotALabel (symbol_label n) not_a_label e
-label_not_bad (seq k) _ h e = h
-label_not_bad (simseq k) (number_label_shape n) h e = not_where (nat_lt n k) NotALabel (symbol_label n) not_a_label e
-label_not_bad (simseq k) _ h e = h
-label_not_bad (tags k) (word_label_shape w) h e = cc
-label_not_bad (tags k) (marked_shape c n) h e = not_where (nat_lt n k) NotALabel (tag_label c n) not_a_label e
-label_not_bad (tags k) _ h e = h
-label_not_bad (guard k) (marked_shape c n) h e = not_where (nat_lt n k) NotALabel (guard_label c n) not_a_label e
-label_not_bad (guard k) _ h e = h
-label_not_bad gate (word_label_shape w) h e = cc
-label_not_bad gate _ h e = h
-label_not_bad (table t) (word_label_shape w) h e = not_placed row_label NotALabel (position (λ (row : TableRow). bytes_eq row.name w) t.rows) not_a_label e
-label_not_bad (table t) _ h e = h
-label_not_bad (lex a b) (pair_label_shape s t) h e = not_both pair_label (label_of a s) (label_of b t) (label_not_bad a s h.0) (label_not_bad b t h.1) e
-label_not_bad (lex a b) _ h e = h
-label_not_bad (scoped a b) (outer_shape s t) h e = not_both outer (label_of a s) (value_of (carrier_of b) t) (label_not_bad a s h.0) (not_bad (carrier_of b) t h.1) e
-label_not_bad (scoped a b) (inner_shape t) h e = not_one inner (label_of b t) (label_not_bad b t h) e
-label_not_bad (scoped a b) _ h e = h
-label_not_bad (union a b) (first_label_shape s) h e = not_one first_label (label_of a s) (label_not_bad a s h) e
-label_not_bad (union a b) (second_label_shape t) h e = not_one second_label (label_of b t) (label_not_bad b t h) e
-label_not_bad (union a b) _ h e = h
-label_not_bad (sum a b) (both_shape s t) h e = not_both both_label (label_of a s) (label_of b t) (label_not_bad a s h.0) (label_not_bad b t h.1) e
-label_not_bad (sum a b) _ h e = h
-label_not_bad (plus a b) (first_label_shape s) h e = not_one first_label (label_of a s) (label_not_bad a s h) e
-label_not_bad (plus a b) (second_label_shape t) h e = not_one second_label (label_of b t) (label_not_bad b t h) e
-label_not_bad (plus a b) _ h e = h
-label_not_bad (left a) (value_label_shape v) h e = not_one const_label (value_of (carrier_of a) v) (not_bad (carrier_of a) v h) e
-label_not_bad (left a) _ h e = h
-label_not_bad (right a) (word_label_shape w) h e = cc
-label_not_bad (right a) _ h e = h
+pub label_not_bad : (greatest : ℕ) (a : Expression) (s : LabelShape) → HasLabelShape greatest a s → label_of a s ≡ Err BadText → ⊥
+label_not_bad greatest (add low high) (number_label_shape n) h e = not_where (nat_le low n && nat_le n high) NotALabel (number_label n) not_a_label e
+label_not_bad greatest (add low high) _ h e = h
+label_not_bad greatest (cap top low high) (number_label_shape n) h e = not_where (nat_le low n && nat_le n high) NotALabel (number_label n) not_a_label e
+label_not_bad greatest (cap top low high) _ h e = h
+label_not_bad greatest (worst top low high) (number_label_shape n) h e = not_where (nat_le low n && nat_le n high) NotALabel (number_label n) not_a_label e
+label_not_bad greatest (worst top low high) _ h e = h
+label_not_bad greatest (width top low high) (number_label_shape n) h e = not_where (nat_le low n && nat_le n high) NotALabel (number_label n) not_a_label e
+label_not_bad greatest (width top low high) _ h e = h
+label_not_bad greatest (pref top) (number_label_shape n) h e = not_where (nat_le n top) NotALabel (number_label n) not_a_label e
+label_not_bad greatest (pref top) _ h e = h
+label_not_bad greatest (orig top) (word_label_shape w) h e = cc
+label_not_bad greatest (orig top) _ h e = h
+label_not_bad greatest (seq k) (number_label_shape n) h e = not_where (nat_lt n k) NotALabel (symbol_label n) not_a_label e
+label_not_bad greatest (seq k) _ h e = h
+label_not_bad greatest (simseq k) (number_label_shape n) h e = not_where (nat_lt n k) NotALabel (symbol_label n) not_a_label e
+label_not_bad greatest (simseq k) _ h e = h
+label_not_bad greatest (tags k) (word_label_shape w) h e = cc
+label_not_bad greatest (tags k) (marked_shape c n) h e = not_where (nat_lt n k) NotALabel (tag_label c n) not_a_label e
+label_not_bad greatest (tags k) _ h e = h
+label_not_bad greatest (guard k) (marked_shape c n) h e = not_where (nat_lt n k) NotALabel (guard_label c n) not_a_label e
+label_not_bad greatest (guard k) _ h e = h
+label_not_bad greatest gate (word_label_shape w) h e = cc
+label_not_bad greatest gate _ h e = h
+label_not_bad greatest (table t) (word_label_shape w) h e = not_placed row_label NotALabel (position (λ (row : TableRow). bytes_eq row.name w) t.rows) not_a_label e
+label_not_bad greatest (table t) _ h e = h
+label_not_bad greatest (lex a b) (pair_label_shape s t) h e = not_both pair_label (label_of a s) (label_of b t) (label_not_bad greatest a s h.0) (label_not_bad greatest b t h.1) e
+label_not_bad greatest (lex a b) _ h e = h
+label_not_bad greatest (scoped a b) (outer_shape s t) h e = not_both outer (label_of a s) (value_of (carrier_of b) t) (label_not_bad greatest a s h.0) (not_bad greatest (carrier_of b) t h.1) e
+label_not_bad greatest (scoped a b) (inner_shape t) h e = not_one inner (label_of b t) (label_not_bad greatest b t h) e
+label_not_bad greatest (scoped a b) _ h e = h
+label_not_bad greatest (union a b) (first_label_shape s) h e = not_one first_label (label_of a s) (label_not_bad greatest a s h) e
+label_not_bad greatest (union a b) (second_label_shape t) h e = not_one second_label (label_of b t) (label_not_bad greatest b t h) e
+label_not_bad greatest (union a b) _ h e = h
+label_not_bad greatest (sum a b) (both_shape s t) h e = not_both both_label (label_of a s) (label_of b t) (label_not_bad greatest a s h.0) (label_not_bad greatest b t h.1) e
+label_not_bad greatest (sum a b) _ h e = h
+label_not_bad greatest (plus a b) (first_label_shape s) h e = not_one first_label (label_of a s) (label_not_bad greatest a s h) e
+label_not_bad greatest (plus a b) (second_label_shape t) h e = not_one second_label (label_of b t) (label_not_bad greatest b t h) e
+label_not_bad greatest (plus a b) _ h e = h
+label_not_bad greatest (left a) (value_label_shape v) h e = not_one const_label (value_of (carrier_of a) v) (not_bad greatest (carrier_of a) v h) e
+label_not_bad greatest (left a) _ h e = h
+label_not_bad greatest (right a) (word_label_shape w) h e = cc
+label_not_bad greatest (right a) _ h e = h
 
 -- a reader that takes the whole of a text says what it spells
-pub label_spelled : (a : Expression) (text : List ℕ) (l : PureLabel) → label_at a (parts_of text) ≡ Some (Ok l, []) → LabelText a text l
-label_spelled a text l e =
-    let f = label_sound a (parts_of text) (Ok l) [] e in
+pub label_spelled : (greatest : ℕ) (a : Expression) (text : List ℕ) (l : PureLabel) → label_at greatest a (parts_of text) ≡ Some (Ok l, []) → LabelTextTo greatest a text l
+label_spelled greatest a text l e =
+    let f = label_sound greatest a (parts_of text) (Ok l) [] e in
     record { shape = f.shape; has = f.has; splits = parts_splits (label_parts f.shape) text (f.parts ∙ append_none (label_parts f.shape)); means = f.means }
 
-pub label_member : (a : Expression) (text : List ℕ) (l : PureLabel) → LabelText a text l → LabelMember a l
-label_member a text l t = label_meant a t.shape l t.has t.means
+pub label_member : (greatest : ℕ) (a : Expression) (text : List ℕ) (l : PureLabel) → LabelTextTo greatest a text l → LabelMember greatest a l
+label_member greatest a text l t = label_meant greatest a t.shape l t.has t.means
 
-whole_label : (a : Expression) (text : List ℕ) (s : LabelShape) → HasLabelShape a s → Splits (label_parts s) text → label_at a (parts_of text) ≡ Some (label_of a s, [])
-whole_label a text s h p = ap (label_at a) (splits_parts (label_parts s) text p ∙ sym (append_none (label_parts s))) ∙ label_complete a s [] h
+whole_label : (greatest : ℕ) (a : Expression) (text : List ℕ) (s : LabelShape) → HasLabelShape greatest a s → Splits (label_parts s) text → label_at greatest a (parts_of text) ≡ Some (label_of a s, [])
+whole_label greatest a text s h p = ap (label_at greatest a) (splits_parts (label_parts s) text p ∙ sym (append_none (label_parts s))) ∙ label_complete greatest a s [] h
 
-label_fault_by : (a : Expression) (text : List ℕ) (fault : LitFault) → LabelFront a (parts_of text) (Err fault) [] → IsLabelFault a text fault
-label_fault_by a text BadText f = absurd (label_not_bad a f.shape f.has f.means)
-label_fault_by a text NotInCarrier f = (f.shape, f.has, parts_splits (label_parts f.shape) text (f.parts ∙ append_none (label_parts f.shape)), f.means)
-label_fault_by a text NotALabel f = (f.shape, f.has, parts_splits (label_parts f.shape) text (f.parts ∙ append_none (label_parts f.shape)), f.means)
+-- the shape that a reader of the whole found stands in the text
+label_splits : (greatest : ℕ) (a : Expression) (text : List ℕ) (o : Result PureLabel LitFault) → (f : LabelFront greatest a (parts_of text) o []) → Splits (label_parts f.shape) text
+label_splits greatest a text o f = parts_splits (label_parts f.shape) text (f.parts ∙ append_none (label_parts f.shape))
 
-pub label_fault : (a : Expression) (text : List ℕ) (fault : LitFault) → label_at a (parts_of text) ≡ Some (Err fault, []) → IsLabelFault a text fault
-label_fault a text fault e = label_fault_by a text fault (label_sound a (parts_of text) (Err fault) [] e)
+label_fault_by : (greatest : ℕ) (a : Expression) (text : List ℕ) (fault : LitFault) → LabelFront greatest a (parts_of text) (Err fault) [] → IsLabelFaultTo greatest a text fault
+label_fault_by greatest a text BadText f = absurd (label_not_bad greatest a f.shape f.has f.means)
+label_fault_by greatest a text NotInCarrier f = record { shape = f.shape; has = f.has; splits = label_splits greatest a text (Err NotInCarrier) f; breaks = f.means }
+label_fault_by greatest a text NotALabel f = record { shape = f.shape; has = f.has; splits = label_splits greatest a text (Err NotALabel) f; breaks = f.means }
 
-pub label_refused : (a : Expression) (text : List ℕ) → NotWhole (label_at a (parts_of text)) → IsLabelFault a text BadText
-label_refused a text n = λ s h p. n (label_of a s) (whole_label a text s h p)
+pub label_fault : (greatest : ℕ) (a : Expression) (text : List ℕ) (fault : LitFault) → label_at greatest a (parts_of text) ≡ Some (Err fault, []) → IsLabelFaultTo greatest a text fault
+label_fault greatest a text fault e = label_fault_by greatest a text fault (label_sound greatest a (parts_of text) (Err fault) [] e)
 
--- two shapes of one text spell the same
-same_outcome : (a : Expression) (text : List ℕ) (s t : LabelShape) → HasLabelShape a s → HasLabelShape a t → Splits (label_parts s) text → Splits (label_parts t) text → label_of a s ≡ label_of a t
-same_outcome a text s t h k p q =
-    let x : Result PureLabel LitFault × List Part = (label_of a s, []) in
-    let y : Result PureLabel LitFault × List Part = (label_of a t, []) in
-    let u = whole_label a text s h p in
-    let v = whole_label a text t k q in
-    let e : x ≡ y = cc in
-    ap (λ (r : Result PureLabel LitFault × List Part). r.0) e
+pub label_refused : (greatest : ℕ) (a : Expression) (text : List ℕ) → NotWhole (label_at greatest a (parts_of text)) → IsLabelFaultTo greatest a text BadText
+label_refused greatest a text n = λ s h p. n (label_of a s) (whole_label greatest a text s h p)
 
--- one literal spells one label at most
-pub same_label : (a : Expression) (text : List ℕ) (l m : PureLabel) → LabelText a text l → LabelText a text m → l ≡ m
-same_label a text l m s t =
-    let g : Ok l ≡ Ok m = sym s.means ∙ same_outcome a text s.shape t.shape s.has t.has s.splits t.splits ∙ t.means in
-    cc
+-- what a text spells is what the function says
+pub label_said : (greatest : ℕ) (a : Expression) (text : List ℕ) (l : PureLabel) → LabelTextTo greatest a text l → spelled_label_to greatest a text ≡ Ok l
+label_said greatest a text l t =
+    whole_is (label_at greatest a (parts_of text)) (label_of a t.shape) (whole_label greatest a text t.shape t.has t.splits) ∙ t.means
 
--- and none that is refused
-label_not_refused_by : (a : Expression) (text : List ℕ) (l : PureLabel) (fault : LitFault) → LabelText a text l → IsLabelFault a text fault → ⊥
-label_not_refused_by a text l BadText t f = f t.shape t.has t.splits
-label_not_refused_by a text l NotInCarrier t f =
-    let g : Ok l ≡ Err NotInCarrier = sym t.means ∙ same_outcome a text t.shape f.0 t.has f.1 t.splits f.2 ∙ f.3 in
-    cc
-label_not_refused_by a text l NotALabel t f =
-    let g : Ok l ≡ Err NotALabel = sym t.means ∙ same_outcome a text t.shape f.0 t.has f.1 t.splits f.2 ∙ f.3 in
-    cc
+pub label_says : (greatest : ℕ) (a : Expression) (text : List ℕ) (l : PureLabel) → spelled_label_to greatest a text ≡ Ok l → LabelTextTo greatest a text l
+label_says greatest a text l e = label_spelled greatest a text l (taken_whole (label_at greatest a (parts_of text)) (Ok l) (λ h. cc) e)
 
-pub label_not_refused : (a : Expression) (text : List ℕ) (l : PureLabel) (fault : LitFault) → LabelText a text l → IsLabelFault a text fault → ⊥
-label_not_refused a text l fault t f = label_not_refused_by a text l fault t f
+has_label_fault : (greatest : ℕ) (a : Expression) (text : List ℕ) (fault : LitFault) → HasLabelFault greatest a text fault → spelled_label_to greatest a text ≡ Err fault
+has_label_fault greatest a text fault f =
+    whole_is (label_at greatest a (parts_of text)) (label_of a f.shape) (whole_label greatest a text f.shape f.has f.splits) ∙ f.breaks
+
+pub label_fault_said : (greatest : ℕ) (a : Expression) (text : List ℕ) (fault : LitFault) → IsLabelFaultTo greatest a text fault → spelled_label_to greatest a text ≡ Err fault
+label_fault_said greatest a text BadText f =
+    not_whole (label_at greatest a (parts_of text)) (λ r e.
+    let x = label_sound greatest a (parts_of text) r [] e in
+    f x.shape x.has (label_splits greatest a text r x))
+label_fault_said greatest a text NotInCarrier f = has_label_fault greatest a text NotInCarrier f
+label_fault_said greatest a text NotALabel f = has_label_fault greatest a text NotALabel f
+
+-- a reader of the whole never finds bad text
+label_not_whole : (greatest : ℕ) (a : Expression) (text : List ℕ) → spelled_label_to greatest a text ≡ Err BadText → NotWhole (label_at greatest a (parts_of text))
+label_not_whole greatest a text e = λ r h.
+    let x = label_sound greatest a (parts_of text) r [] h in
+    let w = whole_is (label_at greatest a (parts_of text)) r h in
+    label_not_bad greatest a x.shape x.has (x.means ∙ sym w ∙ e)
+
+pub label_fault_says : (greatest : ℕ) (a : Expression) (text : List ℕ) (fault : LitFault) → spelled_label_to greatest a text ≡ Err fault → IsLabelFaultTo greatest a text fault
+label_fault_says greatest a text BadText e = label_refused greatest a text (label_not_whole greatest a text e)
+label_fault_says greatest a text NotInCarrier e = label_fault greatest a text NotInCarrier (taken_whole (label_at greatest a (parts_of text)) (Err NotInCarrier) (λ h. cc) e)
+label_fault_says greatest a text NotALabel e = label_fault greatest a text NotALabel (taken_whole (label_at greatest a (parts_of text)) (Err NotALabel) (λ h. cc) e)
+
+pub label_tells : (greatest : ℕ) (a : Expression) (text : List ℕ) → Tells (spelled_label_to greatest a text) (LabelTextTo greatest a text) (IsLabelFaultTo greatest a text)
+label_tells greatest a text = record {
+  spells = λ l t. label_said greatest a text l t;
+  is_spelled = λ l e. label_says greatest a text l e;
+  refuses = λ f t. label_fault_said greatest a text f t;
+  is_refused = λ f e. label_fault_says greatest a text f e;
+}

@@ -3,7 +3,8 @@ use Rattle.std.proofs.Common.{◌≡◌, ℕ, ◌≤◌, ◌<◌, zero, suc, Boo
 use Rattle.meta_base.specs.Bytes.{is_digit, is_letter, is_word_byte, front, behind, number_from}
 use Rattle.sig_text.specs.declared.parts.Next.{Next}
 use Rattle.sig_text.specs.declared.parts.Next.TheVariants.{End, Word, Number, TooLarge, Mark}
-use Rattle.sig_text.specs.Parts.{is_blank, Part, word, digits, mark, Step, end, part, part_at, step_of}
+use Rattle.meta_base.specs.Bytes.{is_blank}
+use Rattle.sig_text.specs.Parts.{Part, word, digits, mark, Step, end, part, part_at, step_of}
 use Rattle.sig_text.specs.Sequences.{parts_then, parts_within, parts_of}
 use Rattle.sig_text.specs.Views.{IsStep, IsFront}
 

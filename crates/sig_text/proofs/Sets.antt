@@ -7,7 +7,6 @@ use Rattle.std.specs.Int.{bit_at}
 use Rattle.std.proofs.lemmas.Bool.Decides.{nat_tests}
 use Rattle.std.proofs.lemmas.Slice.Eq.{bytes_eq-Decides}
 use Rattle.std.proofs.lemmas.Nat.Bits.{bit_at-zero, bit_at_or, bit_at-pow_same, bit_at-pow_other, bit_at-lt, same_from_bits_below}
-use Rattle.meta_base.specs.declared.limits.TheConstants.{MAX_NUMBER}
 use Rattle.alg_model.specs.Application.{has_mark}
 use Rattle.alg_model.specs.Carriers.{distinct}
 use Rattle.alg_model.specs.Formation.{are_distinct}
@@ -74,9 +73,9 @@ members_within (suc count) j top m h =
 pub members_below : (k m : ℕ) → AllByRecursion (λ n. n < k) (members k m)
 members_below k m = members_within k 0 k m (omega arith)
 
-pub below_small : (k : ℕ) (ns : List ℕ) → k ≤ MAX_NUMBER → AllByRecursion (λ n. n < k) ns → AreSmall ns
-below_small k [] h a = tt
-below_small k (n ∷ ns) h a = let p = a.0 in (omega arith, below_small k ns h a.1)
+pub below_small : (greatest k : ℕ) (ns : List ℕ) → k ≤ greatest → AllByRecursion (λ n. n < k) ns → AreSmall greatest ns
+below_small greatest k [] h a = tt
+below_small greatest k (n ∷ ns) h a = let p = a.0 in (omega arith, below_small greatest k ns h a.1)
 
 pub below_tested : (k : ℕ) (ns : List ℕ) → AllByRecursion (λ n. n < k) ns → list_all (λ n. nat_lt n k) ns ≡ true
 below_tested k [] a = refl

@@ -18,38 +18,38 @@ use Rattle.sig_text.specs.Reading.{take_mark, take_number, take_word, take_list,
 use Rattle.sig_text.proofs.Fronts.{kept_is, and_then_is, map_is, test_is, take_mark_is, take_number_is, take_word_is, takes_number, takes_list, takes_pair, pair_regroup, pair_is, list_is}
 
 -- a shape at the front of the parts, and what it spells
-pub record ValueFront (c : PureCarrier) (ps : List Part) (o : Result PureValue LitFault) (z : List Part) : Type 0 where
+pub record ValueFront (greatest : ℕ) (c : PureCarrier) (ps : List Part) (o : Result PureValue LitFault) (z : List Part) : Type 0 where
   pub shape : ValueShape
-  pub has : HasValueShape c shape
+  pub has : HasValueShape greatest c shape
   pub parts : ps ≡ value_parts shape ++ z
   pub means : value_of c shape ≡ o
 
 -- a reader takes what is there
-pub value_complete : (c : PureCarrier) (s : ValueShape) (z : List Part) → HasValueShape c s → value_at c (value_parts s ++ z) ≡ Some (value_of c s, z)
-value_complete whole (number_shape n) z h = rw (takes_number n z h) refl
-value_complete whole _ z h = absurd h
-value_complete (up_to top) (number_shape n) z h = rw (takes_number n z h) refl
-value_complete (up_to top) _ z h = absurd h
-value_complete (down_from top) (number_shape n) z h = rw (takes_number n z h) refl
-value_complete (down_from top) _ z h = absurd h
-value_complete (seqs k) (list_shape ns) z h = rw (takes_list 91 93 refl ns z h) refl
-value_complete (seqs k) _ z h = absurd h
-value_complete (simseqs k) (list_shape ns) z h = rw (takes_list 91 93 refl ns z h) refl
-value_complete (simseqs k) _ z h = absurd h
-value_complete (sets k) (set_shape ns) z h = rw (takes_list 123 125 refl ns z h.0, h.1) refl
-value_complete (sets k) _ z h = absurd h
-value_complete one (word_shape w) z h = rw h refl
-value_complete one _ z h = absurd h
-value_complete (named names ranks) (word_shape w) z h = refl
-value_complete (named names ranks) _ z h = absurd h
-value_complete (pairs c d) (pair_shape u v) z h =
-    ap (take_pair 44 (both_of pair) (value_at c) (value_at d)) (pair_regroup 44 (value_parts u) (value_parts v) z)
-    ∙ takes_pair 44 (both_of pair) (value_at c) (value_at d) (value_of c u) (value_of d v) (value_parts u ++ mark 44 ∷ (value_parts v ++ mark 41 ∷ z)) (value_parts v ++ mark 41 ∷ z) z
-    (value_complete c u (mark 44 ∷ (value_parts v ++ mark 41 ∷ z)) h.0) (value_complete d v (mark 41 ∷ z) h.1)
-value_complete (pairs c d) _ z h = absurd h
-value_complete (sides c d) (first_shape u) z h = ap (kept (one_of first)) (value_complete c u z h)
-value_complete (sides c d) (second_shape v) z h = ap (kept (one_of second)) (value_complete d v z h)
-value_complete (sides c d) _ z h = absurd h
+pub value_complete : (greatest : ℕ) (c : PureCarrier) (s : ValueShape) (z : List Part) → HasValueShape greatest c s → value_at greatest c (value_parts s ++ z) ≡ Some (value_of c s, z)
+value_complete greatest whole (number_shape n) z h = rw (takes_number greatest n z h) refl
+value_complete greatest whole _ z h = absurd h
+value_complete greatest (up_to top) (number_shape n) z h = rw (takes_number greatest n z h) refl
+value_complete greatest (up_to top) _ z h = absurd h
+value_complete greatest (down_from top) (number_shape n) z h = rw (takes_number greatest n z h) refl
+value_complete greatest (down_from top) _ z h = absurd h
+value_complete greatest (seqs k) (list_shape ns) z h = rw (takes_list greatest 91 93 refl ns z h) refl
+value_complete greatest (seqs k) _ z h = absurd h
+value_complete greatest (simseqs k) (list_shape ns) z h = rw (takes_list greatest 91 93 refl ns z h) refl
+value_complete greatest (simseqs k) _ z h = absurd h
+value_complete greatest (sets k) (set_shape ns) z h = rw (takes_list greatest 123 125 refl ns z h.0, h.1) refl
+value_complete greatest (sets k) _ z h = absurd h
+value_complete greatest one (word_shape w) z h = rw h refl
+value_complete greatest one _ z h = absurd h
+value_complete greatest (named names ranks) (word_shape w) z h = refl
+value_complete greatest (named names ranks) _ z h = absurd h
+value_complete greatest (pairs c d) (pair_shape u v) z h =
+    ap (take_pair 44 (both_of pair) (value_at greatest c) (value_at greatest d)) (pair_regroup 44 (value_parts u) (value_parts v) z)
+    ∙ takes_pair 44 (both_of pair) (value_at greatest c) (value_at greatest d) (value_of c u) (value_of d v) (value_parts u ++ mark 44 ∷ (value_parts v ++ mark 41 ∷ z)) (value_parts v ++ mark 41 ∷ z) z
+    (value_complete greatest c u (mark 44 ∷ (value_parts v ++ mark 41 ∷ z)) h.0) (value_complete greatest d v (mark 41 ∷ z) h.1)
+value_complete greatest (pairs c d) _ z h = absurd h
+value_complete greatest (sides c d) (first_shape u) z h = ap (kept (one_of first)) (value_complete greatest c u z h)
+value_complete greatest (sides c d) (second_shape v) z h = ap (kept (one_of second)) (value_complete greatest d v z h)
+value_complete greatest (sides c d) _ z h = absurd h
 
 -- the sign of a side
 pub record SideFront (ps : List Part) (side : Side) (z : List Part) : Type 0 where
@@ -84,68 +84,68 @@ side_is ps z side e =
     }
 
 -- and what it takes is there
-pub value_sound : (c : PureCarrier) (ps : List Part) (o : Result PureValue LitFault) (z : List Part) → value_at c ps ≡ Some (o, z) → ValueFront c ps o z
-value_sound whole ps o z e =
-    let h = kept_is (λ n. Ok (number n)) (take_number ps) o z e in
-    let k = take_number_is ps z h.0 h.1 in
+pub value_sound : (greatest : ℕ) (c : PureCarrier) (ps : List Part) (o : Result PureValue LitFault) (z : List Part) → value_at greatest c ps ≡ Some (o, z) → ValueFront greatest c ps o z
+value_sound greatest whole ps o z e =
+    let h = kept_is (λ n. Ok (number n)) (take_number greatest ps) o z e in
+    let k = take_number_is greatest ps z h.0 h.1 in
     record { shape = number_shape h.0; has = k.1; parts = k.0; means = h.2 }
-value_sound (up_to top) ps o z e =
-    let h = kept_is (λ n. where_true (nat_le n top) NotInCarrier (number n)) (take_number ps) o z e in
-    let k = take_number_is ps z h.0 h.1 in
+value_sound greatest (up_to top) ps o z e =
+    let h = kept_is (λ n. where_true (nat_le n top) NotInCarrier (number n)) (take_number greatest ps) o z e in
+    let k = take_number_is greatest ps z h.0 h.1 in
     record { shape = number_shape h.0; has = k.1; parts = k.0; means = h.2 }
-value_sound (down_from top) ps o z e =
-    let h = kept_is (λ n. where_true (nat_le n top) NotInCarrier (number n)) (take_number ps) o z e in
-    let k = take_number_is ps z h.0 h.1 in
+value_sound greatest (down_from top) ps o z e =
+    let h = kept_is (λ n. where_true (nat_le n top) NotInCarrier (number n)) (take_number greatest ps) o z e in
+    let k = take_number_is greatest ps z h.0 h.1 in
     record { shape = number_shape h.0; has = k.1; parts = k.0; means = h.2 }
-value_sound (seqs k) ps o z e =
-    let h = kept_is (λ ns. where_true (list_all (λ n. nat_lt n k) ns) NotInCarrier (symbols ns)) (take_list 91 93 ps) o z e in
-    let l = list_is 91 93 ps h.0 z h.1 in
+value_sound greatest (seqs k) ps o z e =
+    let h = kept_is (λ ns. where_true (list_all (λ n. nat_lt n k) ns) NotInCarrier (symbols ns)) (take_list greatest 91 93 ps) o z e in
+    let l = list_is greatest 91 93 ps h.0 z h.1 in
     record { shape = list_shape h.0; has = l.small; parts = l.parts; means = h.2 }
-value_sound (simseqs k) ps o z e =
-    let h = kept_is (λ ns. where_true (list_all (λ n. nat_lt n k) ns && distinct ns) NotInCarrier (symbols ns)) (take_list 91 93 ps) o z e in
-    let l = list_is 91 93 ps h.0 z h.1 in
+value_sound greatest (simseqs k) ps o z e =
+    let h = kept_is (λ ns. where_true (list_all (λ n. nat_lt n k) ns && distinct ns) NotInCarrier (symbols ns)) (take_list greatest 91 93 ps) o z e in
+    let l = list_is greatest 91 93 ps h.0 z h.1 in
     record { shape = list_shape h.0; has = l.small; parts = l.parts; means = h.2 }
-value_sound (sets k) ps o z e =
-    let h = and_then_is (set_at k) (take_list 123 125 ps) (o, z) e in
+value_sound greatest (sets k) ps o z e =
+    let h = and_then_is (set_at k) (take_list greatest 123 125 ps) (o, z) e in
     let i = map_is (λ o. (o, h.0.1)) (set_from k h.0.0) (o, z) h.2 in
     let p : h.0.1 ≡ z = ap (λ (r : Result PureValue LitFault × List Part). r.1) i.2 in
     let q : i.0 ≡ o = ap (λ (r : Result PureValue LitFault × List Part). r.0) i.2 in
     let t = test_is (distinct h.0.0) (where_true (list_all (λ n. nat_lt n k) h.0.0) NotInCarrier (marks (set_of h.0.0))) i.0 i.1 in
-    let l = list_is 123 125 ps h.0.0 z (h.1 ∙ ap (λ us. Some (h.0.0, us)) p) in
+    let l = list_is greatest 123 125 ps h.0.0 z (h.1 ∙ ap (λ us. Some (h.0.0, us)) p) in
     record { shape = set_shape h.0.0; has = (l.small, t.0); parts = l.parts; means = t.1 ∙ q }
-value_sound one ps o z e =
+value_sound greatest one ps o z e =
     let h = and_then_is unit_at (take_word ps) (o, z) e in
     let t = test_is (bytes_eq h.0.0 (codes "unit")) (Ok unit, h.0.1) (o, z) h.2 in
     let p : h.0.1 ≡ z = ap (λ (r : Result PureValue LitFault × List Part). r.1) t.1 in
     let q : Ok unit ≡ o = ap (λ (r : Result PureValue LitFault × List Part). r.0) t.1 in
     record { shape = word_shape h.0.0; has = (bytes_eq-Decides h.0.0 (codes "unit")).0 t.0; parts = take_word_is ps h.0.1 h.0.0 h.1 ∙ ap (λ us. word h.0.0 ∷ us) p; means = q }
-value_sound (named names ranks) ps o z e =
+value_sound greatest (named names ranks) ps o z e =
     let h = kept_is (λ w. placed name NotInCarrier (place_of names w)) (take_word ps) o z e in
     record { shape = word_shape h.0; has = tt; parts = take_word_is ps z h.0 h.1; means = h.2 }
-value_sound (pairs c d) ps o z e =
-    let h = pair_is 44 (both_of pair) (value_at c) (value_at d) ps o z e in
-    let u = value_sound c h.behind h.a (mark 44 ∷ h.further) h.first in
-    let v = value_sound d h.further h.b (mark 41 ∷ z) h.second in
+value_sound greatest (pairs c d) ps o z e =
+    let h = pair_is 44 (both_of pair) (value_at greatest c) (value_at greatest d) ps o z e in
+    let u = value_sound greatest c h.behind h.a (mark 44 ∷ h.further) h.first in
+    let v = value_sound greatest d h.further h.b (mark 41 ∷ z) h.second in
     record {
       shape = pair_shape u.shape v.shape;
       has = (u.has, v.has);
       parts = h.opens ∙ ap (λ us. mark 40 ∷ us) (u.parts ∙ ap (λ us. value_parts u.shape ++ mark 44 ∷ us) v.parts) ∙ sym (pair_regroup 44 (value_parts u.shape) (value_parts v.shape) z);
       means = ap (λ x. both_of pair x (value_of d v.shape)) u.means ∙ ap (λ y. both_of pair h.a y) v.means ∙ h.makes;
     }
-value_sound (sides c d) ps o z e =
-    let h = and_then_is (λ (r : Side × List Part). on_side r.0 (kept (one_of first) (value_at c r.1)) (kept (one_of second) (value_at d r.1))) (take_side ps) (o, z) e in
+value_sound greatest (sides c d) ps o z e =
+    let h = and_then_is (λ (r : Side × List Part). on_side r.0 (kept (one_of first) (value_at greatest c r.1)) (kept (one_of second) (value_at greatest d r.1))) (take_side ps) (o, z) e in
     let i = side_is ps h.0.1 h.0.0 h.1 in
-    value_side c d ps o z h.0.0 h.0.1 i.sign i.parts i.is h.2 (λ us x k. value_sound c us x z k) (λ us y k. value_sound d us y z k)
+    value_side greatest c d ps o z h.0.0 h.0.1 i.sign i.parts i.is h.2 (λ us x k. value_sound greatest c us x z k) (λ us y k. value_sound greatest d us y z k)
   where
-    value_side : (c d : PureCarrier) (ps : List Part) (o : Result PureValue LitFault) (z : List Part) (side : Side) (qs : List Part) (sign : List ℕ) → ps ≡ word sign ∷ mark 58 ∷ qs → sign ≡ on_side side (codes "l") (codes "r")
-        → on_side side (kept (one_of first) (value_at c qs)) (kept (one_of second) (value_at d qs)) ≡ Some (o, z)
-        → ((us : List Part) (x : Result PureValue LitFault) → value_at c us ≡ Some (x, z) → ValueFront c us x z)
-        → ((us : List Part) (y : Result PureValue LitFault) → value_at d us ≡ Some (y, z) → ValueFront d us y z) → ValueFront (sides c d) ps o z
-    value_side c d ps o z First qs sign p q e f g =
-        let h = kept_is (one_of first) (value_at c qs) o z e in
+    value_side : (greatest : ℕ) (c d : PureCarrier) (ps : List Part) (o : Result PureValue LitFault) (z : List Part) (side : Side) (qs : List Part) (sign : List ℕ) → ps ≡ word sign ∷ mark 58 ∷ qs → sign ≡ on_side side (codes "l") (codes "r")
+        → on_side side (kept (one_of first) (value_at greatest c qs)) (kept (one_of second) (value_at greatest d qs)) ≡ Some (o, z)
+        → ((us : List Part) (x : Result PureValue LitFault) → value_at greatest c us ≡ Some (x, z) → ValueFront greatest c us x z)
+        → ((us : List Part) (y : Result PureValue LitFault) → value_at greatest d us ≡ Some (y, z) → ValueFront greatest d us y z) → ValueFront greatest (sides c d) ps o z
+    value_side greatest c d ps o z First qs sign p q e f g =
+        let h = kept_is (one_of first) (value_at greatest c qs) o z e in
         let u = f qs h.0 h.1 in
         record { shape = first_shape u.shape; has = u.has; parts = p ∙ ap (λ w. word w ∷ mark 58 ∷ qs) q ∙ ap (λ us. word (codes "l") ∷ mark 58 ∷ us) u.parts; means = ap (one_of first) u.means ∙ h.2 }
-    value_side c d ps o z Second qs sign p q e f g =
-        let h = kept_is (one_of second) (value_at d qs) o z e in
+    value_side greatest c d ps o z Second qs sign p q e f g =
+        let h = kept_is (one_of second) (value_at greatest d qs) o z e in
         let v = g qs h.0 h.1 in
         record { shape = second_shape v.shape; has = v.has; parts = p ∙ ap (λ w. word w ∷ mark 58 ∷ qs) q ∙ ap (λ us. word (codes "r") ∷ mark 58 ∷ us) v.parts; means = ap (one_of second) v.means ∙ h.2 }

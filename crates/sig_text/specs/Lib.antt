@@ -1,9 +1,11 @@
 pub mod Faults
+pub mod Marks
 pub mod Parts
 pub mod Shapes
 pub mod Literals
 pub mod Sequences
 pub mod Views
 pub mod Reading
+pub mod Spelled
 pub mod Answers
 pub mod Listed

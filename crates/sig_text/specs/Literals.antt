@@ -8,9 +8,12 @@ use Rattle.alg_model.specs.Expressions.{PureCarrier, whole, up_to, down_from, se
 use Rattle.alg_model.specs.Expressions.{PureValue, number, symbols, marks, unit, name, pair, first, second}
 use Rattle.alg_model.specs.Expressions.{PureLabel, number_label, keep, symbol_label, need, bar, unmark, allow, deny, row_label, pair_label, both_label, first_label, second_label, const_label, outer, inner}
 use Rattle.alg_model.specs.Expressions as labels
+use Rattle.alg_model.specs.Expressions.{PureAlg}
+use Rattle.alg_model.specs.Bounds.{greatest_number}
 use Rattle.alg_model.specs.Carriers.{carrier_of, distinct}
 use Rattle.sig_text.specs.declared.faults.LitFault.{LitFault}
 use Rattle.sig_text.specs.declared.faults.LitFault.TheVariants.{BadText, NotInCarrier, NotALabel}
+use Rattle.sig_text.specs.Marks.{plus_sign, question_mark}
 use Rattle.sig_text.specs.Parts.{Splits}
 use Rattle.sig_text.specs.Shapes.{ValueShape, number_shape, list_shape, set_shape, word_shape, pair_shape, first_shape, second_shape, value_parts, HasValueShape}
 use Rattle.sig_text.specs.Shapes.{LabelShape, number_label_shape, word_label_shape, marked_shape, pair_label_shape, both_shape, first_label_shape, second_label_shape, value_label_shape, outer_shape, inner_shape, label_parts, HasLabelShape}
@@ -45,10 +48,12 @@ value_of whole (number_shape n) = Ok (number n)
 value_of (up_to top) (number_shape n) = where_true (nat_le n top) NotInCarrier (number n)
 value_of (down_from top) (number_shape n) = where_true (nat_le n top) NotInCarrier (number n)
 value_of (seqs k) (list_shape ns) = where_true (list_all (λ n. nat_lt n k) ns) NotInCarrier (symbols ns)
-value_of (simseqs k) (list_shape ns) = where_true (list_all (λ n. nat_lt n k) ns && distinct ns) NotInCarrier (symbols ns)
+value_of (simseqs k) (list_shape ns) =
+    where_true (list_all (λ n. nat_lt n k) ns && distinct ns) NotInCarrier (symbols ns)
 value_of (sets k) (set_shape ns) = where_true (list_all (λ n. nat_lt n k) ns) NotInCarrier (marks (set_of ns))
 value_of one (word_shape w) = Ok unit
-value_of (named names ranks) (word_shape w) = placed name NotInCarrier (position (λ (other : List ℕ). bytes_eq other w) names)
+value_of (named names ranks) (word_shape w) =
+    placed name NotInCarrier (position (λ (other : List ℕ). bytes_eq other w) names)
 value_of (pairs c d) (pair_shape u v) = both_of pair (value_of c u) (value_of d v)
 value_of (sides c d) (first_shape u) = one_of first (value_of c u)
 value_of (sides c d) (second_shape v) = one_of second (value_of d v)
@@ -56,17 +61,20 @@ value_of _ _ = Err BadText
 
 -- a label that adds or takes a number, and one that asks for it or bars it
 abbrev pub tag_label : ℕ → ℕ → PureLabel
-tag_label c n = if c == 43 then labels.mark n else unmark n
+tag_label c n = if c == plus_sign then labels.mark n else unmark n
 
 abbrev pub guard_label : ℕ → ℕ → PureLabel
-guard_label c n = if c == 63 then need n else bar n
+guard_label c n = if c == question_mark then need n else bar n
 
 -- the label of the algebra that a shape of its kind spells, or the first fault in it
 abbrev pub label_of : Expression → LabelShape → Result PureLabel LitFault
 label_of (add low high) (number_label_shape n) = where_true (nat_le low n && nat_le n high) NotALabel (number_label n)
-label_of (cap top low high) (number_label_shape n) = where_true (nat_le low n && nat_le n high) NotALabel (number_label n)
-label_of (worst top low high) (number_label_shape n) = where_true (nat_le low n && nat_le n high) NotALabel (number_label n)
-label_of (width top low high) (number_label_shape n) = where_true (nat_le low n && nat_le n high) NotALabel (number_label n)
+label_of (cap top low high) (number_label_shape n) =
+    where_true (nat_le low n && nat_le n high) NotALabel (number_label n)
+label_of (worst top low high) (number_label_shape n) =
+    where_true (nat_le low n && nat_le n high) NotALabel (number_label n)
+label_of (width top low high) (number_label_shape n) =
+    where_true (nat_le low n && nat_le n high) NotALabel (number_label n)
 label_of (pref top) (number_label_shape n) = where_true (nat_le n top) NotALabel (number_label n)
 label_of (orig top) (word_label_shape w) = Ok keep
 label_of (seq k) (number_label_shape n) = where_true (nat_lt n k) NotALabel (symbol_label n)
@@ -75,7 +83,8 @@ label_of (tags k) (word_label_shape w) = Ok keep
 label_of (tags k) (marked_shape c n) = where_true (nat_lt n k) NotALabel (tag_label c n)
 label_of (guard k) (marked_shape c n) = where_true (nat_lt n k) NotALabel (guard_label c n)
 label_of gate (word_label_shape w) = Ok (if bytes_eq w (codes "allow") then allow else deny)
-label_of (table t) (word_label_shape w) = placed row_label NotALabel (position (λ (row : TableRow). bytes_eq row.name w) t.rows)
+label_of (table t) (word_label_shape w) =
+    placed row_label NotALabel (position (λ (row : TableRow). bytes_eq row.name w) t.rows)
 label_of (lex a b) (pair_label_shape x y) = both_of pair_label (label_of a x) (label_of b y)
 label_of (scoped a b) (outer_shape x v) = both_of outer (label_of a x) (value_of (carrier_of b) v)
 label_of (scoped a b) (inner_shape y) = one_of inner (label_of b y)
@@ -88,25 +97,58 @@ label_of (left a) (value_label_shape v) = one_of const_label (value_of (carrier_
 label_of (right a) (word_label_shape w) = Ok keep
 label_of _ _ = Err BadText
 
--- the text spells the value of the algebra
-pub record ValueText (a : Expression) (text : List ℕ) (v : PureValue) : Type 0 where
+-- the text spells the value of the algebra, with no number above the greatest
+pub record ValueTextTo (greatest : ℕ) (a : Expression) (text : List ℕ) (v : PureValue) : Type 0 where
   pub shape : ValueShape
-  pub has : HasValueShape (carrier_of a) shape
+  pub has : HasValueShape greatest (carrier_of a) shape
   pub splits : Splits (value_parts shape) text
   pub means : value_of (carrier_of a) shape ≡ Ok v
 
--- the text spells the label of the algebra
-pub record LabelText (a : Expression) (text : List ℕ) (l : PureLabel) : Type 0 where
+-- the text spells the label of the algebra, with no number above the greatest
+pub record LabelTextTo (greatest : ℕ) (a : Expression) (text : List ℕ) (l : PureLabel) : Type 0 where
   pub shape : LabelShape
-  pub has : HasLabelShape a shape
+  pub has : HasLabelShape greatest a shape
   pub splits : Splits (label_parts shape) text
   pub means : label_of a shape ≡ Ok l
 
--- the text has no shape that the algebra's kind asks for; or it has one, and this is the first fault in it
-abbrev pub IsValueFault : Expression → List ℕ → LitFault → Type 0
-IsValueFault a text BadText = (shape : ValueShape) → HasValueShape (carrier_of a) shape → Splits (value_parts shape) text → ⊥
-IsValueFault a text fault = (shape : ValueShape) × HasValueShape (carrier_of a) shape × Splits (value_parts shape) text × (value_of (carrier_of a) shape ≡ Err fault)
+-- a shape that the carrier's kind asks for stands in the text, and this is the first fault in it
+pub record HasValueFault (greatest : ℕ) (a : Expression) (text : List ℕ) (fault : LitFault) : Type 0 where
+  pub shape : ValueShape
+  pub has : HasValueShape greatest (carrier_of a) shape
+  pub splits : Splits (value_parts shape) text
+  pub breaks : value_of (carrier_of a) shape ≡ Err fault
 
-abbrev pub IsLabelFault : Expression → List ℕ → LitFault → Type 0
-IsLabelFault a text BadText = (shape : LabelShape) → HasLabelShape a shape → Splits (label_parts shape) text → ⊥
-IsLabelFault a text fault = (shape : LabelShape) × HasLabelShape a shape × Splits (label_parts shape) text × (label_of a shape ≡ Err fault)
+-- the same of the algebra's kind
+pub record HasLabelFault (greatest : ℕ) (a : Expression) (text : List ℕ) (fault : LitFault) : Type 0 where
+  pub shape : LabelShape
+  pub has : HasLabelShape greatest a shape
+  pub splits : Splits (label_parts shape) text
+  pub breaks : label_of a shape ≡ Err fault
+
+-- no shape that the carrier's kind asks for stands in the text; or one does, and this is the first fault in it
+abbrev pub IsValueFaultTo : ℕ → Expression → List ℕ → LitFault → Type 0
+IsValueFaultTo greatest a text BadText =
+    (shape : ValueShape) → HasValueShape greatest (carrier_of a) shape → Splits (value_parts shape) text → ⊥
+IsValueFaultTo greatest a text NotInCarrier = HasValueFault greatest a text NotInCarrier
+IsValueFaultTo greatest a text NotALabel = HasValueFault greatest a text NotALabel
+
+-- the same of the algebra's kind
+abbrev pub IsLabelFaultTo : ℕ → Expression → List ℕ → LitFault → Type 0
+IsLabelFaultTo greatest a text BadText =
+    (shape : LabelShape) → HasLabelShape greatest a shape → Splits (label_parts shape) text → ⊥
+IsLabelFaultTo greatest a text NotInCarrier = HasLabelFault greatest a text NotInCarrier
+IsLabelFaultTo greatest a text NotALabel = HasLabelFault greatest a text NotALabel
+
+-- Of an algebra's own texts the greatest number is that of its edition.
+
+abbrev pub ValueText : PureAlg → List ℕ → PureValue → Type 0
+ValueText a text v = ValueTextTo (greatest_number a.edition) a.expression text v
+
+abbrev pub LabelText : PureAlg → List ℕ → PureLabel → Type 0
+LabelText a text l = LabelTextTo (greatest_number a.edition) a.expression text l
+
+abbrev pub IsValueFault : PureAlg → List ℕ → LitFault → Type 0
+IsValueFault a text fault = IsValueFaultTo (greatest_number a.edition) a.expression text fault
+
+abbrev pub IsLabelFault : PureAlg → List ℕ → LitFault → Type 0
+IsLabelFault a text fault = IsLabelFaultTo (greatest_number a.edition) a.expression text fault

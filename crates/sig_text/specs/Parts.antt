@@ -1,11 +1,7 @@
 -- The parts of a literal: its words, its runs of digits and its single marks. Spaces and tabs may stand
 -- round each part.
-use Rattle.std.specs.Prelude.{◌≡◌, ℕ, List, [], ◌∷◌, Bool, ◌||◌, ◌==◌, if◌then◌else◌}
-use Rattle.meta_base.specs.Bytes.{is_digit, is_letter, is_word_byte, front, behind, number_from}
-
--- space or tab
-abbrev pub is_blank : ℕ → Bool
-is_blank c = c == 32 || c == 9
+use Rattle.std.specs.Prelude.{◌≡◌, ℕ, List, [], ◌∷◌, if◌then◌else◌}
+use Rattle.meta_base.specs.Bytes.{is_blank, is_digit, is_letter, is_word_byte, front, behind, number_from}
 
 pub data Part : Type 0 where
   word : List ℕ → Part

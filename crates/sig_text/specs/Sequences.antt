@@ -1,6 +1,6 @@
 -- The parts of a text as one list.
 use Rattle.std.specs.Prelude.{◌≡◌, ℕ, ◌<◌, zero, suc, List, [], ◌∷◌, length, Option, Some, None, if◌then◌else◌, nat_le}
-use Rattle.meta_base.specs.declared.limits.TheConstants.{MAX_NUMBER}
+use Rattle.sig_text.specs.declared.bytes.TheConstants.{MAX_LITERAL_NUMBER}
 use Rattle.sig_text.specs.Parts.{Part, digits, Step, end, part, step_of}
 
 -- the part that a step found, and those behind it
@@ -21,16 +21,16 @@ parts_of text = parts_within (length text) text
 abbrev pub within : ℕ → ℕ → Option ℕ
 within greatest n = if nat_le n greatest then Some n else None
 
--- digits that spell a number above the greatest of a text stand at the front
+-- digits that spell a number above that of any literal stand at the front
 pub record LargeStep (step : Step) : Type 0 where
   pub number : ℕ
   pub rest : List ℕ
   pub is : step ≡ part (digits number) rest
-  pub large : MAX_NUMBER < number
+  pub large : MAX_LITERAL_NUMBER < number
 
 -- the same of the parts of a text
 pub record LargeFront (ps : List Part) : Type 0 where
   pub number : ℕ
   pub rest : List Part
   pub is : ps ≡ digits number ∷ rest
-  pub large : MAX_NUMBER < number
+  pub large : MAX_LITERAL_NUMBER < number

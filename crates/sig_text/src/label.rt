@@ -1,16 +1,15 @@
 // The label at the front of a text.
-ghost use Rattle.std.specs.Prelude.{◌≡◌, ◌&&◌, ◌≤◌, ◌<◌, nat_lt, nat_le, option_and_then, length, Some, None, Ok, Err, IfOk, IfSome};
+ghost use Rattle.std.specs.Prelude.{◌≡◌, ◌&&◌, ◌≤◌, ◌<◌, nat_lt, nat_le, option_and_then, length, IfOk, IfSome};
 ghost use Rattle.alg_model.specs.Views.{expression_of};
-ghost use Rattle.alg_model.specs.Carriers.{carrier_of};
 ghost use Rattle.alg_model.specs.Formation.{MeetsRanges};
-ghost use Rattle.alg_model.specs.Expressions.{lex, scoped, union, sum, number_label, symbol_label, row_label, pair_label, both_label, first_label, second_label, const_label, outer, inner};
+ghost use Rattle.alg_model.specs.Expressions.{lex, scoped, union, sum, left, pref, number_label, symbol_label, pair_label, both_label, first_label, second_label, const_label, outer, inner};
 ghost use Rattle.alg_model.specs.declared.alg.TheConstants.{MAX_MARKS, MAX_TABLE_NAMES};
 ghost use Rattle.sig_text.specs.declared.faults.LitFault.TheVariants.{NotALabel};
-ghost use Rattle.sig_text.specs.declared.faults.Stop.TheVariants.{NoShape};
-ghost use Rattle.sig_text.specs.Literals.{where_true, both_of, one_of, placed, tag_label, guard_label};
+ghost use Rattle.sig_text.specs.Literals.{where_true, both_of, one_of, tag_label, guard_label};
 ghost use Rattle.sig_text.specs.Sequences.{parts_of};
-ghost use Rattle.sig_text.specs.Views.{value_outcome, label_outcome};
-ghost use Rattle.sig_text.specs.Reading.{kept, take_both, take_pair, take_parens, take_number, take_word, keep_at, gate_at, row_of, ranged_at, symbol_at, tag_at, guard_at, value_at, label_at};
+ghost use Rattle.sig_text.specs.Views.{value_outcome, label_outcome, Takes, TakesLabel, TakesTwo, TakesOuter, TakesInner};
+ghost use Rattle.sig_text.specs.declared.bytes.TheConstants.{MAX_LITERAL_NUMBER};
+ghost use Rattle.sig_text.specs.Reading.{take_word, keep_at, gate_at, row_of, row_at, ranged_at, symbol_at, tag_at, guard_at};
 
 use crate::LitFault;
 use crate::faults::{Stop, both};
@@ -18,39 +17,40 @@ use crate::parts::{
     Next, Scope, Side, mark_at, marked_at, next_part, number_at, scope_at, side_at, word_at,
 };
 use crate::value::value_at;
-use alg_model::{Label, MAX_MARKS, MAX_TABLE_NAMES, TableRow, Tree, Value};
+use alg_model::{Amount, Label, MAX_MARKS, MAX_TABLE_NAMES, TableRow, Tree, Value};
 use meta_base::NoMemory;
 use std::alloc::Global;
 
-// The label of the tree's algebra that begins the text, or the first fault in it, and what comes
-// behind it.
+// The label of the tree's algebra that begins the text with no number above the greatest, or the first
+// fault in it, and what comes behind it.
 #[cycle(label_at)]
 pub fn label_at<'a>(
     alloc: Global,
     tree: &Tree,
+    greatest: Amount,
     text: &'a [u8],
 ) -> Result<(Result<Label, LitFault>, &'a [u8]), Stop>
-    requires { MeetsRanges (expression_of tree.now) }
-    ensures found { IfOk result (λ found. label_at (expression_of tree.now) (parts_of text.now) ≡ Some (label_outcome found.0, parts_of found.1.now)) }
-    ensures none { result ≡ Err NoShape → label_at (expression_of tree.now) (parts_of text.now) ≡ None }
+    requires ranges { MeetsRanges (expression_of tree.now) }
+    requires greatest { greatest ≤ MAX_LITERAL_NUMBER }
+    ensures { TakesLabel greatest (expression_of tree.now) text.now result }
 {
     match tree {
         Tree::Add { low, high }
         | Tree::Cap { low, high, .. }
         | Tree::Worst { low, high, .. }
-        | Tree::Width { low, high, .. } => ranged_at(*low, *high, text),
-        Tree::Pref { top } => bounded_at(*top, text),
+        | Tree::Width { low, high, .. } => ranged_at(*low, *high, greatest, text),
+        Tree::Pref { top } => bounded_at(*top, greatest, text),
         Tree::Orig { .. } | Tree::Right(_) => keep_at(text),
-        Tree::Seq { symbols } | Tree::SimSeq { symbols } => symbol_at(*symbols, text),
-        Tree::Tags { count } => tag_at(*count, text),
-        Tree::Guard { count } => guard_at(*count, text),
+        Tree::Seq { symbols } | Tree::SimSeq { symbols } => symbol_at(*symbols, greatest, text),
+        Tree::Tags { count } => tag_at(*count, greatest, text),
+        Tree::Guard { count } => guard_at(*count, greatest, text),
         Tree::Gate => gate_at(text),
         Tree::Table(table) => row_at(table.rows.as_slice(), text),
-        Tree::Lex(a, b) => lex_at(alloc, a, b, text),
-        Tree::Sum(a, b) => sum_at(alloc, a, b, text),
-        Tree::Scoped(a, b) => scoped_at(alloc, a, b, text),
-        Tree::Union(a, b) | Tree::Plus(a, b) => sided_at(alloc, a, b, text),
-        Tree::Left(a) => const_at(alloc, a, text),
+        Tree::Lex(a, b) => lex_at(alloc, a, b, greatest, text),
+        Tree::Sum(a, b) => sum_at(alloc, a, b, greatest, text),
+        Tree::Scoped(a, b) => scoped_at(alloc, a, b, greatest, text),
+        Tree::Union(a, b) | Tree::Plus(a, b) => sided_at(alloc, a, b, greatest, text),
+        Tree::Left(a) => const_at(alloc, a, greatest, text),
     }
 }
 
@@ -59,14 +59,15 @@ fn lex_at<'a>(
     alloc: Global,
     a: &Tree,
     b: &Tree,
+    greatest: Amount,
     text: &'a [u8],
 ) -> Result<(Result<Label, LitFault>, &'a [u8]), Stop>
     requires first { MeetsRanges (expression_of a.now) }
     requires second { MeetsRanges (expression_of b.now) }
-    ensures found { IfOk result (λ found. label_at (lex (expression_of a.now) (expression_of b.now)) (parts_of text.now) ≡ Some (label_outcome found.0, parts_of found.1.now)) }
-    ensures none { result ≡ Err NoShape → label_at (lex (expression_of a.now) (expression_of b.now)) (parts_of text.now) ≡ None }
+    requires greatest { greatest ≤ MAX_LITERAL_NUMBER }
+    ensures { TakesLabel greatest (lex (expression_of a.now) (expression_of b.now)) text.now result }
 {
-    let ((l, m), rest) = two_at(alloc, a, b, b',', text)?;
+    let ((l, m), rest) = two_at(alloc, a, b, b',', greatest, text)?;
     Ok((pair_of(alloc, l, m)?, rest))
 }
 
@@ -75,14 +76,15 @@ fn sum_at<'a>(
     alloc: Global,
     a: &Tree,
     b: &Tree,
+    greatest: Amount,
     text: &'a [u8],
 ) -> Result<(Result<Label, LitFault>, &'a [u8]), Stop>
     requires first { MeetsRanges (expression_of a.now) }
     requires second { MeetsRanges (expression_of b.now) }
-    ensures found { IfOk result (λ found. label_at (sum (expression_of a.now) (expression_of b.now)) (parts_of text.now) ≡ Some (label_outcome found.0, parts_of found.1.now)) }
-    ensures none { result ≡ Err NoShape → label_at (sum (expression_of a.now) (expression_of b.now)) (parts_of text.now) ≡ None }
+    requires greatest { greatest ≤ MAX_LITERAL_NUMBER }
+    ensures { TakesLabel greatest (sum (expression_of a.now) (expression_of b.now)) text.now result }
 {
-    let ((l, m), rest) = two_at(alloc, a, b, b'|', text)?;
+    let ((l, m), rest) = two_at(alloc, a, b, b'|', greatest, text)?;
     Ok((both_of(alloc, l, m)?, rest))
 }
 
@@ -93,16 +95,16 @@ fn two_at<'a>(
     a: &Tree,
     b: &Tree,
     between: u8,
+    greatest: Amount,
     text: &'a [u8],
 ) -> Result<((Result<Label, LitFault>, Result<Label, LitFault>), &'a [u8]), Stop>
     requires first { MeetsRanges (expression_of a.now) }
     requires second { MeetsRanges (expression_of b.now) }
-    ensures found { IfOk result (λ found. take_both between (label_at (expression_of a.now)) (label_at (expression_of b.now)) (parts_of text.now)
-        ≡ Some ((label_outcome found.0.0, label_outcome found.0.1), parts_of found.1.now)) }
-    ensures none { result ≡ Err NoShape → take_both between (label_at (expression_of a.now)) (label_at (expression_of b.now)) (parts_of text.now) ≡ None }
+    requires greatest { greatest ≤ MAX_LITERAL_NUMBER }
+    ensures { TakesTwo greatest between (expression_of a.now) (expression_of b.now) text.now result }
 {
-    let (l, text) = label_at(alloc, a, mark_at(text, b'(')?)?;
-    let (m, text) = label_at(alloc, b, mark_at(text, between)?)?;
+    let (l, text) = label_at(alloc, a, greatest, mark_at(text, b'(')?)?;
+    let (m, text) = label_at(alloc, b, greatest, mark_at(text, between)?)?;
     Ok(((l, m), mark_at(text, b')')?))
 }
 
@@ -111,16 +113,17 @@ fn scoped_at<'a>(
     alloc: Global,
     a: &Tree,
     b: &Tree,
+    greatest: Amount,
     text: &'a [u8],
 ) -> Result<(Result<Label, LitFault>, &'a [u8]), Stop>
     requires first { MeetsRanges (expression_of a.now) }
     requires second { MeetsRanges (expression_of b.now) }
-    ensures found { IfOk result (λ found. label_at (scoped (expression_of a.now) (expression_of b.now)) (parts_of text.now) ≡ Some (label_outcome found.0, parts_of found.1.now)) }
-    ensures none { result ≡ Err NoShape → label_at (scoped (expression_of a.now) (expression_of b.now)) (parts_of text.now) ≡ None }
+    requires greatest { greatest ≤ MAX_LITERAL_NUMBER }
+    ensures { TakesLabel greatest (scoped (expression_of a.now) (expression_of b.now)) text.now result }
 {
     match scope_at(text)? {
-        (Scope::Outer, text) => outer_at(alloc, a, b, text),
-        (Scope::Inner, text) => inner_at(alloc, b, text),
+        (Scope::Outer, text) => outer_at(alloc, a, b, greatest, text),
+        (Scope::Inner, text) => inner_at(alloc, b, greatest, text),
     }
 }
 
@@ -129,15 +132,16 @@ fn outer_at<'a>(
     alloc: Global,
     a: &Tree,
     b: &Tree,
+    greatest: Amount,
     text: &'a [u8],
 ) -> Result<(Result<Label, LitFault>, &'a [u8]), Stop>
     requires first { MeetsRanges (expression_of a.now) }
     requires second { MeetsRanges (expression_of b.now) }
-    ensures found { IfOk result (λ found. take_pair 44 (both_of outer) (label_at (expression_of a.now)) (value_at (carrier_of (expression_of b.now))) (parts_of text.now) ≡ Some (label_outcome found.0, parts_of found.1.now)) }
-    ensures none { result ≡ Err NoShape → take_pair 44 (both_of outer) (label_at (expression_of a.now)) (value_at (carrier_of (expression_of b.now))) (parts_of text.now) ≡ None }
+    requires greatest { greatest ≤ MAX_LITERAL_NUMBER }
+    ensures { TakesOuter greatest (expression_of a.now) (expression_of b.now) text.now result }
 {
-    let (l, text) = label_at(alloc, a, mark_at(text, b'(')?)?;
-    let (v, text) = value_at(alloc, b, mark_at(text, b',')?)?;
+    let (l, text) = label_at(alloc, a, greatest, mark_at(text, b'(')?)?;
+    let (v, text) = value_at(alloc, b, greatest, mark_at(text, b',')?)?;
     let text = mark_at(text, b')')?;
     Ok((outer_of(alloc, l, v)?, text))
 }
@@ -146,13 +150,14 @@ fn outer_at<'a>(
 fn inner_at<'a>(
     alloc: Global,
     b: &Tree,
+    greatest: Amount,
     text: &'a [u8],
 ) -> Result<(Result<Label, LitFault>, &'a [u8]), Stop>
-    requires { MeetsRanges (expression_of b.now) }
-    ensures found { IfOk result (λ found. take_parens (one_of inner) (label_at (expression_of b.now)) (parts_of text.now) ≡ Some (label_outcome found.0, parts_of found.1.now)) }
-    ensures none { result ≡ Err NoShape → take_parens (one_of inner) (label_at (expression_of b.now)) (parts_of text.now) ≡ None }
+    requires ranges { MeetsRanges (expression_of b.now) }
+    requires greatest { greatest ≤ MAX_LITERAL_NUMBER }
+    ensures { TakesInner greatest (expression_of b.now) text.now result }
 {
-    let (m, text) = label_at(alloc, b, mark_at(text, b'(')?)?;
+    let (m, text) = label_at(alloc, b, greatest, mark_at(text, b'(')?)?;
     let text = mark_at(text, b')')?;
     Ok((inner_of(alloc, m)?, text))
 }
@@ -162,20 +167,21 @@ fn sided_at<'a>(
     alloc: Global,
     a: &Tree,
     b: &Tree,
+    greatest: Amount,
     text: &'a [u8],
 ) -> Result<(Result<Label, LitFault>, &'a [u8]), Stop>
     requires first { MeetsRanges (expression_of a.now) }
     requires second { MeetsRanges (expression_of b.now) }
-    ensures found { IfOk result (λ found. label_at (union (expression_of a.now) (expression_of b.now)) (parts_of text.now) ≡ Some (label_outcome found.0, parts_of found.1.now)) }
-    ensures none { result ≡ Err NoShape → label_at (union (expression_of a.now) (expression_of b.now)) (parts_of text.now) ≡ None }
+    requires greatest { greatest ≤ MAX_LITERAL_NUMBER }
+    ensures { TakesLabel greatest (union (expression_of a.now) (expression_of b.now)) text.now result }
 {
     match side_at(text)? {
         (Side::First, text) => {
-            let (l, text) = label_at(alloc, a, text)?;
+            let (l, text) = label_at(alloc, a, greatest, text)?;
             Ok((first_of(alloc, l)?, text))
         }
         (Side::Second, text) => {
-            let (m, text) = label_at(alloc, b, text)?;
+            let (m, text) = label_at(alloc, b, greatest, text)?;
             Ok((second_of(alloc, m)?, text))
         }
     }
@@ -184,73 +190,86 @@ fn sided_at<'a>(
 fn const_at<'a>(
     alloc: Global,
     tree: &Tree,
+    greatest: Amount,
     text: &'a [u8],
 ) -> Result<(Result<Label, LitFault>, &'a [u8]), Stop>
-    requires { MeetsRanges (expression_of tree.now) }
-    ensures found { IfOk result (λ found. kept (one_of const_label) (value_at (carrier_of (expression_of tree.now)) (parts_of text.now)) ≡ Some (label_outcome found.0, parts_of found.1.now)) }
-    ensures none { result ≡ Err NoShape → value_at (carrier_of (expression_of tree.now)) (parts_of text.now) ≡ None }
+    requires ranges { MeetsRanges (expression_of tree.now) }
+    requires greatest { greatest ≤ MAX_LITERAL_NUMBER }
+    ensures { TakesLabel greatest (left (expression_of tree.now)) text.now result }
 {
-    let (v, rest) = value_at(alloc, tree, text)?;
+    let (v, rest) = value_at(alloc, tree, greatest, text)?;
     Ok((const_of(v), rest))
 }
 
-fn ranged_at(low: u64, high: u64, text: &[u8]) -> Result<(Result<Label, LitFault>, &[u8]), Stop>
-    ensures found { IfOk result (λ found. ranged_at low high (parts_of text.now) ≡ Some (label_outcome found.0, parts_of found.1.now)) }
-    ensures none { result ≡ Err NoShape → take_number (parts_of text.now) ≡ None }
+fn ranged_at(
+    low: u64,
+    high: u64,
+    greatest: Amount,
+    text: &[u8],
+) -> Result<(Result<Label, LitFault>, &[u8]), Stop>
+    requires { greatest ≤ MAX_LITERAL_NUMBER }
+    ensures { Takes label_outcome (ranged_at greatest low high (parts_of text.now)) result }
 {
-    let (n, rest) = number_at(text)?;
+    let (n, rest) = number_at(text, greatest)?;
     Ok((number_between(low, high, n), rest))
 }
 
-fn number_between(low: u64, high: u64, n: u64) -> Result<Label, LitFault>
+fn number_between(low: u64, high: u64, n: Amount) -> Result<Label, LitFault>
     ensures { label_outcome result ≡ where_true (nat_le low n && nat_le n high) NotALabel (number_label n) }
 {
-    if low <= n && n <= high {
-        Ok(Label::Number(n))
+    if Amount::from(low) <= n && n <= Amount::from(high) {
+        Ok(Label::Number(n as u64))
     } else {
         Err(LitFault::NotALabel)
     }
 }
 
-fn bounded_at(top: u64, text: &[u8]) -> Result<(Result<Label, LitFault>, &[u8]), Stop>
-    ensures found { IfOk result (λ found. kept (λ n. where_true (nat_le n top) NotALabel (number_label n)) (take_number (parts_of text.now)) ≡ Some (label_outcome found.0, parts_of found.1.now)) }
-    ensures none { result ≡ Err NoShape → take_number (parts_of text.now) ≡ None }
+fn bounded_at(
+    top: u64,
+    greatest: Amount,
+    text: &[u8],
+) -> Result<(Result<Label, LitFault>, &[u8]), Stop>
+    requires { greatest ≤ MAX_LITERAL_NUMBER }
+    ensures { TakesLabel greatest (pref top) text.now result }
 {
-    let (n, rest) = number_at(text)?;
+    let (n, rest) = number_at(text, greatest)?;
     Ok((number_up_to(top, n), rest))
 }
 
-fn number_up_to(top: u64, n: u64) -> Result<Label, LitFault>
+fn number_up_to(top: u64, n: Amount) -> Result<Label, LitFault>
     ensures { label_outcome result ≡ where_true (nat_le n top) NotALabel (number_label n) }
 {
-    if n <= top {
-        Ok(Label::Number(n))
+    if n <= Amount::from(top) {
+        Ok(Label::Number(n as u64))
     } else {
         Err(LitFault::NotALabel)
     }
 }
 
-fn symbol_at(count: u64, text: &[u8]) -> Result<(Result<Label, LitFault>, &[u8]), Stop>
-    ensures found { IfOk result (λ found. symbol_at count (parts_of text.now) ≡ Some (label_outcome found.0, parts_of found.1.now)) }
-    ensures none { result ≡ Err NoShape → take_number (parts_of text.now) ≡ None }
+fn symbol_at(
+    count: u64,
+    greatest: Amount,
+    text: &[u8],
+) -> Result<(Result<Label, LitFault>, &[u8]), Stop>
+    requires { greatest ≤ MAX_LITERAL_NUMBER }
+    ensures { Takes label_outcome (symbol_at greatest count (parts_of text.now)) result }
 {
-    let (n, rest) = number_at(text)?;
+    let (n, rest) = number_at(text, greatest)?;
     Ok((symbol_below(count, n), rest))
 }
 
-fn symbol_below(count: u64, n: u64) -> Result<Label, LitFault>
+fn symbol_below(count: u64, n: Amount) -> Result<Label, LitFault>
     ensures { label_outcome result ≡ where_true (nat_lt n count) NotALabel (symbol_label n) }
 {
-    if n < count {
-        Ok(Label::Symbol(n))
+    if n < Amount::from(count) {
+        Ok(Label::Symbol(n as u64))
     } else {
         Err(LitFault::NotALabel)
     }
 }
 
 fn keep_at(text: &[u8]) -> Result<(Result<Label, LitFault>, &[u8]), Stop>
-    ensures found { IfOk result (λ found. option_and_then keep_at (take_word (parts_of text.now)) ≡ Some (label_outcome found.0, parts_of found.1.now)) }
-    ensures none { result ≡ Err NoShape → option_and_then keep_at (take_word (parts_of text.now)) ≡ None }
+    ensures { Takes label_outcome (option_and_then keep_at (take_word (parts_of text.now))) result }
 {
     match word_at(text)? {
         (b"keep", rest) => Ok((Ok(Label::Keep), rest)),
@@ -258,24 +277,28 @@ fn keep_at(text: &[u8]) -> Result<(Result<Label, LitFault>, &[u8]), Stop>
     }
 }
 
-fn tag_at(count: u64, text: &[u8]) -> Result<(Result<Label, LitFault>, &[u8]), Stop>
-    requires { count ≤ MAX_MARKS }
-    ensures found { IfOk result (λ found. tag_at count (parts_of text.now) ≡ Some (label_outcome found.0, parts_of found.1.now)) }
-    ensures none { result ≡ Err NoShape → tag_at count (parts_of text.now) ≡ None }
+fn tag_at(
+    count: u64,
+    greatest: Amount,
+    text: &[u8],
+) -> Result<(Result<Label, LitFault>, &[u8]), Stop>
+    requires count { count ≤ MAX_MARKS }
+    requires greatest { greatest ≤ MAX_LITERAL_NUMBER }
+    ensures { Takes label_outcome (tag_at greatest count (parts_of text.now)) result }
 {
     if let Next::Word(b"keep", rest) = next_part(text) {
         return Ok((Ok(Label::Keep), rest));
     }
-    let ((mark, n), rest) = marked_at(text, b'+', b'-')?;
+    let ((mark, n), rest) = marked_at(text, b'+', b'-', greatest)?;
     Ok((tag_of(count, mark, n), rest))
 }
 
 // The label that adds the number, or takes it away.
-fn tag_of(count: u64, mark: u8, n: u64) -> Result<Label, LitFault>
+fn tag_of(count: u64, mark: u8, n: Amount) -> Result<Label, LitFault>
     requires { count ≤ MAX_MARKS }
     ensures { label_outcome result ≡ where_true (nat_lt n count) NotALabel (tag_label mark n) }
 {
-    if n >= count {
+    if n >= Amount::from(count) {
         Err(LitFault::NotALabel)
     } else if mark == b'+' {
         Ok(Label::Mark(n as u8))
@@ -284,21 +307,25 @@ fn tag_of(count: u64, mark: u8, n: u64) -> Result<Label, LitFault>
     }
 }
 
-fn guard_at(count: u64, text: &[u8]) -> Result<(Result<Label, LitFault>, &[u8]), Stop>
-    requires { count ≤ MAX_MARKS }
-    ensures found { IfOk result (λ found. guard_at count (parts_of text.now) ≡ Some (label_outcome found.0, parts_of found.1.now)) }
-    ensures none { result ≡ Err NoShape → guard_at count (parts_of text.now) ≡ None }
+fn guard_at(
+    count: u64,
+    greatest: Amount,
+    text: &[u8],
+) -> Result<(Result<Label, LitFault>, &[u8]), Stop>
+    requires count { count ≤ MAX_MARKS }
+    requires greatest { greatest ≤ MAX_LITERAL_NUMBER }
+    ensures { Takes label_outcome (guard_at greatest count (parts_of text.now)) result }
 {
-    let ((mark, n), rest) = marked_at(text, b'?', b'!')?;
+    let ((mark, n), rest) = marked_at(text, b'?', b'!', greatest)?;
     Ok((guard_of(count, mark, n), rest))
 }
 
 // The label that asks for the number, or bars it.
-fn guard_of(count: u64, mark: u8, n: u64) -> Result<Label, LitFault>
+fn guard_of(count: u64, mark: u8, n: Amount) -> Result<Label, LitFault>
     requires { count ≤ MAX_MARKS }
     ensures { label_outcome result ≡ where_true (nat_lt n count) NotALabel (guard_label mark n) }
 {
-    if n >= count {
+    if n >= Amount::from(count) {
         Err(LitFault::NotALabel)
     } else if mark == b'?' {
         Ok(Label::Need(n as u8))
@@ -308,8 +335,7 @@ fn guard_of(count: u64, mark: u8, n: u64) -> Result<Label, LitFault>
 }
 
 fn gate_at(text: &[u8]) -> Result<(Result<Label, LitFault>, &[u8]), Stop>
-    ensures found { IfOk result (λ found. option_and_then gate_at (take_word (parts_of text.now)) ≡ Some (label_outcome found.0, parts_of found.1.now)) }
-    ensures none { result ≡ Err NoShape → option_and_then gate_at (take_word (parts_of text.now)) ≡ None }
+    ensures { Takes label_outcome (option_and_then gate_at (take_word (parts_of text.now))) result }
 {
     match word_at(text)? {
         (b"allow", rest) => Ok((Ok(Label::Allow), rest)),
@@ -323,8 +349,7 @@ fn row_at<'a>(
     text: &'a [u8],
 ) -> Result<(Result<Label, LitFault>, &'a [u8]), Stop>
     requires { length rows.now ≤ MAX_TABLE_NAMES }
-    ensures found { IfOk result (λ found. kept (λ w. placed row_label NotALabel (row_of rows.now w)) (take_word (parts_of text.now)) ≡ Some (label_outcome found.0, parts_of found.1.now)) }
-    ensures none { result ≡ Err NoShape → take_word (parts_of text.now) ≡ None }
+    ensures { Takes label_outcome (row_at rows.now (parts_of text.now)) result }
 {
     let (word, rest) = word_at(text)?;
     let label = match row_of(rows, word) {
@@ -354,7 +379,7 @@ fn pair_of(
     first: Result<Label, LitFault>,
     second: Result<Label, LitFault>,
 ) -> Result<Result<Label, LitFault>, NoMemory>
-    ensures { IfOk result (λ pair. label_outcome pair ≡ both_of pair_label (label_outcome first) (label_outcome second)) }
+    ensures { IfOk result (λ l. label_outcome l ≡ both_of pair_label (label_outcome first) (label_outcome second)) }
 {
     match both(first, second) {
         Ok((l, m)) => Ok(Ok(Label::Pair(Box::new(alloc, l)?, Box::new(alloc, m)?))),
@@ -367,7 +392,7 @@ fn both_of(
     first: Result<Label, LitFault>,
     second: Result<Label, LitFault>,
 ) -> Result<Result<Label, LitFault>, NoMemory>
-    ensures { IfOk result (λ both. label_outcome both ≡ both_of both_label (label_outcome first) (label_outcome second)) }
+    ensures { IfOk result (λ l. label_outcome l ≡ both_of both_label (label_outcome first) (label_outcome second)) }
 {
     match both(first, second) {
         Ok((l, m)) => Ok(Ok(Label::Both(Box::new(alloc, l)?, Box::new(alloc, m)?))),

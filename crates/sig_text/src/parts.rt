@@ -1,14 +1,16 @@
 // The parts of a literal, read one at a time from the front of a text.
-ghost use Rattle.std.specs.Prelude.{◌≡◌, [], Some, None, IfOk, OnOk, Err};
+ghost use Rattle.std.specs.Prelude.{◌≡◌, ◌≤◌, [], OnOk, Err};
 ghost use Rattle.sig_text.specs.Parts.{part_at};
 ghost use Rattle.sig_text.specs.Sequences.{parts_of};
-ghost use Rattle.sig_text.specs.Views.{IsStep, IsFront};
+ghost use Rattle.sig_text.specs.Views.{IsStep, IsFront, Takes, Leaves};
+ghost use Rattle.sig_text.specs.declared.bytes.TheConstants.{MAX_LITERAL_NUMBER};
 ghost use Rattle.sig_text.specs.Reading.{take_mark, take_number, take_word, take_side, take_list, items_until, take_either, take_marked, take_scope};
 ghost use Rattle.sig_text.specs.declared.faults.Stop.TheVariants.{NoShape};
 
-use crate::bytes::{behind_blanks, split_number, split_word};
+use crate::bytes::{split_number, split_word};
 use crate::faults::Stop;
-use meta_base::bytes::{is_digit, is_letter};
+use alg_model::Amount;
+use meta_base::bytes::{behind_blanks, is_digit, is_letter};
 use std::alloc::Global;
 
 /// What stands at the front of a text, and behind it the rest of the text.
@@ -16,8 +18,8 @@ use std::alloc::Global;
 pub enum Next<'a> {
     End,
     Word(&'a [u8], &'a [u8]),
-    Number(u64, &'a [u8]),
-    /// Digits that spell a number above [`meta_base::MAX_NUMBER`].
+    Number(Amount, &'a [u8]),
+    /// Digits that spell a number above [`crate::MAX_LITERAL_NUMBER`].
     TooLarge,
     Mark(u8, &'a [u8]),
 }
@@ -60,8 +62,7 @@ pub fn end_at(text: &[u8]) -> Result<(), Stop>
 
 // What comes behind that mark.
 pub fn mark_at(text: &[u8], wanted: u8) -> Result<&[u8], Stop>
-    ensures found { IfOk result (λ rest. take_mark wanted (parts_of text.now) ≡ Some (parts_of rest.now)) }
-    ensures none { result ≡ Err NoShape → take_mark wanted (parts_of text.now) ≡ None }
+    ensures { Leaves (take_mark wanted (parts_of text.now)) result }
 {
     match next_part(text) {
         Next::Mark(mark, rest) if mark == wanted => Ok(rest),
@@ -69,21 +70,20 @@ pub fn mark_at(text: &[u8], wanted: u8) -> Result<&[u8], Stop>
     }
 }
 
-// A number, and what comes behind it.
-pub fn number_at(text: &[u8]) -> Result<(u64, &[u8]), Stop>
-    ensures found { IfOk result (λ found. take_number (parts_of text.now) ≡ Some (found.0, parts_of found.1.now)) }
-    ensures none { result ≡ Err NoShape → take_number (parts_of text.now) ≡ None }
+// A number that is at most the greatest, and what comes behind it.
+pub fn number_at(text: &[u8], greatest: Amount) -> Result<(Amount, &[u8]), Stop>
+    requires { greatest ≤ MAX_LITERAL_NUMBER }
+    ensures { Takes (λ n. n) (take_number greatest (parts_of text.now)) result }
 {
     match next_part(text) {
-        Next::Number(n, rest) => Ok((n, rest)),
+        Next::Number(n, rest) if n <= greatest => Ok((n, rest)),
         _ => Err(Stop::NoShape),
     }
 }
 
 // A word, and what comes behind it.
 pub fn word_at(text: &[u8]) -> Result<(&[u8], &[u8]), Stop>
-    ensures found { IfOk result (λ found. take_word (parts_of text.now) ≡ Some (found.0.now, parts_of found.1.now)) }
-    ensures none { result ≡ Err NoShape → take_word (parts_of text.now) ≡ None }
+    ensures { Takes (λ w. w.now) (take_word (parts_of text.now)) result }
 {
     match next_part(text) {
         Next::Word(word, rest) => Ok((word, rest)),
@@ -100,8 +100,7 @@ pub enum Side {
 
 // The side that `l:` or `r:` says, and what comes behind it.
 pub fn side_at(text: &[u8]) -> Result<(Side, &[u8]), Stop>
-    ensures found { IfOk result (λ found. take_side (parts_of text.now) ≡ Some (found.0, parts_of found.1.now)) }
-    ensures none { result ≡ Err NoShape → take_side (parts_of text.now) ≡ None }
+    ensures { Takes (λ side. side) (take_side (parts_of text.now)) result }
 {
     let (word, rest) = word_at(text)?;
     let rest = mark_at(rest, b':')?;
@@ -123,8 +122,7 @@ pub enum Scope {
 
 // The scope that `out` or `in` says, and what comes behind it.
 pub fn scope_at(text: &[u8]) -> Result<(Scope, &[u8]), Stop>
-    ensures found { IfOk result (λ found. take_scope (parts_of text.now) ≡ Some (found.0, parts_of found.1.now)) }
-    ensures none { result ≡ Err NoShape → take_scope (parts_of text.now) ≡ None }
+    ensures { Takes (λ scope. scope) (take_scope (parts_of text.now)) result }
 {
     match word_at(text)? {
         (b"out", rest) => Ok((Scope::Outer, rest)),
@@ -135,8 +133,7 @@ pub fn scope_at(text: &[u8]) -> Result<(Scope, &[u8]), Stop>
 
 // One of two marks, and what comes behind it.
 fn either_at(text: &[u8], one: u8, other: u8) -> Result<(u8, &[u8]), Stop>
-    ensures found { IfOk result (λ found. take_either one other (parts_of text.now) ≡ Some (found.0, parts_of found.1.now)) }
-    ensures none { result ≡ Err NoShape → take_either one other (parts_of text.now) ≡ None }
+    ensures { Takes (λ mark. mark) (take_either one other (parts_of text.now)) result }
 {
     match next_part(text) {
         Next::Mark(mark, rest) if mark == one || mark == other => Ok((mark, rest)),
@@ -145,12 +142,17 @@ fn either_at(text: &[u8], one: u8, other: u8) -> Result<(u8, &[u8]), Stop>
 }
 
 // One of two marks and a number, and what comes behind them.
-pub fn marked_at(text: &[u8], one: u8, other: u8) -> Result<((u8, u64), &[u8]), Stop>
-    ensures found { IfOk result (λ found. take_marked one other (parts_of text.now) ≡ Some (found.0, parts_of found.1.now)) }
-    ensures none { result ≡ Err NoShape → take_marked one other (parts_of text.now) ≡ None }
+pub fn marked_at(
+    text: &[u8],
+    one: u8,
+    other: u8,
+    greatest: Amount,
+) -> Result<((u8, Amount), &[u8]), Stop>
+    requires { greatest ≤ MAX_LITERAL_NUMBER }
+    ensures { Takes (λ marked. marked) (take_marked greatest one other (parts_of text.now)) result }
 {
     let (mark, rest) = either_at(text, one, other)?;
-    let (n, rest) = number_at(rest)?;
+    let (n, rest) = number_at(rest, greatest)?;
     Ok(((mark, n), rest))
 }
 
@@ -160,28 +162,32 @@ pub fn list_at(
     text: &[u8],
     opening: u8,
     closing: u8,
-) -> Result<(Vec<u64>, &[u8]), Stop>
-    ensures found { IfOk result (λ found. take_list opening closing (parts_of text.now) ≡ Some (found.0.items, parts_of found.1.now)) }
-    ensures none { result ≡ Err NoShape → take_list opening closing (parts_of text.now) ≡ None }
+    greatest: Amount,
+) -> Result<(Vec<Amount>, &[u8]), Stop>
+    requires { greatest ≤ MAX_LITERAL_NUMBER }
+    ensures { Takes (λ ns. ns.items) (take_list greatest opening closing (parts_of text.now)) result }
 {
     let text = mark_at(text, opening)?;
     match next_part(text) {
         Next::Mark(mark, rest) if mark == closing => Ok((Vec::new(alloc), rest)),
-        _ => items_until(alloc, text, closing),
+        _ => items_until(alloc, text, closing, greatest),
     }
 }
 
 // The numbers up to that mark, of which there is one at least.
-fn items_until(alloc: Global, text: &[u8], closing: u8) -> Result<(Vec<u64>, &[u8]), Stop>
-    ensures found { IfOk result (λ found. items_until closing [] (parts_of text.now) ≡ Some (found.0.items, parts_of found.1.now)) }
-    ensures none { result ≡ Err NoShape → items_until closing [] (parts_of text.now) ≡ None }
+fn items_until(
+    alloc: Global,
+    text: &[u8],
+    closing: u8,
+    greatest: Amount,
+) -> Result<(Vec<Amount>, &[u8]), Stop>
+    requires { greatest ≤ MAX_LITERAL_NUMBER }
+    ensures { Takes (λ ns. ns.items) (items_until greatest closing [] (parts_of text.now)) result }
 {
     let mut numbers = Vec::new(alloc);
     let mut text = text;
     loop {
-        let Next::Number(n, behind) = next_part(text) else {
-            return Err(Stop::NoShape);
-        };
+        let (n, behind) = number_at(text, greatest)?;
         numbers.push(n)?;
         match next_part(behind) {
             Next::Mark(mark, rest) if mark == closing => return Ok((numbers, rest)),

@@ -1,4 +1,4 @@
-ghost use Rattle.std.specs.Prelude.{◌≡◌, ◌++◌, ◌<◌, ◌≤◌, [], ◌∷◌, OnOk, IfOk, length, decimal, string_bytes, codes, slice_get, slice_index_or};
+ghost use Rattle.std.specs.Prelude.{◌≡◌, ◌++◌, ◌<◌, ◌≤◌, [], OnOk, IfOk, length, decimal, string_bytes, codes, slice_get, slice_index_or};
 ghost use Rattle.alg_model.specs.Application.{IsLabel, has_mark};
 ghost use Rattle.alg_model.specs.Carriers.{carrier_of, In};
 ghost use Rattle.alg_model.specs.Formation.{MeetsRanges};
@@ -14,8 +14,8 @@ use std::alloc::Global;
 /// The printed text of a value of the algebra: [`crate::read_value`] reads it back. It is refused for
 /// want of memory alone.
 pub fn print_value(alloc: Global, alg: &Alg, value: &Value) -> Result<Text, NoMemory>
-    requires { In (carrier_of alg.now) (pure_value value.now) }
-    ensures { IfOk result (λ text. text ≡ value_text (carrier_of alg.now) (pure_value value.now)) }
+    requires { In (carrier_of alg.now.expression) (pure_value value.now) }
+    ensures { IfOk result (λ text. text ≡ value_text (carrier_of alg.now.expression) (pure_value value.now)) }
 {
     let mut out = String::new(alloc);
     push_value(&mut out, alg, value)?;
@@ -25,8 +25,8 @@ pub fn print_value(alloc: Global, alg: &Alg, value: &Value) -> Result<Text, NoMe
 /// The printed text of a label of the algebra: [`crate::read_label`] reads it back. It is refused for
 /// want of memory alone.
 pub fn print_label(alloc: Global, alg: &Alg, label: &Label) -> Result<Text, NoMemory>
-    requires { IsLabel alg.now (pure_label label.now) }
-    ensures { IfOk result (λ text. text ≡ label_text alg.now (pure_label label.now)) }
+    requires { IsLabel alg.now.expression (pure_label label.now) }
+    ensures { IfOk result (λ text. text ≡ label_text alg.now.expression (pure_label label.now)) }
 {
     let mut out = String::new(alloc);
     push_label(&mut out, alg, label)?;
@@ -35,16 +35,18 @@ pub fn print_label(alloc: Global, alg: &Alg, label: &Label) -> Result<Text, NoMe
 
 /// Appends the printed text of a value of the algebra. After a refusal a front of it may be there.
 pub fn push_value(out: &mut String, alg: &Alg, value: &Value) -> Result<(), NoMemory>
-    requires { In (carrier_of alg.now) (pure_value value.now) }
-    ensures { OnOk result (string_bytes out.new ≡ string_bytes out.old ++ value_text (carrier_of alg.now) (pure_value value.now)) }
+    requires { In (carrier_of alg.now.expression) (pure_value value.now) }
+    ensures { OnOk result (string_bytes out.new ≡ string_bytes out.old
+        ++ value_text (carrier_of alg.now.expression) (pure_value value.now)) }
 {
     push_tree_value(out, alg.tree(), value)
 }
 
 /// Appends the printed text of a label of the algebra. After a refusal a front of it may be there.
 pub fn push_label(out: &mut String, alg: &Alg, label: &Label) -> Result<(), NoMemory>
-    requires { IsLabel alg.now (pure_label label.now) }
-    ensures { OnOk result (string_bytes out.new ≡ string_bytes out.old ++ label_text alg.now (pure_label label.now)) }
+    requires { IsLabel alg.now.expression (pure_label label.now) }
+    ensures { OnOk result (string_bytes out.new ≡ string_bytes out.old
+        ++ label_text alg.now.expression (pure_label label.now)) }
 {
     push_tree_label(out, alg.tree(), label)
 }
@@ -52,7 +54,8 @@ pub fn push_label(out: &mut String, alg: &Alg, label: &Label) -> Result<(), NoMe
 fn push_tree_value(out: &mut String, tree: &Tree, value: &Value) -> Result<(), NoMemory>
     requires ranges { MeetsRanges (expression_of tree.now) }
     requires value { In (carrier_of (expression_of tree.now)) (pure_value value.now) }
-    ensures { OnOk result (string_bytes out.new ≡ string_bytes out.old ++ value_text (carrier_of (expression_of tree.now)) (pure_value value.now)) }
+    ensures { OnOk result (string_bytes out.new ≡ string_bytes out.old
+        ++ value_text (carrier_of (expression_of tree.now)) (pure_value value.now)) }
 {
     match (tree, value) {
         (
@@ -95,7 +98,8 @@ fn push_tree_value(out: &mut String, tree: &Tree, value: &Value) -> Result<(), N
 fn push_tree_label(out: &mut String, tree: &Tree, label: &Label) -> Result<(), NoMemory>
     requires ranges { MeetsRanges (expression_of tree.now) }
     requires label { IsLabel (expression_of tree.now) (pure_label label.now) }
-    ensures { OnOk result (string_bytes out.new ≡ string_bytes out.old ++ label_text (expression_of tree.now) (pure_label label.now)) }
+    ensures { OnOk result (string_bytes out.new ≡ string_bytes out.old
+        ++ label_text (expression_of tree.now) (pure_label label.now)) }
 {
     match (tree, label) {
         (
@@ -188,7 +192,8 @@ fn push_row(out: &mut String, rows: &[TableRow], place: u8) -> Result<(), NoMemo
 }
 
 fn push_symbols(out: &mut String, ns: &[u64]) -> Result<(), NoMemory>
-    ensures { OnOk result (string_bytes out.new ≡ string_bytes out.old ++ (codes "[" ++ numbers_text ns.now ++ codes "]")) }
+    ensures { OnOk result (string_bytes out.new ≡ string_bytes out.old
+        ++ (codes "[" ++ numbers_text ns.now ++ codes "]")) }
 {
     out.push_str("[")?;
     push_numbers(out, ns)?;
@@ -223,7 +228,8 @@ fn separator(follows: bool) -> &'static str
 
 fn push_set(out: &mut String, count: u64, marks: u64) -> Result<(), NoMemory>
     requires { count ≤ MAX_MARKS }
-    ensures { OnOk result (string_bytes out.new ≡ string_bytes out.old ++ (codes "{" ++ numbers_text (members count marks) ++ codes "}")) }
+    ensures { OnOk result (string_bytes out.new ≡ string_bytes out.old
+        ++ (codes "{" ++ numbers_text (members count marks) ++ codes "}")) }
 {
     out.push_str("{")?;
     push_members(out, count, marks)?;

@@ -1,28 +1,29 @@
-ghost use Rattle.std.specs.Prelude.{◌≡◌, [], Some, Err, IfOk, IfErr};
-ghost use Rattle.meta_base.specs.declared.limits.TheConstants.{MAX_NUMBER};
+ghost use Rattle.std.specs.Prelude.{◌≡◌, ◌≤◌, IfOk, IfErr};
 ghost use Rattle.alg_model.specs.Application.{IsLabel};
-ghost use Rattle.alg_model.specs.Bounds.{AtMost, LabelAtMost};
+ghost use Rattle.alg_model.specs.Bounds.{AtMost, LabelAtMost, greatest_number};
 ghost use Rattle.alg_model.specs.Carriers.{carrier_of, In};
 ghost use Rattle.alg_model.specs.Views.{pure_value, pure_label};
-ghost use Rattle.sig_text.specs.declared.faults.Stop.TheVariants.{NoShape};
-ghost use Rattle.sig_text.specs.Answers.{IsValueError, IsLabelError};
-ghost use Rattle.sig_text.specs.Literals.{ValueText, LabelText};
-ghost use Rattle.sig_text.specs.Reading.{NotWhole, value_at, label_at};
+ghost use Rattle.sig_text.specs.declared.bytes.TheConstants.{MAX_LITERAL_NUMBER};
+ghost use Rattle.sig_text.specs.Answers.{IsValueError, IsValueErrorTo, IsLabelError, IsSpelled};
+ghost use Rattle.sig_text.specs.Literals.{ValueText, ValueTextTo, LabelText};
+ghost use Rattle.sig_text.specs.Reading.{value_at, label_at};
 ghost use Rattle.sig_text.specs.Sequences.{parts_of};
-ghost use Rattle.sig_text.specs.Views.{value_outcome, label_outcome};
+ghost use Rattle.sig_text.specs.Spelled.{spelled_value, spelled_value_to, spelled_label};
+ghost use Rattle.sig_text.specs.Views.{value_outcome, label_outcome, TakesAll};
 
 use crate::faults::Stop;
 use crate::label::label_at;
 use crate::parts::end_at;
 use crate::value::value_at;
 use crate::{LitError, LitFault};
-use alg_model::{Alg, Label, Value};
+use alg_model::{Alg, Amount, Label, Value};
 use std::alloc::Global;
 
 /// The value of the algebra that a text spells, all of it: a number, `[0,2]`, `{0,2}`, `unit`, a
 /// table's name, `(u,v)`, `l:u` or `r:v`, as the algebra's kind has it, with blanks between the parts.
-/// Its numbers are at most [`meta_base::MAX_NUMBER`]. It recurses as deep as the algebra's tree; for a
-/// set, and for a sequence without a repeat, it takes time in proportion to the square of the numbers.
+/// Its numbers are at most the greatest of the algebra's edition. It recurses as deep as the algebra's
+/// tree, and takes time in proportion to the text; for a set, and for a sequence without a repeat, a
+/// number more takes the logarithm of how many there are.
 ///
 /// # Errors
 ///
@@ -32,10 +33,39 @@ use std::alloc::Global;
 pub fn read_value(alloc: Global, alg: &Alg, text: &[u8]) -> Result<Value, LitError>
     ensures value { IfOk result (λ v. ValueText alg.now text.now (pure_value v)) }
     ensures fault { IfErr result (IsValueError alg.now text.now) }
-    ensures is_value { IfOk result (λ v. In (carrier_of alg.now) (pure_value v)) }
-    ensures bound { IfOk result (λ v. AtMost MAX_NUMBER (pure_value v)) }
+    ensures spelled { IsSpelled pure_value (spelled_value alg.now text.now) result }
+    ensures is_value { IfOk result (λ v. In (carrier_of alg.now.expression) (pure_value v)) }
+    ensures bound { IfOk result (λ v. AtMost (greatest_number alg.now.edition) (pure_value v)) }
 {
-    match whole_value(alloc, alg, text) {
+    read_value_to(alloc, alg, text, greatest_of(alg))
+}
+
+// The greatest number of the texts of the algebra's edition.
+fn greatest_of(alg: &Alg) -> Amount
+    ensures { result ≡ greatest_number alg.now.edition }
+{
+    Amount::from(alg.edition().greatest_number())
+}
+
+/// [`read_value`] with this greatest number in place of the edition's.
+///
+/// # Errors
+///
+/// As [`read_value`]'s, where a number above this one is [`LitFault::BadText`].
+pub fn read_value_to(
+    alloc: Global,
+    alg: &Alg,
+    text: &[u8],
+    greatest: Amount,
+) -> Result<Value, LitError>
+    requires { greatest ≤ MAX_LITERAL_NUMBER }
+    ensures value { IfOk result (λ v. ValueTextTo greatest alg.now.expression text.now (pure_value v)) }
+    ensures fault { IfErr result (IsValueErrorTo greatest alg.now.expression text.now) }
+    ensures spelled { IsSpelled pure_value (spelled_value_to greatest alg.now.expression text.now) result }
+    ensures is_value { IfOk result (λ v. In (carrier_of alg.now.expression) (pure_value v)) }
+    ensures bound { IfOk result (λ v. AtMost greatest (pure_value v)) }
+{
+    match whole_value(alloc, alg, text, greatest) {
         Ok(Ok(value)) => Ok(value),
         Ok(Err(fault)) => Err(LitError::Bad(fault)),
         Err(Stop::NoShape) => Err(LitError::Bad(LitFault::BadText)),
@@ -44,19 +74,24 @@ pub fn read_value(alloc: Global, alg: &Alg, text: &[u8]) -> Result<Value, LitErr
 }
 
 // The value that all of the text spells, or the first fault in it.
-fn whole_value(alloc: Global, alg: &Alg, text: &[u8]) -> Result<Result<Value, LitFault>, Stop>
-    ensures found { IfOk result (λ value. value_at (carrier_of alg.now) (parts_of text.now) ≡ Some (value_outcome value, [])) }
-    ensures none { result ≡ Err NoShape → NotWhole (value_at (carrier_of alg.now) (parts_of text.now)) }
+fn whole_value(
+    alloc: Global,
+    alg: &Alg,
+    text: &[u8],
+    greatest: Amount,
+) -> Result<Result<Value, LitFault>, Stop>
+    requires { greatest ≤ MAX_LITERAL_NUMBER }
+    ensures { TakesAll value_outcome (value_at greatest (carrier_of alg.now.expression) (parts_of text.now)) result }
 {
-    let (value, rest) = value_at(alloc, alg.tree(), text)?;
+    let (value, rest) = value_at(alloc, alg.tree(), greatest, text)?;
     end_at(rest)?;
     Ok(value)
 }
 
 /// The label of the algebra that a text spells, all of it: a number, a table's row, `keep`, `+2`,
 /// `-2`, `?2`, `!2`, `allow`, `deny`, `(x,y)`, `(x|y)`, `l:x`, `r:y`, a value, `out(x,v)` or `in(y)`,
-/// as the algebra's kind has it, with blanks between the parts. Its numbers are at most
-/// [`meta_base::MAX_NUMBER`]. It recurses as deep as the algebra's tree, and takes time as
+/// as the algebra's kind has it, with blanks between the parts. Its numbers are at most the greatest
+/// of the algebra's edition. It recurses as deep as the algebra's tree, and takes time as
 /// [`read_value`] does.
 ///
 /// # Errors
@@ -68,8 +103,9 @@ fn whole_value(alloc: Global, alg: &Alg, text: &[u8]) -> Result<Result<Value, Li
 pub fn read_label(alloc: Global, alg: &Alg, text: &[u8]) -> Result<Label, LitError>
     ensures label { IfOk result (λ l. LabelText alg.now text.now (pure_label l)) }
     ensures fault { IfErr result (IsLabelError alg.now text.now) }
-    ensures is_label { IfOk result (λ l. IsLabel alg.now (pure_label l)) }
-    ensures bound { IfOk result (λ l. LabelAtMost MAX_NUMBER (pure_label l)) }
+    ensures spelled { IsSpelled pure_label (spelled_label alg.now text.now) result }
+    ensures is_label { IfOk result (λ l. IsLabel alg.now.expression (pure_label l)) }
+    ensures bound { IfOk result (λ l. LabelAtMost (greatest_number alg.now.edition) (pure_label l)) }
 {
     match whole_label(alloc, alg, text) {
         Ok(Ok(label)) => Ok(label),
@@ -81,10 +117,10 @@ pub fn read_label(alloc: Global, alg: &Alg, text: &[u8]) -> Result<Label, LitErr
 
 // The label that all of the text spells, or the first fault in it.
 fn whole_label(alloc: Global, alg: &Alg, text: &[u8]) -> Result<Result<Label, LitFault>, Stop>
-    ensures found { IfOk result (λ label. label_at alg.now (parts_of text.now) ≡ Some (label_outcome label, [])) }
-    ensures none { result ≡ Err NoShape → NotWhole (label_at alg.now (parts_of text.now)) }
+    ensures { TakesAll label_outcome
+        (label_at (greatest_number alg.now.edition) alg.now.expression (parts_of text.now)) result }
 {
-    let (label, rest) = label_at(alloc, alg.tree(), text)?;
+    let (label, rest) = label_at(alloc, alg.tree(), greatest_of(alg), text)?;
     end_at(rest)?;
     Ok(label)
 }

@@ -1,18 +1,19 @@
 // The value at the front of a text.
-ghost use Rattle.std.specs.Prelude.{◌≡◌, ◌&&◌, ◌≤◌, ◌==◌, true, nat_lt, nat_le, option_and_then, position, length, Some, None, Ok, Err, IfOk, IfSome, ◌<◌};
-ghost use Rattle.std.specs.List.{list_all, list_any, AllByRecursion};
-ghost use Rattle.std.specs.Str.{bytes_eq};
+ghost use Rattle.std.specs.Prelude.{◌≡◌, ◌&&◌, ◌≤◌, true, nat_lt, nat_le, option_and_then, length, Some, None, Err, IfOk, IfSome, ◌<◌};
+ghost use Rattle.std.specs.List.{list_all};
 ghost use Rattle.alg_model.specs.Views.{expression_of};
 ghost use Rattle.alg_model.specs.Carriers.{carrier_of, distinct};
 ghost use Rattle.alg_model.specs.Formation.{MeetsRanges};
-ghost use Rattle.alg_model.specs.Expressions.{PureValue, pairs, sides, number, symbols, marks, name, pair, first, second};
+ghost use Rattle.alg_model.specs.Expressions.{whole, up_to, seqs, simseqs, sets, pairs, sides, number, symbols, pair, first, second};
 ghost use Rattle.alg_model.specs.declared.alg.TheConstants.{MAX_MARKS, MAX_TABLE_NAMES};
 ghost use Rattle.sig_text.specs.declared.faults.LitFault.TheVariants.{NotInCarrier};
 ghost use Rattle.sig_text.specs.declared.faults.Stop.TheVariants.{NoShape};
-ghost use Rattle.sig_text.specs.Literals.{where_true, both_of, one_of, set_of, placed};
+ghost use Rattle.sig_text.specs.Literals.{where_true, both_of, one_of, set_of, value_of};
+ghost use Rattle.sig_text.specs.Shapes.{list_shape};
 ghost use Rattle.sig_text.specs.Sequences.{parts_of};
-ghost use Rattle.sig_text.specs.Views.{value_outcome};
-ghost use Rattle.sig_text.specs.Reading.{kept, take_number, take_word, take_list, set_from, set_at, unit_at, place_of, value_at};
+ghost use Rattle.sig_text.specs.Views.{value_outcome, Takes, TakesValue};
+ghost use Rattle.sig_text.specs.declared.bytes.TheConstants.{MAX_LITERAL_NUMBER};
+ghost use Rattle.sig_text.specs.Reading.{take_word, set_from, unit_at, place_of, name_at};
 
 use crate::LitFault;
 use crate::faults::{Stop, both};
@@ -20,34 +21,36 @@ use crate::parts::{Side, list_at, mark_at, number_at, side_at, word_at};
 use alg_model::{Amount, MAX_MARKS, MAX_TABLE_NAMES, Tree, Value};
 use meta_base::{List, NoMemory, Text};
 use std::alloc::Global;
+use std::collections::BTreeSet;
 
-// The value of the tree's algebra that begins the text, or the first fault in it, and what comes
-// behind it.
+// The value of the tree's algebra that begins the text with no number above the greatest, or the first
+// fault in it, and what comes behind it.
 #[cycle(value_at)]
 pub fn value_at<'a>(
     alloc: Global,
     tree: &Tree,
+    greatest: Amount,
     text: &'a [u8],
 ) -> Result<(Result<Value, LitFault>, &'a [u8]), Stop>
-    requires { MeetsRanges (expression_of tree.now) }
-    ensures found { IfOk result (λ found. value_at (carrier_of (expression_of tree.now)) (parts_of text.now) ≡ Some (value_outcome found.0, parts_of found.1.now)) }
-    ensures none { result ≡ Err NoShape → value_at (carrier_of (expression_of tree.now)) (parts_of text.now) ≡ None }
+    requires ranges { MeetsRanges (expression_of tree.now) }
+    requires greatest { greatest ≤ MAX_LITERAL_NUMBER }
+    ensures { TakesValue greatest (carrier_of (expression_of tree.now)) text.now result }
 {
     match tree {
-        Tree::Add { .. } => whole_at(text),
+        Tree::Add { .. } => whole_at(greatest, text),
         Tree::Cap { top, .. }
         | Tree::Worst { top, .. }
         | Tree::Width { top, .. }
         | Tree::Pref { top }
-        | Tree::Orig { top } => bounded_at(*top, text),
-        Tree::Seq { symbols } => symbols_at(alloc, *symbols, text),
-        Tree::SimSeq { symbols } => simple_at(alloc, *symbols, text),
-        Tree::Tags { count } | Tree::Guard { count } => set_at(alloc, *count, text),
+        | Tree::Orig { top } => bounded_at(*top, greatest, text),
+        Tree::Seq { symbols } => symbols_at(alloc, *symbols, greatest, text),
+        Tree::SimSeq { symbols } => simple_at(alloc, *symbols, greatest, text),
+        Tree::Tags { count } | Tree::Guard { count } => set_at(alloc, *count, greatest, text),
         Tree::Gate => unit_at(text),
         Tree::Table(table) => name_at(table.names.as_slice(), text),
-        Tree::Lex(a, b) | Tree::Scoped(a, b) => pair_at(alloc, a, b, text),
-        Tree::Union(a, b) | Tree::Sum(a, b) => sided_at(alloc, a, b, text),
-        Tree::Plus(a, _) | Tree::Left(a) | Tree::Right(a) => value_at(alloc, a, text),
+        Tree::Lex(a, b) | Tree::Scoped(a, b) => pair_at(alloc, a, b, greatest, text),
+        Tree::Union(a, b) | Tree::Sum(a, b) => sided_at(alloc, a, b, greatest, text),
+        Tree::Plus(a, _) | Tree::Left(a) | Tree::Right(a) => value_at(alloc, a, greatest, text),
     }
 }
 
@@ -56,15 +59,17 @@ fn pair_at<'a>(
     alloc: Global,
     a: &Tree,
     b: &Tree,
+    greatest: Amount,
     text: &'a [u8],
 ) -> Result<(Result<Value, LitFault>, &'a [u8]), Stop>
     requires first { MeetsRanges (expression_of a.now) }
     requires second { MeetsRanges (expression_of b.now) }
-    ensures found { IfOk result (λ found. value_at (pairs (carrier_of (expression_of a.now)) (carrier_of (expression_of b.now))) (parts_of text.now) ≡ Some (value_outcome found.0, parts_of found.1.now)) }
-    ensures none { result ≡ Err NoShape → value_at (pairs (carrier_of (expression_of a.now)) (carrier_of (expression_of b.now))) (parts_of text.now) ≡ None }
+    requires greatest { greatest ≤ MAX_LITERAL_NUMBER }
+    ensures { TakesValue greatest (pairs (carrier_of (expression_of a.now)) (carrier_of (expression_of b.now)))
+        text.now result }
 {
-    let (u, text) = value_at(alloc, a, mark_at(text, b'(')?)?;
-    let (v, text) = value_at(alloc, b, mark_at(text, b',')?)?;
+    let (u, text) = value_at(alloc, a, greatest, mark_at(text, b'(')?)?;
+    let (v, text) = value_at(alloc, b, greatest, mark_at(text, b',')?)?;
     let text = mark_at(text, b')')?;
     Ok((pair_of(alloc, u, v)?, text))
 }
@@ -74,46 +79,52 @@ fn sided_at<'a>(
     alloc: Global,
     a: &Tree,
     b: &Tree,
+    greatest: Amount,
     text: &'a [u8],
 ) -> Result<(Result<Value, LitFault>, &'a [u8]), Stop>
     requires first { MeetsRanges (expression_of a.now) }
     requires second { MeetsRanges (expression_of b.now) }
-    ensures found { IfOk result (λ found. value_at (sides (carrier_of (expression_of a.now)) (carrier_of (expression_of b.now))) (parts_of text.now) ≡ Some (value_outcome found.0, parts_of found.1.now)) }
-    ensures none { result ≡ Err NoShape → value_at (sides (carrier_of (expression_of a.now)) (carrier_of (expression_of b.now))) (parts_of text.now) ≡ None }
+    requires greatest { greatest ≤ MAX_LITERAL_NUMBER }
+    ensures { TakesValue greatest (sides (carrier_of (expression_of a.now)) (carrier_of (expression_of b.now)))
+        text.now result }
 {
     match side_at(text)? {
         (Side::First, text) => {
-            let (u, text) = value_at(alloc, a, text)?;
+            let (u, text) = value_at(alloc, a, greatest, text)?;
             Ok((first_of(alloc, u)?, text))
         }
         (Side::Second, text) => {
-            let (v, text) = value_at(alloc, b, text)?;
+            let (v, text) = value_at(alloc, b, greatest, text)?;
             Ok((second_of(alloc, v)?, text))
         }
     }
 }
 
-fn whole_at(text: &[u8]) -> Result<(Result<Value, LitFault>, &[u8]), Stop>
-    ensures found { IfOk result (λ found. kept (λ n. Ok (number n)) (take_number (parts_of text.now)) ≡ Some (value_outcome found.0, parts_of found.1.now)) }
-    ensures none { result ≡ Err NoShape → take_number (parts_of text.now) ≡ None }
+fn whole_at(greatest: Amount, text: &[u8]) -> Result<(Result<Value, LitFault>, &[u8]), Stop>
+    requires { greatest ≤ MAX_LITERAL_NUMBER }
+    ensures { TakesValue greatest whole text.now result }
 {
-    let (n, rest) = number_at(text)?;
-    Ok((Ok(Value::Number(Amount::from(n))), rest))
+    let (n, rest) = number_at(text, greatest)?;
+    Ok((Ok(Value::Number(n)), rest))
 }
 
-fn bounded_at(top: u64, text: &[u8]) -> Result<(Result<Value, LitFault>, &[u8]), Stop>
-    ensures found { IfOk result (λ found. kept (λ n. where_true (nat_le n top) NotInCarrier (number n)) (take_number (parts_of text.now)) ≡ Some (value_outcome found.0, parts_of found.1.now)) }
-    ensures none { result ≡ Err NoShape → take_number (parts_of text.now) ≡ None }
+fn bounded_at(
+    top: u64,
+    greatest: Amount,
+    text: &[u8],
+) -> Result<(Result<Value, LitFault>, &[u8]), Stop>
+    requires { greatest ≤ MAX_LITERAL_NUMBER }
+    ensures { TakesValue greatest (up_to top) text.now result }
 {
-    let (n, rest) = number_at(text)?;
+    let (n, rest) = number_at(text, greatest)?;
     Ok((number_up_to(top, n), rest))
 }
 
-fn number_up_to(top: u64, n: u64) -> Result<Value, LitFault>
+fn number_up_to(top: u64, n: Amount) -> Result<Value, LitFault>
     ensures { value_outcome result ≡ where_true (nat_le n top) NotInCarrier (number n) }
 {
-    if n <= top {
-        Ok(Value::Number(Amount::from(n)))
+    if n <= Amount::from(top) {
+        Ok(Value::Number(n))
     } else {
         Err(LitFault::NotInCarrier)
     }
@@ -122,61 +133,111 @@ fn number_up_to(top: u64, n: u64) -> Result<Value, LitFault>
 fn symbols_at(
     alloc: Global,
     count: u64,
+    greatest: Amount,
     text: &[u8],
 ) -> Result<(Result<Value, LitFault>, &[u8]), Stop>
-    ensures found { IfOk result (λ found. kept (λ ns. where_true (list_all (λ n. nat_lt n count) ns) NotInCarrier (symbols ns)) (take_list 91 93 (parts_of text.now)) ≡ Some (value_outcome found.0, parts_of found.1.now)) }
-    ensures none { result ≡ Err NoShape → take_list 91 93 (parts_of text.now) ≡ None }
+    requires { greatest ≤ MAX_LITERAL_NUMBER }
+    ensures { TakesValue greatest (seqs count) text.now result }
 {
-    let (numbers, rest) = list_at(alloc, text, b'[', b']')?;
-    Ok((symbols_of(are_below(count, &numbers), numbers), rest))
+    let (numbers, rest) = list_at(alloc, text, b'[', b']', greatest)?;
+    Ok((symbols_from(alloc, count, &numbers)?, rest))
 }
 
 fn simple_at(
     alloc: Global,
     count: u64,
+    greatest: Amount,
     text: &[u8],
 ) -> Result<(Result<Value, LitFault>, &[u8]), Stop>
-    ensures found { IfOk result (λ found. kept (λ ns. where_true (list_all (λ n. nat_lt n count) ns && distinct ns) NotInCarrier (symbols ns)) (take_list 91 93 (parts_of text.now)) ≡ Some (value_outcome found.0, parts_of found.1.now)) }
-    ensures none { result ≡ Err NoShape → take_list 91 93 (parts_of text.now) ≡ None }
+    requires { greatest ≤ MAX_LITERAL_NUMBER }
+    ensures { TakesValue greatest (simseqs count) text.now result }
 {
-    let (numbers, rest) = list_at(alloc, text, b'[', b']')?;
-    Ok((symbols_of(are_simple(count, &numbers), numbers), rest))
+    let (numbers, rest) = list_at(alloc, text, b'[', b']', greatest)?;
+    Ok((simple_from(alloc, count, &numbers)?, rest))
 }
 
-fn are_simple(count: u64, numbers: &[u64]) -> bool
-    ensures { result ≡ list_all (λ n. nat_lt n count) numbers.now && distinct numbers.now }
+// The sequence of these numbers, if each is a symbol.
+fn symbols_from(
+    alloc: Global,
+    count: u64,
+    numbers: &[Amount],
+) -> Result<Result<Value, LitFault>, NoMemory>
+    ensures { IfOk result (λ value. value_outcome value ≡ value_of (seqs count) (list_shape numbers.now)) }
 {
-    are_below(count, numbers) && are_distinct(numbers)
+    sequence_of(alloc, count, are_below(count, numbers), numbers)
 }
 
-// The sequence of these symbols, if they make one.
-fn symbols_of(are_in: bool, numbers: Vec<u64>) -> Result<Value, LitFault>
-    ensures { value_outcome result ≡ where_true are_in NotInCarrier (symbols numbers.items) }
+// The sequence of these numbers, if each is a symbol and none is there twice.
+fn simple_from(
+    alloc: Global,
+    count: u64,
+    numbers: &[Amount],
+) -> Result<Result<Value, LitFault>, NoMemory>
+    ensures { IfOk result (λ value. value_outcome value ≡ value_of (simseqs count) (list_shape numbers.now)) }
 {
-    if are_in {
-        Ok(Value::Symbols(List::from_vec(numbers)))
-    } else {
-        Err(LitFault::NotInCarrier)
+    let are_in = are_simple(alloc, count, numbers)?;
+    sequence_of(alloc, count, are_in, numbers)
+}
+
+fn are_simple(alloc: Global, count: u64, numbers: &[Amount]) -> Result<bool, NoMemory>
+    ensures { IfOk result (λ are. are ≡ (list_all (λ n. nat_lt n count) numbers.now && distinct numbers.now)) }
+{
+    if !are_below(count, numbers) {
+        return Ok(false);
     }
+    are_distinct(alloc, numbers)
 }
 
-fn set_at(alloc: Global, count: u64, text: &[u8]) -> Result<(Result<Value, LitFault>, &[u8]), Stop>
-    requires { count ≤ MAX_MARKS }
-    ensures found { IfOk result (λ found. option_and_then (set_at count) (take_list 123 125 (parts_of text.now)) ≡ Some (value_outcome found.0, parts_of found.1.now)) }
-    ensures none { result ≡ Err NoShape → option_and_then (set_at count) (take_list 123 125 (parts_of text.now)) ≡ None }
+// The sequence of these numbers, if they make one.
+fn sequence_of(
+    alloc: Global,
+    count: u64,
+    are_in: bool,
+    numbers: &[Amount],
+) -> Result<Result<Value, LitFault>, NoMemory>
+    requires { are_in ≡ true → list_all (λ n. nat_lt n count) numbers.now ≡ true }
+    ensures { IfOk result (λ value. value_outcome value ≡ where_true are_in NotInCarrier (symbols numbers.now)) }
 {
-    let (numbers, rest) = list_at(alloc, text, b'{', b'}')?;
-    let value = set_from(count, &numbers)?;
+    if !are_in {
+        return Ok(Err(LitFault::NotInCarrier));
+    }
+    Ok(Ok(Value::Symbols(symbols_of(alloc, count, numbers)?)))
+}
+
+// The symbols of these numbers, each of which is below the count.
+fn symbols_of(alloc: Global, count: u64, numbers: &[Amount]) -> Result<List<u64>, NoMemory>
+    requires { list_all (λ n. nat_lt n count) numbers.now ≡ true }
+    ensures { IfOk result (λ symbols. symbols ≡ numbers.now) }
+{
+    let mut symbols = List::new(alloc);
+    for n in numbers {
+        symbols.push(*n as u64)?;
+    }
+    Ok(symbols)
+}
+
+fn set_at(
+    alloc: Global,
+    count: u64,
+    greatest: Amount,
+    text: &[u8],
+) -> Result<(Result<Value, LitFault>, &[u8]), Stop>
+    requires count { count ≤ MAX_MARKS }
+    requires greatest { greatest ≤ MAX_LITERAL_NUMBER }
+    ensures { TakesValue greatest (sets count) text.now result }
+{
+    let (numbers, rest) = list_at(alloc, text, b'{', b'}', greatest)?;
+    let value = set_from(alloc, count, &numbers)?;
     Ok((value, rest))
 }
 
 // The set of these numbers, none of which may be there twice.
-fn set_from(count: u64, numbers: &[u64]) -> Result<Result<Value, LitFault>, Stop>
+fn set_from(alloc: Global, count: u64, numbers: &[Amount]) -> Result<Result<Value, LitFault>, Stop>
     requires { count ≤ MAX_MARKS }
     ensures found { IfOk result (λ value. set_from count numbers.now ≡ Some (value_outcome value)) }
     ensures none { result ≡ Err NoShape → set_from count numbers.now ≡ None }
 {
-    if !are_distinct(numbers) {
+    if !are_distinct(alloc, numbers)? {
         Err(Stop::NoShape)
     } else if are_below(count, numbers) {
         Ok(Ok(Value::Marks(set_of(count, numbers))))
@@ -186,7 +247,7 @@ fn set_from(count: u64, numbers: &[u64]) -> Result<Result<Value, LitFault>, Stop
 }
 
 // The set of these numbers, as a word with their bits.
-fn set_of(count: u64, numbers: &[u64]) -> u64
+fn set_of(count: u64, numbers: &[Amount]) -> u64
     requires count { count ≤ MAX_MARKS }
     requires numbers { list_all (λ n. nat_lt n count) numbers.now ≡ true }
     ensures { result ≡ set_of numbers.now }
@@ -197,35 +258,27 @@ fn set_of(count: u64, numbers: &[u64]) -> u64
     }
 }
 
-fn are_below(count: u64, numbers: &[u64]) -> bool
+fn are_below(count: u64, numbers: &[Amount]) -> bool
     ensures { result ≡ list_all (λ n. nat_lt n count) numbers.now }
 {
-    numbers.iter().all(|n| *n < count)
+    numbers.iter().all(|n| *n < Amount::from(count))
 }
 
 // Whether no number is there twice.
-fn are_distinct(numbers: &[u64]) -> bool
-    ensures { result ≡ distinct numbers.now }
+fn are_distinct(alloc: Global, numbers: &[Amount]) -> Result<bool, NoMemory>
+    ensures { IfOk result (λ are. are ≡ distinct numbers.now) }
 {
-    let mut rest = numbers;
-    while let [n, others @ ..] = rest {
-        if is_among(*n, others) {
-            return false;
+    let mut seen = BTreeSet::new(alloc);
+    for n in numbers {
+        if !seen.insert(*n)? {
+            return Ok(false);
         }
-        rest = others;
     }
-    true
-}
-
-fn is_among(n: u64, numbers: &[u64]) -> bool
-    ensures { result ≡ list_any (λ m. m == n) numbers.now }
-{
-    numbers.iter().any(|m| *m == n)
+    Ok(true)
 }
 
 fn unit_at(text: &[u8]) -> Result<(Result<Value, LitFault>, &[u8]), Stop>
-    ensures found { IfOk result (λ found. option_and_then unit_at (take_word (parts_of text.now)) ≡ Some (value_outcome found.0, parts_of found.1.now)) }
-    ensures none { result ≡ Err NoShape → option_and_then unit_at (take_word (parts_of text.now)) ≡ None }
+    ensures { Takes value_outcome (option_and_then unit_at (take_word (parts_of text.now))) result }
 {
     match word_at(text)? {
         (b"unit", rest) => Ok((Ok(Value::Unit), rest)),
@@ -235,8 +288,7 @@ fn unit_at(text: &[u8]) -> Result<(Result<Value, LitFault>, &[u8]), Stop>
 
 fn name_at<'a>(names: &[Text], text: &'a [u8]) -> Result<(Result<Value, LitFault>, &'a [u8]), Stop>
     requires { length names.now ≤ MAX_TABLE_NAMES }
-    ensures found { IfOk result (λ found. kept (λ w. placed name NotInCarrier (place_of names.now w)) (take_word (parts_of text.now)) ≡ Some (value_outcome found.0, parts_of found.1.now)) }
-    ensures none { result ≡ Err NoShape → take_word (parts_of text.now) ≡ None }
+    ensures { Takes value_outcome (name_at names.now (parts_of text.now)) result }
 {
     let (word, rest) = word_at(text)?;
     let value = match place_of(names, word) {

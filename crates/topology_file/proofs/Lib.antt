@@ -1,6 +1,6 @@
 pub mod Splits
-pub mod Numbers
+pub mod NameLists
+pub mod Steps
 pub mod Runs
-pub mod Networks
 pub mod Outcomes
 pub mod Kept

@@ -1,66 +1,64 @@
 -- What lines come to in turn, as a function.
 use Rattle.std.proofs.Common.{◌≡◌, ℕ, ◌+◌, ◌⊎◌, inl, inr, List, [], ◌∷◌, ◌++◌, length, Result, Ok, Err, refl, ap, sym, ◌∙◌, arith}
-use Rattle.alg_model.specs.Expressions.{Expression}
-use Rattle.net_graph.specs.Nets.{PureNet}
-use Rattle.net_graph.specs.Lines.{empty_net}
+use Rattle.alg_model.specs.Expressions.{PureAlg}
 use Rattle.topology_file.specs.declared.faults.NetKind.{NetKind}
 use Rattle.topology_file.specs.declared.faults.NetFault.{NetFault}
 use Rattle.topology_file.specs.Texts.{lines_of}
-use Rattle.topology_file.specs.NetText.{after_line, Lead, NetText, IsNetFault, HasOneOutcome}
+use Rattle.topology_file.specs.NetText.{PureNetFile, empty_file, after_line, Lead, NetText, IsNetFault, HasOneOutcome}
 
--- what others come to if the line gives a network, or else its fault, where it is line n
-abbrev pub outcome_from : Result PureNet NetKind → ℕ → (PureNet → Result PureNet NetFault) → Result PureNet NetFault
+-- what others come to if the line gives something, or else its fault, where it is line n
+abbrev pub outcome_from : Result PureNetFile NetKind → ℕ → (PureNetFile → Result PureNetFile NetFault) → Result PureNetFile NetFault
 outcome_from (Ok next) n others = others next
 outcome_from (Err kind) n others = Err (record { line = n; kind = kind })
 
--- the last network, or the fault of the first line that breaks a rule, where the first is line n
-abbrev pub outcome : PureNet → ℕ → List (List ℕ) → Result PureNet NetFault
-outcome net n [] = Ok net
-outcome net n (line ∷ lines) = outcome_from (after_line net line) n (λ next. outcome next (n + 1) lines)
+-- what all give, or the fault of the first line that breaks a rule, where the first is line n
+abbrev pub outcome : PureNetFile → ℕ → List (List ℕ) → Result PureNetFile NetFault
+outcome file n [] = Ok file
+outcome file n (line ∷ lines) = outcome_from (after_line file line) n (λ next. outcome next (n + 1) lines)
 
-pub outcome_lead : (lines : List (List ℕ)) (net last : PureNet) (n : ℕ) → Lead net lines last → outcome net n lines ≡ Ok last
-outcome_lead [] net last n e = ap Ok (sym e)
-outcome_lead (line ∷ lines) net last n h =
+pub outcome_lead : (lines : List (List ℕ)) (file last : PureNetFile) (n : ℕ) → Lead file lines last → outcome file n lines ≡ Ok last
+outcome_lead [] file last n e = ap Ok (sym e)
+outcome_lead (line ∷ lines) file last n h =
     rw h.1 (outcome_lead lines h.0 last (n + 1) h.2)
 
 -- and the other way round
-pub lead_outcome : (lines : List (List ℕ)) (net last : PureNet) (n : ℕ) → outcome net n lines ≡ Ok last → Lead net lines last
-lead_outcome [] net last n e = cc
-lead_outcome (line ∷ lines) net last n e = by (after_line net line) refl e (λ next. lead_outcome lines next last (n + 1))
+pub lead_outcome : (lines : List (List ℕ)) (file last : PureNetFile) (n : ℕ) → outcome file n lines ≡ Ok last → Lead file lines last
+lead_outcome [] file last n e = cc
+lead_outcome (line ∷ lines) file last n e = by (after_line file line) refl e (λ next. lead_outcome lines next last (n + 1))
   where
-    by : (r : Result PureNet NetKind) → after_line net line ≡ r → outcome_from r n (λ next. outcome next (n + 1) lines) ≡ Ok last
-        → ((next : PureNet) → outcome next (n + 1) lines ≡ Ok last → Lead next lines last) → Lead net (line ∷ lines) last
+    by : (r : Result PureNetFile NetKind) → after_line file line ≡ r → outcome_from r n (λ next. outcome next (n + 1) lines) ≡ Ok last
+        → ((next : PureNetFile) → outcome next (n + 1) lines ≡ Ok last → Lead next lines last) → Lead file (line ∷ lines) last
     by (Ok next) f g rest = (next, f, rest next g)
     by (Err kind) f g rest = absurd (cc)
 
 -- the first bad line gives its fault
-pub outcome_fault : (before : List (List ℕ)) (net good : PureNet) (n : ℕ) (line : List ℕ) (others : List (List ℕ)) (f : NetFault)
-    → Lead net before good → after_line good line ≡ Err f.kind → f.line ≡ n + length before → outcome net n (before ++ line ∷ others) ≡ Err f
-outcome_fault [] net good n line others f lead broken number =
-    let here : after_line net line ≡ Err f.kind = rw (← lead) broken in
+pub outcome_fault : (before : List (List ℕ)) (file good : PureNetFile) (n : ℕ) (line : List ℕ) (others : List (List ℕ)) (f : NetFault)
+    → Lead file before good → after_line good line ≡ Err f.kind → f.line ≡ n + length before → outcome file n (before ++ line ∷ others) ≡ Err f
+outcome_fault [] file good n line others f lead broken number =
+    let here : after_line file line ≡ Err f.kind = rw (← lead) broken in
     let same : record { line = n; kind = f.kind } ≡ f = ap (λ (k : ℕ). record f { line = k }) (let k : n ≡ f.line = omega arith in k) in
     rw here (ap Err same)
-outcome_fault (first ∷ before) net good n line others f lead broken number =
+outcome_fault (first ∷ before) file good n line others f lead broken number =
     rw lead.1 (outcome_fault before lead.0 good (n + 1) line others f lead.2 broken (omega arith))
 
 -- the fault of the first bad line of these, where the first is line n
-pub record FaultFrom (net : PureNet) (n : ℕ) (lines : List (List ℕ)) (f : NetFault) : Type 0 where
+pub record FaultFrom (file : PureNetFile) (n : ℕ) (lines : List (List ℕ)) (f : NetFault) : Type 0 where
   pub before : List (List ℕ)
   pub line : List ℕ
   pub others : List (List ℕ)
   pub cut : lines ≡ before ++ line ∷ others
   pub number : f.line ≡ n + length before
-  pub after : PureNet
-  pub good : Lead net before after
+  pub after : PureNetFile
+  pub good : Lead file before after
   pub broken : after_line after line ≡ Err f.kind
 
 -- a fault is that of the first bad line
-pub fault_outcome : (lines : List (List ℕ)) (net : PureNet) (n : ℕ) (f : NetFault) → outcome net n lines ≡ Err f → FaultFrom net n lines f
-fault_outcome [] net n f e = absurd (cc)
-fault_outcome (line ∷ lines) net n f e = by (after_line net line) refl e (λ next. fault_outcome lines next (n + 1) f)
+pub fault_outcome : (lines : List (List ℕ)) (file : PureNetFile) (n : ℕ) (f : NetFault) → outcome file n lines ≡ Err f → FaultFrom file n lines f
+fault_outcome [] file n f e = absurd (cc)
+fault_outcome (line ∷ lines) file n f e = by (after_line file line) refl e (λ next. fault_outcome lines next (n + 1) f)
   where
-    by : (r : Result PureNet NetKind) → after_line net line ≡ r → outcome_from r n (λ next. outcome next (n + 1) lines) ≡ Err f
-        → ((next : PureNet) → outcome next (n + 1) lines ≡ Err f → FaultFrom next (n + 1) lines f) → FaultFrom net n (line ∷ lines) f
+    by : (r : Result PureNetFile NetKind) → after_line file line ≡ r → outcome_from r n (λ next. outcome next (n + 1) lines) ≡ Err f
+        → ((next : PureNetFile) → outcome next (n + 1) lines ≡ Err f → FaultFrom next (n + 1) lines f) → FaultFrom file n (line ∷ lines) f
     by (Ok next) g h rest =
         let r = rest next h in
         record {
@@ -83,49 +81,49 @@ fault_outcome (line ∷ lines) net n f e = by (after_line net line) refl e (λ n
           others = lines;
           cut = refl;
           number = omega arith;
-          after = net;
+          after = file;
           good = refl;
           broken = g ∙ ap Err kind_is;
         }
 
 -- a text's fault is what its lines come to
-pub fault_is_outcome : (text : List ℕ) (alg : Expression) (f : NetFault) → IsNetFault text alg f → outcome (empty_net alg) 1 (lines_of text) ≡ Err f
-fault_is_outcome text alg f h = rw h.cut (outcome_fault h.before (empty_net alg) h.net 1 h.line h.others f h.good h.broken (omega (arith, h.number)))
+pub fault_is_outcome : (text : List ℕ) (alg : PureAlg) (f : NetFault) → IsNetFault text alg f → outcome (empty_file alg) 1 (lines_of text) ≡ Err f
+fault_is_outcome text alg f h = rw h.cut (outcome_fault h.before (empty_file alg) h.file 1 h.line h.others f h.good h.broken (omega (arith, h.number)))
 
-pub outcome_is_fault : (text : List ℕ) (alg : Expression) (f : NetFault) → outcome (empty_net alg) 1 (lines_of text) ≡ Err f → IsNetFault text alg f
+pub outcome_is_fault : (text : List ℕ) (alg : PureAlg) (f : NetFault) → outcome (empty_file alg) 1 (lines_of text) ≡ Err f → IsNetFault text alg f
 outcome_is_fault text alg f e =
-    let r = fault_outcome (lines_of text) (empty_net alg) 1 f e in
+    let r = fault_outcome (lines_of text) (empty_file alg) 1 f e in
     record {
       before = r.before;
       line = r.line;
       others = r.others;
       cut = r.cut;
       number = omega (arith, r.number);
-      net = r.after;
+      file = r.after;
       good = r.good;
       broken = r.broken;
     }
 
-pub has_outcome : (text : List ℕ) (alg : Expression) → ((net : PureNet) × NetText text alg net) ⊎ ((f : NetFault) × IsNetFault text alg f)
-has_outcome text alg = by (outcome (empty_net alg) 1 (lines_of text)) refl
+pub has_outcome : (text : List ℕ) (alg : PureAlg) → ((file : PureNetFile) × NetText text alg file) ⊎ ((f : NetFault) × IsNetFault text alg f)
+has_outcome text alg = by (outcome (empty_file alg) 1 (lines_of text)) refl
   where
-    by : (r : Result PureNet NetFault) → outcome (empty_net alg) 1 (lines_of text) ≡ r → ((net : PureNet) × NetText text alg net) ⊎ ((f : NetFault) × IsNetFault text alg f)
-    by (Ok net) e = inl (net, lead_outcome (lines_of text) (empty_net alg) net 1 e)
+    by : (r : Result PureNetFile NetFault) → outcome (empty_file alg) 1 (lines_of text) ≡ r → ((file : PureNetFile) × NetText text alg file) ⊎ ((f : NetFault) × IsNetFault text alg f)
+    by (Ok file) e = inl (file, lead_outcome (lines_of text) (empty_file alg) file 1 e)
     by (Err f) e = inr (f, outcome_is_fault text alg f e)
 
-pub one_outcome : (text : List ℕ) (alg : Expression) → HasOneOutcome text alg
+pub one_outcome : (text : List ℕ) (alg : PureAlg) → HasOneOutcome text alg
 one_outcome text alg = record {
   outcome = has_outcome text alg;
   one_network = λ m n a b.
-      let x = outcome_lead (lines_of text) (empty_net alg) m 1 a in
-      let y = outcome_lead (lines_of text) (empty_net alg) n 1 b in
+      let x = outcome_lead (lines_of text) (empty_file alg) m 1 a in
+      let y = outcome_lead (lines_of text) (empty_file alg) n 1 b in
       cc;
   one_fault = λ f g a b.
       let x = fault_is_outcome text alg f a in
       let y = fault_is_outcome text alg g b in
       cc;
-  not_both = λ net f a b.
-      let x = outcome_lead (lines_of text) (empty_net alg) net 1 a in
+  not_both = λ file f a b.
+      let x = outcome_lead (lines_of text) (empty_file alg) file 1 a in
       let y = fault_is_outcome text alg f b in
       cc;
 }

@@ -1,9 +1,10 @@
 -- How lines and words are taken off the front of a text.
-use Rattle.std.proofs.Common.{◌≡◌, ℕ, ◌<◌, ◌≤◌, Bool, true, false, cond, eqb, List, [], ◌∷◌, length, drop, refl, ap, sym, ◌∙◌, subst, arith}
+use Rattle.std.proofs.Common.{◌≡◌, ℕ, zero, suc, ◌<◌, ◌≤◌, Bool, true, false, not, cond, eqb, List, [], ◌∷◌, length, get_or, take, drop, refl, ap, sym, ◌∙◌, subst, arith}
 use Rattle.std.specs.List.{onto_first}
 use Rattle.std.proofs.lemmas.Bool.Decides.{nat_tests}
-use Rattle.topology_file.specs.Bytes.{is_blank, is_word_byte, is_not, front, behind}
-use Rattle.topology_file.specs.Texts.{lines_of, words_of}
+use Rattle.meta_base.specs.Bytes.{is_blank, front, behind}
+use Rattle.memchr.specs.Find.{Nowhere, NoneBefore, Passes, is_byte}
+use Rattle.topology_file.specs.Texts.{is_not, is_no_blank, lines_of, words_of}
 
 -- a text that isn't empty is its first line and the lines behind the line feed
 pub lines_split : (c : ℕ) (cs : List ℕ) → lines_of (c ∷ cs) ≡ front (is_not 10) (c ∷ cs) ∷ lines_of (drop 1 (behind (is_not 10) (c ∷ cs)))
@@ -29,22 +30,22 @@ words_skip (c ∷ cs) = by (is_blank c) refl (words_skip cs)
     by false e rest = let same : behind is_blank (c ∷ cs) ≡ c ∷ cs = rw e refl in ap words_of (sym same)
 
 -- a word at the front is all up to the first blank
-pub words_word : (c : ℕ) (cs : List ℕ) → is_blank c ≡ false → words_of (c ∷ cs) ≡ front is_word_byte (c ∷ cs) ∷ words_of (behind is_word_byte (c ∷ cs))
+pub words_word : (c : ℕ) (cs : List ℕ) → is_blank c ≡ false → words_of (c ∷ cs) ≡ front is_no_blank (c ∷ cs) ∷ words_of (behind is_no_blank (c ∷ cs))
 words_word c [] e = rw e refl
 words_word c (d ∷ ds) e = by (is_blank d) refl (words_word d ds)
   where
-    by : (b : Bool) → is_blank d ≡ b → (is_blank d ≡ false → words_of (d ∷ ds) ≡ front is_word_byte (d ∷ ds) ∷ words_of (behind is_word_byte (d ∷ ds)))
-        → words_of (c ∷ d ∷ ds) ≡ front is_word_byte (c ∷ d ∷ ds) ∷ words_of (behind is_word_byte (c ∷ d ∷ ds))
+    by : (b : Bool) → is_blank d ≡ b → (is_blank d ≡ false → words_of (d ∷ ds) ≡ front is_no_blank (d ∷ ds) ∷ words_of (behind is_no_blank (d ∷ ds)))
+        → words_of (c ∷ d ∷ ds) ≡ front is_no_blank (c ∷ d ∷ ds) ∷ words_of (behind is_no_blank (c ∷ d ∷ ds))
     by true f rest =
         let first : words_of (c ∷ d ∷ ds) ≡ (c ∷ []) ∷ words_of (d ∷ ds) = rw (e, f) refl in
-        let word : front is_word_byte (c ∷ d ∷ ds) ≡ c ∷ [] = rw (e, f) refl in
-        let after : behind is_word_byte (c ∷ d ∷ ds) ≡ d ∷ ds = rw (e, f) refl in
+        let word : front is_no_blank (c ∷ d ∷ ds) ≡ c ∷ [] = rw (e, f) refl in
+        let after : behind is_no_blank (c ∷ d ∷ ds) ≡ d ∷ ds = rw (e, f) refl in
         cc
     by false f rest =
         let first : words_of (c ∷ d ∷ ds) ≡ onto_first c (words_of (d ∷ ds)) = rw (e, f) refl in
-        let others : onto_first c (words_of (d ∷ ds)) ≡ (c ∷ front is_word_byte (d ∷ ds)) ∷ words_of (behind is_word_byte (d ∷ ds)) = ap (onto_first c) (rest f) in
-        let word : front is_word_byte (c ∷ d ∷ ds) ≡ c ∷ front is_word_byte (d ∷ ds) = rw e refl in
-        let after : behind is_word_byte (c ∷ d ∷ ds) ≡ behind is_word_byte (d ∷ ds) = rw e refl in
+        let others : onto_first c (words_of (d ∷ ds)) ≡ (c ∷ front is_no_blank (d ∷ ds)) ∷ words_of (behind is_no_blank (d ∷ ds)) = ap (onto_first c) (rest f) in
+        let word : front is_no_blank (c ∷ d ∷ ds) ≡ c ∷ front is_no_blank (d ∷ ds) = rw e refl in
+        let after : behind is_no_blank (c ∷ d ∷ ds) ≡ behind is_no_blank (d ∷ ds) = rw e refl in
         cc
 
 -- what comes after blanks begins with none
@@ -65,7 +66,7 @@ length-behind p (c ∷ cs) = by (p c) (length-behind p cs)
     by false h = omega arith
 
 -- the word at the front of what isn't blank, and the words behind it
-pub words_first : (text rest : List ℕ) → rest ≡ behind is_blank text → eqb (length rest) 0 ≡ false → words_of text ≡ front is_word_byte rest ∷ words_of (behind is_word_byte rest)
+pub words_first : (text rest : List ℕ) → rest ≡ behind is_blank text → eqb (length rest) 0 ≡ false → words_of text ≡ front is_no_blank rest ∷ words_of (behind is_no_blank rest)
 words_first text [] e h = absurd (cc)
 words_first text (c ∷ cs) e h = words_skip text ∙ ap words_of (sym e) ∙ words_word c cs (behind_stops text c cs (sym e))
 
@@ -74,11 +75,11 @@ words_none text [] e h = words_skip text ∙ ap words_of (sym e)
 words_none text (c ∷ cs) e h = absurd (grind (arith, nat_tests))
 
 -- behind a word stands less than the text
-pub word_shorter : (text rest : List ℕ) → rest ≡ behind is_blank text → eqb (length rest) 0 ≡ false → length (behind is_word_byte rest) < length text
+pub word_shorter : (text rest : List ℕ) → rest ≡ behind is_blank text → eqb (length rest) 0 ≡ false → length (behind is_no_blank rest) < length text
 word_shorter text [] e h = absurd (cc)
 word_shorter text (c ∷ cs) e h =
     let stops = behind_stops text c cs (sym e) in
-    let shorter = length-behind is_word_byte cs in
+    let shorter = length-behind is_no_blank cs in
     let whole : length (c ∷ cs) ≤ length text = subst (λ (x : List ℕ). length x ≤ length text) (sym e) (length-behind is_blank text) in
     rw stops (omega arith)
 
@@ -94,3 +95,45 @@ line_shorter (c ∷ cs) [] h b = omega arith
 line_shorter (c ∷ cs) (d ∷ ds) h b =
     let whole : length (d ∷ ds) ≤ length (c ∷ cs) = subst (λ (x : List ℕ). length x ≤ length (c ∷ cs)) (sym b) (length-behind (is_not 10) (c ∷ cs)) in
     omega arith
+
+-- so many bytes at the front pass, and the one behind them doesn't
+pub record StopsAt (p : ℕ → Bool) (text : List ℕ) (n : ℕ) : Type 0 where
+  pub within : n ≤ length text
+  pub passes : (k : ℕ) → k < n → p (get_or text k 0) ≡ true
+  pub stops : n < length text → p (get_or text n 0) ≡ false
+
+-- they are the longest front of bytes that pass
+pub front_taken : (p : ℕ → Bool) (text : List ℕ) (n : ℕ) → StopsAt p text n → (take n text ≡ front p text) × (drop n text ≡ behind p text)
+front_taken p [] zero s = (refl, refl)
+front_taken p [] (suc n) s = (refl, refl)
+front_taken p (c ∷ cs) zero s =
+    let ends : p c ≡ false = s.stops (omega arith) in
+    rw ends (refl, refl)
+front_taken p (c ∷ cs) (suc n) s =
+    let first : p c ≡ true = s.passes 0 (omega arith) in
+    let more = front_taken p cs n (record { within = omega (arith, s.within); passes = λ k h. s.passes (suc k) (omega (arith, h)); stops = λ h. s.stops (omega (arith, h)) }) in
+    rw first (ap (λ x. c ∷ x) more.0, more.1)
+
+-- and what comes behind it is left
+pub behind_left : (p : ℕ → Bool) (text : List ℕ) (n : ℕ) → StopsAt p text n → drop n text ≡ behind p text
+behind_left p text n s = (front_taken p text n s).1
+
+fails : (b : Bool) → (b ≡ true → ⊥) → b ≡ false
+fails true h = absurd (h refl)
+fails false h = refl
+
+-- up to the first such byte
+pub stops_there : (text : List ℕ) (byte n : ℕ) → NoneBefore (Passes (is_byte byte) text) 0 (length text) n → Passes (is_byte byte) text n → StopsAt (is_not byte) text n
+stops_there text byte n before there = record {
+  within = let high = before.high in omega arith;
+  passes = λ k h. ap not (fails (eqb (get_or text k 0) byte) (before.before k (omega arith) h));
+  stops = λ h. ap not there;
+}
+
+-- or to the end, where there is none
+pub stops_nowhere : (text : List ℕ) (byte : ℕ) → Nowhere (Passes (is_byte byte) text) 0 (length text) → StopsAt (is_not byte) text (length text)
+stops_nowhere text byte none = record {
+  within = omega arith;
+  passes = λ k h. ap not (fails (eqb (get_or text k 0) byte) (none k (omega arith) h));
+  stops = λ h. absurd (omega (arith, h));
+}

@@ -1,10 +1,10 @@
 -- What a line asks for, by its form alone.
-use Rattle.std.specs.Prelude.{ℕ, List, [], ◌∷◌, Bool, false, ◌&&◌, if◌then◌else◌, codes}
+use Rattle.std.specs.Prelude.{ℕ, List, [], ◌∷◌, Bool, ◌&&◌, if◌then◌else◌, codes}
 use Rattle.std.specs.List.{list_all}
 use Rattle.std.specs.Str.{bytes_eq}
+use Rattle.meta_base.specs.Bytes.{front, behind}
 use Rattle.net_graph.specs.Nets.{is_name}
-use Rattle.topology_file.specs.Bytes.{is_not, front, behind}
-use Rattle.topology_file.specs.Texts.{words_of}
+use Rattle.topology_file.specs.Texts.{words_of, is_not}
 
 pub data PureLine : Type 0 where
   -- nothing
@@ -13,27 +13,63 @@ pub data PureLine : Type 0 where
   nodes : List (List ℕ) → PureLine
   -- an arc: the names of its listener and its speaker, and the text of its label
   link : List ℕ → List ℕ → List ℕ → PureLine
+  -- that arc, and the one back
+  both : List ℕ → List ℕ → List ℕ → PureLine
   -- an origin: the names of its destination and its node, and the text of its value
   origin : List ℕ → List ℕ → List ℕ → PureLine
+  -- a change: the arc gets this label, or is added
+  then_link : List ℕ → List ℕ → List ℕ → PureLine
+  -- a change: the arc is taken out
+  then_drop : List ℕ → List ℕ → PureLine
   -- the line has no form of a network file
   bad : PureLine
 
--- one or more names
-abbrev pub are_names : List (List ℕ) → Bool
-are_names [] = false
-are_names (word ∷ words) = list_all is_name (word ∷ words)
+abbrev pub is_word : List ℕ → List ℕ → Bool
+is_word word other = bytes_eq word other
 
--- the words of a line without a colon
+-- words that aren't names add no nodes
+abbrev pub named_nodes : List (List ℕ) → PureLine
+named_nodes words = if list_all is_name words then nodes words else bad
+
+-- `node A ..`, by the words behind the first: there is one at least
+abbrev pub node_line : List (List ℕ) → PureLine
+node_line [] = bad
+node_line (word ∷ words) = named_nodes (word ∷ words)
+
+-- `then drop A B`
+abbrev pub drop_line : List (List ℕ) → PureLine
+drop_line (word ∷ kind ∷ a ∷ b ∷ []) =
+    if is_word word (codes "then") && is_word kind (codes "drop") && is_name a && is_name b then then_drop a b else bad
+drop_line _ = bad
+
+-- the words of a line without a colon: none, `node A ..`, `then drop A B`
 abbrev pub plain_line : List (List ℕ) → PureLine
 plain_line [] = silent
-plain_line (word ∷ names) = if bytes_eq word (codes "node") && are_names names then nodes names else bad
+plain_line (word ∷ words) = if is_word word (codes "node") then node_line words else drop_line (word ∷ words)
 
--- the words before a colon, and the text after it
+-- `origin D at A`, by the words behind the first
+abbrev pub origin_line : List ℕ → List ℕ → List ℕ → List ℕ → PureLine
+origin_line dest at a literal = if is_word at (codes "at") && is_name dest && is_name a then origin dest a literal else bad
+
+-- `then link A B`
+abbrev pub then_line : List ℕ → List ℕ → List ℕ → List ℕ → List ℕ → PureLine
+then_line word kind a b literal =
+    if is_word word (codes "then") && is_word kind (codes "link") && is_name a && is_name b then then_link a b literal else bad
+
+-- three words before a colon: `link A B`, `both A B`
+abbrev pub short_line : List ℕ → List ℕ → List ℕ → List ℕ → PureLine
+short_line word a b literal =
+    if is_word word (codes "link") && is_name a && is_name b then link a b literal
+    else (if is_word word (codes "both") && is_name a && is_name b then both a b literal else bad)
+
+-- four words: `origin D at A`, `then link A B`
+abbrev pub long_line : List ℕ → List ℕ → List ℕ → List ℕ → List ℕ → PureLine
+long_line word x y z literal = if is_word word (codes "origin") then origin_line x y z literal else then_line word x y z literal
+
+-- the words before a colon, and the text behind it
 abbrev pub colon_line : List (List ℕ) → List ℕ → PureLine
-colon_line (word ∷ a ∷ b ∷ []) literal =
-    if bytes_eq word (codes "link") && is_name a && is_name b then link a b literal else bad
-colon_line (word ∷ d ∷ at ∷ a ∷ []) literal =
-    if bytes_eq word (codes "origin") && bytes_eq at (codes "at") && is_name d && is_name a then origin d a literal else bad
+colon_line (word ∷ x ∷ y ∷ []) literal = short_line word x y literal
+colon_line (word ∷ x ∷ y ∷ z ∷ []) literal = long_line word x y z literal
 colon_line _ literal = bad
 
 -- the words before the first colon, and the colon with all that follows it, if there is one

@@ -1,18 +1,52 @@
--- Why a line gave no network.
-use Rattle.std.specs.Prelude.{◌≡◌, ℕ, Result, Err}
-use Rattle.net_graph.specs.Nets.{PureNet}
+-- Why a line gave nothing.
+use Rattle.std.specs.Prelude.{◌≡◌, ◌≢◌, ◌<◌, ℕ, List, if◌then◌else◌, Result, Err, length}
+use Rattle.std.specs.List.{list_all}
+use Rattle.net_graph.specs.Nets.{PureNet, is_name}
 use Rattle.topology_file.specs.declared.faults.NetKind.{NetKind}
+use Rattle.topology_file.specs.declared.faults.NetKind.TheVariants.{BadLine, AfterThen}
 use Rattle.topology_file.specs.declared.faults.NetError.{NetError}
 use Rattle.topology_file.specs.declared.faults.NetError.TheVariants as text
-use Rattle.topology_file.specs.declared.network.LineError.{LineError}
-use Rattle.topology_file.specs.declared.network.LineError.TheVariants.{Bad, NoMemory}
+use Rattle.topology_file.specs.declared.errors.LineError.{LineError}
+use Rattle.topology_file.specs.declared.errors.LineError.TheVariants.{Bad, NoMemory}
+use Rattle.topology_file.specs.declared.forms.NetLine.{NetLine}
+use Rattle.topology_file.specs.declared.forms.NetLine.TheVariants as lines
+use Rattle.topology_file.specs.Texts.{words_of}
+use Rattle.topology_file.specs.NetText.{after_nodes, after_link, after_both, after_origin}
 
--- the error's cause, where this is what the line makes of the network
-abbrev pub IsLineRefusedBy : Result PureNet NetKind → LineError → Type 0
-IsLineRefusedBy after (Bad kind) = after ≡ Err kind
-IsLineRefusedBy after NoMemory = Unit {0}
+-- the error's cause, where this is what the line makes
+abbrev pub IsRefusedAs : {A : Type 0} → Result A NetKind → LineError → Type 0
+IsRefusedAs after (Bad kind) = after ≡ Err kind
+IsRefusedAs after NoMemory = Unit {0}
 
 -- the error of a text of which that is the first bad line
 abbrev pub error_at : ℕ → LineError → NetError
 error_at line (Bad kind) = text.Bad (record { line = line; kind = kind })
 error_at line NoMemory = text.NoMemory
+
+-- two nodes of the network that differ
+pub record AreEnds (net : PureNet) (tail head : ℕ) : Type 0 where
+  pub tail_in : tail < length net.nodes
+  pub head_in : head < length net.nodes
+  pub apart : tail ≢ head
+
+-- a fault of a line with these words for names: a word that is no name comes before any other fault
+abbrev pub fault_behind : NetKind → List (List ℕ) → NetKind
+fault_behind kind words = if list_all is_name words then kind else BadLine
+
+-- what words behind `node` make of a network
+abbrev pub after_names : PureNet → List (List ℕ) → Result PureNet NetKind
+after_names net words = if list_all is_name words then after_nodes net words else Err BadLine
+
+-- what a line of the network makes of it
+abbrev pub after_net_line : PureNet → NetLine → Result PureNet NetKind
+after_net_line net (lines.Nodes names) = after_names net (words_of names.now)
+after_net_line net (lines.Link listener speaker label) = after_link net listener.now speaker.now label.now
+after_net_line net (lines.Both listener speaker label) = after_both net listener.now speaker.now label.now
+after_net_line net (lines.Origin dest node value) = after_origin net dest.now node.now value.now
+
+-- the fault of a line of the network behind a change
+abbrev pub late_fault : NetLine → NetKind
+late_fault (lines.Nodes names) = fault_behind AfterThen (words_of names.now)
+late_fault (lines.Link listener speaker label) = AfterThen
+late_fault (lines.Both listener speaker label) = AfterThen
+late_fault (lines.Origin dest node value) = AfterThen

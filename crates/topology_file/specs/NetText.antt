@@ -1,20 +1,74 @@
--- Which network a text means over an algebra, and which fault refuses it.
-use Rattle.std.specs.Prelude.{◌≡◌, ℕ, ◌+◌, List, [], ◌∷◌, ◌++◌, Bool, true, false, ◌==◌, ◌||◌, nat_lt, nat_le, if◌then◌else◌, ◌⊎◌, is_some, Option, Some, None, Result, Ok, Err, length}
-use Rattle.alg_model.specs.Expressions.{Expression, PureLabel, PureValue}
-use Rattle.net_graph.specs.Nets.{PureNet, number_of, has_arc, has_origin, max_nodes, max_arcs, max_dests}
+-- Which network a text means over an algebra, with which changes, and which fault refuses it.
+use Rattle.std.specs.Prelude.{◌≡◌, ◌⊎◌, ℕ, ◌+◌, List, [], ◌∷◌, ◌++◌, Bool, true, false, ◌==◌, ◌||◌, nat_lt, nat_le, if◌then◌else◌, is_some, ok_or, Option, Some, None, Result, Ok, Err, length}
+use Rattle.alg_model.specs.Expressions.{PureAlg, PureLabel, PureValue}
+use Rattle.net_graph.specs.declared.limits.TheConstants.{MAX_ARCS}
+use Rattle.net_graph.specs.Limits.{max_nodes, max_dests, max_changes}
+use Rattle.net_graph.specs.Nets.{PureNet, number_of, has_arc, has_origin}
 use Rattle.net_graph.specs.Lines.{empty_net, with_node, with_arc, with_origin}
+use Rattle.net_graph.specs.Changes.{PureChange, after_all}
+use Rattle.net_graph.specs.Changes as changes
+use Rattle.sig_text.specs.declared.faults.LitFault.{LitFault}
+use Rattle.sig_text.specs.Spelled.{spelled_label, spelled_value}
+use Rattle.topology_file.specs.declared.faults.What.{What}
+use Rattle.topology_file.specs.declared.faults.What.TheVariants.{Nodes, Arcs, Dests, Changes}
 use Rattle.topology_file.specs.declared.faults.NetKind.{NetKind}
-use Rattle.topology_file.specs.declared.faults.NetKind.TheVariants.{BadLine}
+use Rattle.topology_file.specs.declared.faults.NetKind.TheVariants.{BadLine, UnknownNode, NodeTwice, ArcTwice, SelfArc, BadLabel, BadValue, OriginTwice, TooMany, AfterThen, NoArc}
 use Rattle.topology_file.specs.declared.faults.NetFault.{NetFault}
 use Rattle.topology_file.specs.declared.faults.NetError.{NetError}
 use Rattle.topology_file.specs.declared.faults.NetError.TheVariants.{Bad, NoMemory}
+use Rattle.topology_file.specs.declared.network.TheConstants.{MAX_LINE_BYTES}
 use Rattle.topology_file.specs.Texts.{lines_of, said_of}
-use Rattle.topology_file.specs.Forms.{PureLine, silent, nodes, link, origin, bad, line_of}
-use Rattle.topology_file.specs.Literals.{label_of, value_spelled}
+use Rattle.topology_file.specs.Forms.{PureLine, silent, nodes, link, both, origin, then_link, then_drop, bad, line_of}
 
--- What a line makes of the network of the lines before it: a network, or the first rule that it breaks.
+-- what lines give: the network of those without `then`, and the changes of the others
+pub record PureNetFile : Type 0 where
+  pub net : PureNet
+  pub changes : List PureChange
 
--- a name is there already, or stands in the list twice
+abbrev pub empty_file : PureAlg → PureNetFile
+empty_file alg = record { net = empty_net alg; changes = [] }
+
+-- the network behind all changes so far
+abbrev pub changed_net : PureNetFile → PureNet
+changed_net f = after_all f.net f.changes
+
+-- What a line makes of what the lines before it gave, or the first rule that it breaks.
+
+-- what comes of the first, if it breaks no rule
+abbrev pub and_then : {A B : Type 0} → Result A NetKind → (A → Result B NetKind) → Result B NetKind
+and_then (Ok a) next = next a
+and_then (Err kind) next = Err kind
+
+-- this, if there is room for it
+abbrev pub if_room : {A : Type 0} → Bool → What → A → Result A NetKind
+if_room room what a = if room then Ok a else Err (TooMany what)
+
+-- the node of a name; the nodes of two names, which differ
+abbrev pub node_in : PureNet → List ℕ → Result ℕ NetKind
+node_in net name = ok_or (number_of net.nodes name) UnknownNode
+
+abbrev pub apart : ℕ → ℕ → Result (ℕ × ℕ) NetKind
+apart tail head = if tail == head then Err SelfArc else Ok (tail, head)
+
+abbrev pub ends_in : PureNet → List ℕ → List ℕ → Result (ℕ × ℕ) NetKind
+ends_in net a b = and_then (node_in net a) (λ tail. and_then (node_in net b) (apart tail))
+
+-- the label, and the value, that a text spells: laws of `sig_text` say which texts spell which
+abbrev pub as_label : Result PureLabel LitFault → Result PureLabel NetKind
+as_label (Ok l) = Ok l
+as_label (Err fault) = Err (BadLabel fault)
+
+abbrev pub label_in : PureAlg → List ℕ → Result PureLabel NetKind
+label_in alg text = as_label (spelled_label alg text)
+
+abbrev pub as_value : Result PureValue LitFault → Result PureValue NetKind
+as_value (Ok v) = Ok v
+as_value (Err fault) = Err (BadValue fault)
+
+abbrev pub value_in : PureAlg → List ℕ → Result PureValue NetKind
+value_in alg text = as_value (spelled_value alg text)
+
+-- `node A ..`: a name is there already, or stands in the list twice
 abbrev pub names_twice : List (List ℕ) → List (List ℕ) → Bool
 names_twice there [] = false
 names_twice there (name ∷ names) = is_some (number_of there name) || names_twice (there ++ name ∷ []) names
@@ -25,90 +79,132 @@ with_nodes net (name ∷ names) = with_nodes (with_node net name) names
 
 abbrev pub after_nodes : PureNet → List (List ℕ) → Result PureNet NetKind
 after_nodes net names =
-    if names_twice net.nodes names then Err BadLine
-    else (if nat_le (length net.nodes + length names) max_nodes then Ok (with_nodes net names)
-    else Err BadLine)
+    if names_twice net.nodes names then Err NodeTwice
+    else if_room (nat_le (length net.nodes + length names) (max_nodes net.alg.edition)) Nodes (with_nodes net names)
 
--- an arc of the label, if there is one
-abbrev pub after_arc : PureNet → ℕ → ℕ → Option PureLabel → Result PureNet NetKind
-after_arc net tail head None = Err BadLine
-after_arc net tail head (Some l) = if nat_lt (length net.arcs) max_arcs then Ok (with_arc net tail head l) else Err BadLine
+-- `link A B : LABEL`
+abbrev pub one_arc : PureNet → ℕ → ℕ → PureLabel → Result PureNet NetKind
+one_arc net tail head l = if_room (nat_le (length net.arcs + 1) MAX_ARCS) Arcs (with_arc net tail head l)
 
--- an arc between the nodes of two names, if there are such nodes
-abbrev pub after_link : PureNet → Option ℕ → Option ℕ → List ℕ → Result PureNet NetKind
-after_link net None head text = Err BadLine
-after_link net (Some tail) None text = Err BadLine
-after_link net (Some tail) (Some head) text =
-    if tail == head then Err BadLine
-    else (if has_arc net tail head then Err BadLine
-    else after_arc net tail head (label_of net.alg text))
+abbrev pub link_between : PureNet → List ℕ → ℕ → ℕ → Result PureNet NetKind
+link_between net text tail head =
+    if has_arc net tail head then Err ArcTwice
+    else and_then (label_in net.alg text) (one_arc net tail head)
 
--- the destination of a name has an origin at the node
+abbrev pub after_link : PureNet → List ℕ → List ℕ → List ℕ → Result PureNet NetKind
+after_link net a b text = and_then (ends_in net a b) (λ ends. link_between net text ends.0 ends.1)
+
+-- `both A B : LABEL`
+abbrev pub two_arcs : PureNet → ℕ → ℕ → PureLabel → Result PureNet NetKind
+two_arcs net tail head l =
+    if_room (nat_le (length net.arcs + 2) MAX_ARCS) Arcs (with_arc (with_arc net tail head l) head tail l)
+
+abbrev pub both_between : PureNet → List ℕ → ℕ → ℕ → Result PureNet NetKind
+both_between net text tail head =
+    if has_arc net tail head || has_arc net head tail then Err ArcTwice
+    else and_then (label_in net.alg text) (two_arcs net tail head)
+
+abbrev pub after_both : PureNet → List ℕ → List ℕ → List ℕ → Result PureNet NetKind
+after_both net a b text = and_then (ends_in net a b) (λ ends. both_between net text ends.0 ends.1)
+
+-- `origin D at A : VALUE`: the destination, if it is there, has an origin at the node
 abbrev pub has_origin_of : PureNet → Option ℕ → ℕ → Bool
 has_origin_of net None node = false
 has_origin_of net (Some dest) node = has_origin net dest node
 
--- the destination of a name is there, or there is room for it
+-- the destination is there, or there is room for it
 abbrev pub has_room_for : PureNet → Option ℕ → Bool
-has_room_for net None = nat_lt (length net.dests) max_dests
+has_room_for net None = nat_lt (length net.dests) (max_dests net.alg.edition)
 has_room_for net (Some dest) = true
 
--- an origin of the value, if there is one
-abbrev pub after_value : PureNet → List ℕ → ℕ → Option PureValue → Result PureNet NetKind
-after_value net dest node None = Err BadLine
-after_value net dest node (Some v) = if has_room_for net (number_of net.dests dest) then Ok (with_origin net dest node v) else Err BadLine
+abbrev pub one_origin : PureNet → List ℕ → ℕ → PureValue → Result PureNet NetKind
+one_origin net dest node v = if_room (has_room_for net (number_of net.dests dest)) Dests (with_origin net dest node v)
 
--- an origin at the node of a name, if there is such a node
-abbrev pub after_origin : PureNet → List ℕ → Option ℕ → List ℕ → Result PureNet NetKind
-after_origin net dest None text = Err BadLine
-after_origin net dest (Some node) text =
-    if has_origin_of net (number_of net.dests dest) node then Err BadLine
-    else after_value net dest node (value_spelled net.alg text)
+abbrev pub origin_at : PureNet → List ℕ → List ℕ → ℕ → Result PureNet NetKind
+origin_at net dest text node =
+    if has_origin_of net (number_of net.dests dest) node then Err OriginTwice
+    else and_then (value_in net.alg text) (one_origin net dest node)
 
-abbrev pub after_form : PureNet → PureLine → Result PureNet NetKind
-after_form net silent = Ok net
-after_form net (nodes names) = after_nodes net names
-after_form net (link a b text) = after_link net (number_of net.nodes a) (number_of net.nodes b) text
-after_form net (origin dest a text) = after_origin net dest (number_of net.nodes a) text
-after_form net bad = Err BadLine
+abbrev pub after_origin : PureNet → List ℕ → List ℕ → List ℕ → Result PureNet NetKind
+after_origin net dest a text = and_then (node_in net a) (origin_at net dest text)
 
--- the most bytes of a line as it is cut
-abbrev pub max_line : ℕ
-max_line = 4096
+-- one change more
+abbrev pub with_change : PureNetFile → PureChange → Result PureNetFile NetKind
+with_change f c =
+    if_room (nat_lt (length f.changes) (max_changes f.net.alg.edition)) Changes (record f { changes = f.changes ++ c ∷ [] })
 
-abbrev pub after_line : PureNet → List ℕ → Result PureNet NetKind
-after_line net line = if nat_le (length line) max_line then after_form net (line_of (said_of line)) else Err BadLine
+-- `then link A B : LABEL`: behind the changes before it the arc is there, or there is room for it
+abbrev pub has_room_to_link : PureNetFile → ℕ → ℕ → Bool
+has_room_to_link f tail head = has_arc (changed_net f) tail head || nat_lt (length (changed_net f).arcs) MAX_ARCS
+
+abbrev pub one_link : PureNetFile → ℕ → ℕ → PureLabel → Result PureNetFile NetKind
+one_link f tail head l = if has_room_to_link f tail head then with_change f (changes.link tail head l) else Err (TooMany Arcs)
+
+abbrev pub after_then_link : PureNetFile → List ℕ → List ℕ → List ℕ → Result PureNetFile NetKind
+after_then_link f a b text = and_then (ends_in f.net a b) (λ ends. and_then (label_in f.net.alg text) (one_link f ends.0 ends.1))
+
+-- `then drop A B`
+abbrev pub one_drop : PureNetFile → ℕ → ℕ → Result PureNetFile NetKind
+one_drop f tail head = if has_arc (changed_net f) tail head then with_change f (changes.drop tail head) else Err NoArc
+
+abbrev pub after_then_drop : PureNetFile → List ℕ → List ℕ → Result PureNetFile NetKind
+after_then_drop f a b = and_then (ends_in f.net a b) (λ ends. one_drop f ends.0 ends.1)
+
+-- a line of the network stands before all changes
+abbrev pub has_changes : List PureChange → Bool
+has_changes [] = false
+has_changes (c ∷ cs) = true
+
+abbrev pub with_net : PureNetFile → PureNet → Result PureNetFile NetKind
+with_net f net = Ok (record f { net = net })
+
+abbrev pub before_changes : PureNetFile → Result PureNet NetKind → Result PureNetFile NetKind
+before_changes f made = if has_changes f.changes then Err AfterThen else and_then made (with_net f)
+
+abbrev pub after_form : PureNetFile → PureLine → Result PureNetFile NetKind
+after_form f silent = Ok f
+after_form f (nodes names) = before_changes f (after_nodes f.net names)
+after_form f (link a b text) = before_changes f (after_link f.net a b text)
+after_form f (both a b text) = before_changes f (after_both f.net a b text)
+after_form f (origin dest a text) = before_changes f (after_origin f.net dest a text)
+after_form f (then_link a b text) = after_then_link f a b text
+after_form f (then_drop a b) = after_then_drop f a b
+after_form f bad = Err BadLine
+
+abbrev pub after_line : PureNetFile → List ℕ → Result PureNetFile NetKind
+after_line f line = if nat_le (length line) MAX_LINE_BYTES then after_form f (line_of (said_of line)) else Err BadLine
 
 -- What a text means.
 
--- the lines in turn make the last network of the first
-abbrev pub Lead : PureNet → List (List ℕ) → PureNet → Type 0
-Lead net [] last = last ≡ net
-Lead net (line ∷ lines) last = (next : PureNet) × (after_line net line ≡ Ok next) × Lead next lines last
+-- the lines in turn make the last of the first
+abbrev pub Lead : PureNetFile → List (List ℕ) → PureNetFile → Type 0
+Lead f [] last = last ≡ f
+Lead f (line ∷ lines) last = (next : PureNetFile) × (after_line f line ≡ Ok next) × Lead next lines last
 
--- the text means the network over the algebra
-abbrev pub NetText : List ℕ → Expression → PureNet → Type 0
-NetText text alg net = Lead (empty_net alg) (lines_of text) net
+-- the text means the network over the algebra, with these changes
+abbrev pub NetText : List ℕ → PureAlg → PureNetFile → Type 0
+NetText text alg f = Lead (empty_file alg) (lines_of text) f
 
 -- the line of that number breaks a rule, which is of that kind, and no line before it breaks one
-pub record IsNetFault (text : List ℕ) (alg : Expression) (f : NetFault) : Type 0 where
+pub record IsNetFault (text : List ℕ) (alg : PureAlg) (fault : NetFault) : Type 0 where
   pub before : List (List ℕ)
   pub line : List ℕ
   pub others : List (List ℕ)
   pub cut : lines_of text ≡ before ++ line ∷ others
-  pub number : f.line ≡ length before + 1
-  pub net : PureNet
-  pub good : Lead (empty_net alg) before net
-  pub broken : after_line net line ≡ Err f.kind
+  pub number : fault.line ≡ length before + 1
+  pub file : PureNetFile
+  pub good : Lead (empty_file alg) before file
+  pub broken : after_line file line ≡ Err fault.kind
 
 -- the error's cause
-abbrev pub IsRefusedBy : List ℕ → Expression → NetError → Type 0
+abbrev pub IsRefusedBy : List ℕ → PureAlg → NetError → Type 0
 IsRefusedBy text alg (Bad f) = IsNetFault text alg f
 IsRefusedBy text alg NoMemory = Unit {0}
 
--- a text means one network over an algebra or has a fault there, not both, and only one of its kind
-pub record HasOneOutcome (text : List ℕ) (alg : Expression) : Type 0 where
-  pub outcome : ((net : PureNet) × NetText text alg net) ⊎ ((f : NetFault) × IsNetFault text alg f)
-  pub one_network : (m n : PureNet) → NetText text alg m → NetText text alg n → m ≡ n
+-- a text means one network with its changes over an algebra or has a fault there, not both, and only one
+-- of its kind
+pub record HasOneOutcome (text : List ℕ) (alg : PureAlg) : Type 0 where
+  pub outcome : ((f : PureNetFile) × NetText text alg f) ⊎ ((f : NetFault) × IsNetFault text alg f)
+  pub one_network : (f g : PureNetFile) → NetText text alg f → NetText text alg g → f ≡ g
   pub one_fault : (f g : NetFault) → IsNetFault text alg f → IsNetFault text alg g → f ≡ g
-  pub not_both : (net : PureNet) (f : NetFault) → NetText text alg net → IsNetFault text alg f → ⊥
+  pub not_both : (f : PureNetFile) (fault : NetFault) → NetText text alg f → IsNetFault text alg fault → ⊥

@@ -1,7 +1,15 @@
 -- The lines of a text, what a line says, and the words of that.
-use Rattle.std.specs.Prelude.{ℕ, ◌-◌, List, [], ◌∷◌, Bool, true, ◌==◌, if◌then◌else◌, length, take, slice_index}
+use Rattle.std.specs.Prelude.{ℕ, ◌-◌, List, [], ◌∷◌, Bool, true, not, ◌==◌, if◌then◌else◌, length, take, slice_index}
 use Rattle.std.specs.List.{onto_first}
-use Rattle.topology_file.specs.Bytes.{is_blank, is_not, front}
+use Rattle.meta_base.specs.Bytes.{is_blank, front}
+
+-- any byte but this one
+abbrev pub is_not : ℕ → ℕ → Bool
+is_not byte c = not (c == byte)
+
+-- any byte but a blank: one of a word of a line
+abbrev pub is_no_blank : ℕ → Bool
+is_no_blank c = not (is_blank c)
 
 -- the lines of a text that begins with this byte and goes on in these lines
 abbrev pub lines_from : ℕ → List (List ℕ) → List (List ℕ)

@@ -9,35 +9,44 @@ use thiserror::Error;
 /// What a network has a greatest count of.
 #[derive(Clone, Copy, Debug, PartialEq, Eq)]
 pub enum What {
-    /// Nodes: at most 512.
+    /// Nodes: at most [`net_graph::max_nodes`].
     Nodes,
-    /// Arcs: at most 8,192.
+    /// Arcs: at most [`net_graph::MAX_ARCS`], also behind the changes so far.
     Arcs,
-    /// Destinations: at most 64.
+    /// Destinations: at most [`net_graph::max_dests`].
     Dests,
+    /// Changes: at most [`net_graph::max_changes`].
+    Changes,
 }
 
-/// What is wrong with a line of a network file. For now each broken rule is [`NetKind::BadLine`].
+/// What is wrong with a line of a network file: the first rule that it breaks, in the order bad line, after
+/// `then`, unknown node, node twice, self arc, arc twice, no arc, bad label, origin twice, bad value, too
+/// many.
 #[derive(Clone, Copy, Debug, PartialEq, Eq)]
 pub enum NetKind {
-    /// The line has none of the forms of a network file, or too many bytes.
+    /// The line has none of the forms of a network file, a name in it is misspelled, or it has more than
+    /// [`MAX_LINE_BYTES`](crate::MAX_LINE_BYTES) bytes; printed as N1.
     BadLine,
-    /// It names a node that no earlier line names.
+    /// It names a node that no earlier line names; printed as N2.
     UnknownNode,
-    /// It names a node that is there, also from the same line.
+    /// It adds a node that is there, also from the same line; printed as N3.
     NodeTwice,
-    /// The network has an arc for that ordered pair of nodes.
+    /// The network has an arc for that ordered pair of nodes; printed as N4.
     ArcTwice,
-    /// It asks for an arc from a node to itself.
+    /// It speaks of an arc from a node to itself; printed as N5.
     SelfArc,
-    /// The text of its label is refused.
+    /// The text of its label is refused; printed as N6.
     BadLabel(LitFault),
-    /// The text of its value is refused.
+    /// The text of its value is refused; printed as N7.
     BadValue(LitFault),
-    /// The destination has an origin at that node.
+    /// The destination has an origin at that node; printed as N8.
     OriginTwice,
-    /// With it the network would have too many of these.
+    /// With it the network would have too many of these; printed as N9.
     TooMany(What),
+    /// It adds to the network, and a `then` line came before; printed as N10.
+    AfterThen,
+    /// It takes out an arc that isn't there behind the changes before it; printed as N11.
+    NoArc,
 }
 
 impl NetKind {
@@ -55,6 +64,8 @@ impl NetKind {
             NetKind::BadValue(_) => 7,
             NetKind::OriginTwice => 8,
             NetKind::TooMany(_) => 9,
+            NetKind::AfterThen => 10,
+            NetKind::NoArc => 11,
         }
     }
 }

@@ -1,23 +1,48 @@
 ghost use Rattle.std.specs.Prelude.{◌≡◌, [], ◌∷◌};
-ghost use Rattle.std.specs.List.{list_all};
 ghost use Rattle.std.specs.Str.{bytes_eq};
-ghost use Rattle.net_graph.specs.Nets.{is_name_byte, is_name as is_name_of};
 ghost use Rattle.topology_file.specs.Texts.{words_of};
-ghost use Rattle.topology_file.specs.Forms.{line_of, are_names as are_names_of, plain_line as plain_line_of, colon_line as colon_line_of};
-ghost use Rattle.topology_file.specs.Views.{pure_line, IsNamed};
+ghost use Rattle.topology_file.specs.Forms.{line_of, plain_line as plain_line_of, node_line as node_line_of, drop_line as drop_line_of, colon_line as colon_line_of, short_line as short_line_of, long_line as long_line_of, origin_line as origin_line_of, then_line as then_line_of};
+ghost use Rattle.topology_file.specs.Views.{pure_line, HasDestName};
 
-use crate::bytes::split_at_byte;
-use crate::texts::split_word;
+use crate::names::is_name;
+use crate::texts::{split_at_byte, split_word};
 
-/// What a line asks for, by its form alone. Its parts are slices of the line.
+/// What a line asks for, by its form alone. Its parts are slices of the line. All names in it are names,
+/// but for those of nodes, which are looked at as they are added.
 #[derive(Clone, Copy)]
 pub enum Line<'a> {
     /// Nothing.
     Silent,
-    /// Nodes, by the text of their names.
+    /// A part of the network.
+    Network(NetLine<'a>),
+    /// A change: the arc gets this label, or is added.
+    ThenLink {
+        listener: &'a [u8],
+        speaker: &'a [u8],
+        label: &'a [u8],
+    },
+    /// A change: the arc is taken out.
+    ThenDrop {
+        listener: &'a [u8],
+        speaker: &'a [u8],
+    },
+    /// The line has no form of a network file.
+    Bad,
+}
+
+/// What a line adds to the network.
+#[derive(Clone, Copy)]
+pub enum NetLine<'a> {
+    /// Nodes, by the text of the words behind the first, of which there is one at least.
     Nodes(&'a [u8]),
     /// An arc, by the names of its listener and its speaker and the text of its label.
     Link {
+        listener: &'a [u8],
+        speaker: &'a [u8],
+        label: &'a [u8],
+    },
+    /// That arc, and the one back.
+    Both {
         listener: &'a [u8],
         speaker: &'a [u8],
         label: &'a [u8],
@@ -28,14 +53,12 @@ pub enum Line<'a> {
         node: &'a [u8],
         value: &'a [u8],
     },
-    /// The line has no form of a network file.
-    Bad,
 }
 
-// What a line asks for that says this. The colon is the first one.
+/// What a line asks for that says this. The colon is the first one.
 pub fn line_form(said: &[u8]) -> Line<'_>
     ensures form { pure_line result ≡ line_of said.now }
-    ensures names { IsNamed result }
+    ensures names { HasDestName result }
 {
     match split_at_byte(said, b':') {
         (words, []) => plain_line(words),
@@ -46,24 +69,55 @@ pub fn line_form(said: &[u8]) -> Line<'_>
 // A line without a colon.
 fn plain_line(text: &[u8]) -> Line<'_>
     ensures form { pure_line result ≡ plain_line_of (words_of text.now) }
-    ensures names { IsNamed result }
+    ensures names { HasDestName result }
 {
     match split_word(text) {
         None => Line::Silent,
-        Some((word, names)) => {
-            if is_word(word, b"node") && are_names(names) {
-                Line::Nodes(names)
-            } else {
-                Line::Bad
-            }
-        }
+        Some((b"node", names)) => node_line(names),
+        Some((word, rest)) => drop_line(word, rest),
     }
 }
 
-// A line with a colon, by the text before it and the text after it.
+// A line `node ..`, by the text behind that word.
+fn node_line(names: &[u8]) -> Line<'_>
+    ensures form { pure_line result ≡ node_line_of (words_of names.now) }
+    ensures names { HasDestName result }
+{
+    match split_word(names) {
+        None => Line::Bad,
+        Some(_) => Line::Network(NetLine::Nodes(names)),
+    }
+}
+
+// A line without a colon that begins with this word.
+fn drop_line<'a>(word: &[u8], rest: &'a [u8]) -> Line<'a>
+    ensures form { pure_line result ≡ drop_line_of (word.now ∷ words_of rest.now) }
+    ensures names { HasDestName result }
+{
+    let Some((kind, rest)) = split_word(rest) else {
+        return Line::Bad;
+    };
+    let Some((listener, rest)) = split_word(rest) else {
+        return Line::Bad;
+    };
+    let Some((speaker, rest)) = split_word(rest) else {
+        return Line::Bad;
+    };
+    if split_word(rest).is_some()
+        || !is_word(word, b"then")
+        || !is_word(kind, b"drop")
+        || !is_name(listener)
+        || !is_name(speaker)
+    {
+        return Line::Bad;
+    }
+    Line::ThenDrop { listener, speaker }
+}
+
+// A line with a colon, by the text before it and the text behind it.
 fn colon_line<'a>(text: &'a [u8], literal: &'a [u8]) -> Line<'a>
     ensures form { pure_line result ≡ colon_line_of (words_of text.now) literal.now }
-    ensures names { IsNamed result }
+    ensures names { HasDestName result }
 {
     let Some((word, rest)) = split_word(text) else {
         return Line::Bad;
@@ -75,21 +129,80 @@ fn colon_line<'a>(text: &'a [u8], literal: &'a [u8]) -> Line<'a>
         return Line::Bad;
     };
     let Some((third, rest)) = split_word(rest) else {
-        return link_line(word, first, second, literal);
+        return short_line(word, first, second, literal);
     };
     match split_word(rest) {
-        None => origin_line(word, first, second, third, literal),
+        None => long_line(word, first, second, third, literal),
         Some(_) => Line::Bad,
     }
 }
 
 // A line of three words before its colon.
-fn link_line<'a>(word: &[u8], listener: &'a [u8], speaker: &'a [u8], label: &'a [u8]) -> Line<'a>
-    ensures form { pure_line result ≡ colon_line_of (word.now ∷ listener.now ∷ speaker.now ∷ []) label.now }
-    ensures names { IsNamed result }
+fn short_line<'a>(word: &[u8], listener: &'a [u8], speaker: &'a [u8], label: &'a [u8]) -> Line<'a>
+    ensures form { pure_line result ≡ short_line_of word.now listener.now speaker.now label.now }
+    ensures names { HasDestName result }
 {
-    if is_word(word, b"link") && is_name(listener) && is_name(speaker) {
-        Line::Link {
+    if !is_name(listener) || !is_name(speaker) {
+        return Line::Bad;
+    }
+    match word {
+        b"link" => Line::Network(NetLine::Link {
+            listener,
+            speaker,
+            label,
+        }),
+        b"both" => Line::Network(NetLine::Both {
+            listener,
+            speaker,
+            label,
+        }),
+        _ => Line::Bad,
+    }
+}
+
+// A line of four words before its colon.
+fn long_line<'a>(
+    word: &[u8],
+    first: &'a [u8],
+    second: &'a [u8],
+    third: &'a [u8],
+    literal: &'a [u8],
+) -> Line<'a>
+    ensures form { pure_line result ≡ long_line_of word.now first.now second.now third.now literal.now }
+    ensures names { HasDestName result }
+{
+    if is_word(word, b"origin") {
+        origin_line(first, second, third, literal)
+    } else {
+        then_line(word, first, second, third, literal)
+    }
+}
+
+// A line `origin ..`, by the other three words.
+fn origin_line<'a>(dest: &'a [u8], at: &[u8], node: &'a [u8], value: &'a [u8]) -> Line<'a>
+    ensures form { pure_line result ≡ origin_line_of dest.now at.now node.now value.now }
+    ensures names { HasDestName result }
+{
+    if is_word(at, b"at") && is_name(dest) && is_name(node) {
+        Line::Network(NetLine::Origin { dest, node, value })
+    } else {
+        Line::Bad
+    }
+}
+
+// A line of four words that isn't `origin ..`.
+fn then_line<'a>(
+    word: &[u8],
+    kind: &[u8],
+    listener: &'a [u8],
+    speaker: &'a [u8],
+    label: &'a [u8],
+) -> Line<'a>
+    ensures form { pure_line result ≡ then_line_of word.now kind.now listener.now speaker.now label.now }
+    ensures names { HasDestName result }
+{
+    if is_word(word, b"then") && is_word(kind, b"link") && is_name(listener) && is_name(speaker) {
+        Line::ThenLink {
             listener,
             speaker,
             label,
@@ -99,63 +212,8 @@ fn link_line<'a>(word: &[u8], listener: &'a [u8], speaker: &'a [u8], label: &'a 
     }
 }
 
-// A line of four words before its colon.
-fn origin_line<'a>(
-    word: &[u8],
-    dest: &'a [u8],
-    at: &[u8],
-    node: &'a [u8],
-    value: &'a [u8],
-) -> Line<'a>
-    ensures form { pure_line result ≡ colon_line_of (word.now ∷ dest.now ∷ at.now ∷ node.now ∷ []) value.now }
-    ensures names { IsNamed result }
-{
-    if is_word(word, b"origin") && is_word(at, b"at") && is_name(dest) && is_name(node) {
-        Line::Origin { dest, node, value }
-    } else {
-        Line::Bad
-    }
-}
-
 fn is_word(word: &[u8], wanted: &[u8]) -> bool
     ensures { result ≡ bytes_eq word.now wanted.now }
 {
     word == wanted
-}
-
-fn is_name_part(byte: u8) -> bool
-    ensures { result ≡ is_name_byte byte }
-{
-    matches!(byte, b'a'..=b'z' | b'A'..=b'Z' | b'0'..=b'9' | b'_' | b'-' | b'.')
-}
-
-fn is_name(word: &[u8]) -> bool
-    ensures { result ≡ is_name_of word.now }
-{
-    1 <= word.len() && word.len() <= 32 && is_of_name_parts(word)
-}
-
-fn is_of_name_parts(word: &[u8]) -> bool
-    ensures { result ≡ list_all is_name_byte word.now }
-{
-    word.iter().all(|byte| is_name_part(*byte))
-}
-
-// Whether the words are one or more names.
-fn are_names(text: &[u8]) -> bool
-    ensures { result ≡ are_names_of (words_of text.now) }
-{
-    let Some((first, mut rest)) = split_word(text) else {
-        return false;
-    };
-    if !is_name(first) {
-        return false;
-    }
-    while let Some((word, others)) = split_word(rest) {
-        if !is_name(word) {
-            return false;
-        }
-        rest = others;
-    }
-    true
 }

@@ -1,15 +1,17 @@
-//! Reads network files: the nodes, arcs and origins that a text gives to an algebra, or the first line
-//! that breaks a rule. It stands on `net_graph`, `sig_text`, `alg_model` and `meta_base`.
+//! Reads network files: the nodes, arcs, origins and changes that a text gives to an algebra, or the
+//! first line that breaks a rule. It stands on `net_graph`, `sig_text`, `alg_model` and `meta_base`.
 #![tactic(auto)]
 
-mod bytes;
+mod draft;
+mod errors;
 mod faults;
 mod forms;
 mod laws;
-mod literals;
+mod lines;
+mod names;
 mod network;
 mod texts;
 
 pub use faults::{NetError, NetFault, NetKind, What};
-pub use laws::{networks_keep_their_algebra, one_text_one_network};
-pub use network::read_net;
+pub use laws::{changes_of_texts_may_be_made, networks_keep_their_algebra, one_text_one_network};
+pub use network::{MAX_LINE_BYTES, NetFile, read_net};

@@ -1,8 +1,22 @@
 // The lines of a text, what a line says, and the words of that.
 ghost use Rattle.std.specs.Prelude.{◌≡◌, ◌<◌, [], ◌∷◌, drop, length, MatchOption, IfSome};
-ghost use Rattle.topology_file.specs.Texts.{lines_of, said_of, words_of};
+ghost use Rattle.meta_base.specs.Bytes.{front, behind};
+ghost use Rattle.topology_file.specs.Texts.{is_not, is_no_blank, lines_of, said_of, words_of};
 
-use crate::bytes::{behind_blanks, split_at_blank, split_at_byte};
+use memchr::memchr;
+use meta_base::bytes::{behind_blanks, is_blank};
+
+/// The text before the first such byte, and the text from there on.
+#[tactic(auto, using(crate::proofs::Splits::front_taken, crate::proofs::Splits::behind_left, crate::proofs::Splits::stops_there, crate::proofs::Splits::stops_nowhere))]
+pub fn split_at_byte(text: &[u8], wanted: u8) -> (&[u8], &[u8])
+    ensures front { result.0.now ≡ front (is_not wanted) text.now }
+    ensures behind { result.1.now ≡ behind (is_not wanted) text.now }
+{
+    match memchr(wanted, text) {
+        Some(len) => text.split_at(len),
+        None => text.split_at(text.len()),
+    }
+}
 
 // What comes after the first byte, if there is one.
 fn behind_one(text: &[u8]) -> &[u8]
@@ -14,10 +28,11 @@ fn behind_one(text: &[u8]) -> &[u8]
     }
 }
 
-// The first line, without its line feed, and the text of the other lines.
+/// The first line, without its line feed, and the text of the other lines.
 #[tactic(auto, using(crate::proofs::Splits::lines_first, crate::proofs::Splits::line_shorter))]
 pub fn split_line(text: &[u8]) -> Option<(&[u8], &[u8])>
-    ensures lines { MatchOption result (lines_of text.now ≡ []) (λ split. lines_of text.now ≡ split.0.now ∷ lines_of split.1.now) }
+    ensures lines { MatchOption result (lines_of text.now ≡ []) (λ split.
+        lines_of text.now ≡ split.0.now ∷ lines_of split.1.now) }
     ensures shorter { IfSome result (λ split. length split.1.now < length text.now) }
 {
     if text.is_empty() {
@@ -27,7 +42,7 @@ pub fn split_line(text: &[u8]) -> Option<(&[u8], &[u8])>
     Some((line, behind_one(rest)))
 }
 
-// What a line says: it loses one carriage return at its end, and its comment.
+/// What a line says: it loses one carriage return at its end, and its comment.
 pub fn said(line: &[u8]) -> &[u8]
     ensures { result.now ≡ said_of line.now }
 {
@@ -39,10 +54,26 @@ pub fn said(line: &[u8]) -> &[u8]
     said
 }
 
-// The first word, and the text of the other words.
+// The bytes up to the first blank, and the text from there on.
+fn split_at_blank(text: &[u8]) -> (&[u8], &[u8])
+    ensures front { result.0.now ≡ front is_no_blank text.now }
+    ensures behind { result.1.now ≡ behind is_no_blank text.now }
+{
+    let mut len = 0;
+    for byte in text {
+        if is_blank(*byte) {
+            break;
+        }
+        len += 1;
+    }
+    text.split_at(len)
+}
+
+/// The first word, and the text of the other words.
 #[tactic(auto, using(crate::proofs::Splits::words_first, crate::proofs::Splits::words_none, crate::proofs::Splits::word_shorter))]
 pub fn split_word(text: &[u8]) -> Option<(&[u8], &[u8])>
-    ensures words { MatchOption result (words_of text.now ≡ []) (λ split. words_of text.now ≡ split.0.now ∷ words_of split.1.now) }
+    ensures words { MatchOption result (words_of text.now ≡ []) (λ split.
+        words_of text.now ≡ split.0.now ∷ words_of split.1.now) }
     ensures shorter { IfSome result (λ split. length split.1.now < length text.now) }
 {
     let text = behind_blanks(text);

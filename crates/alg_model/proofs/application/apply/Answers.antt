@@ -1,6 +1,6 @@
 use Rattle.std.proofs.Common.{◌≡◌, ◌+◌, IfSome, Some, None, Option, option_map, rules}
 use Rattle.std.proofs.lemmas.Result.{IfOk-weaker}
-use Rattle.meta_base.specs.declared.limits.TheConstants.{MAX_NUMBER}
+use Rattle.alg_model.specs.declared.edition.TheConstants.{MAX_LABEL_NUMBER}
 use Rattle.alg_model.specs.declared.tree.Value.{Value}
 use Rattle.alg_model.specs.Expressions.{PureValue}
 use Rattle.alg_model.specs.Views.{pure_value, pure_label}
@@ -16,16 +16,16 @@ image_is o P None e h = tt
 
 pub returns-clause-value : goal.returns-clause-value
 returns-clause-value c =
-    let alg = c.args.alg.now in
+    let alg = c.args.alg.now.expression in
     let label = pure_label c.args.label.now in
     let value = pure_value c.args.value.now in
     IfOk-weaker c.image.result _ _ (λ image e. image_is (App alg label value) (In (carrier_of alg)) image e
-    (λ v f. images_in alg label value v c.tree.ensures.formed c.requires.label c.requires.value f)) (search rules)
+    (λ v f. images_in alg label value v c.tree.ensures.formed.formed c.requires.label c.requires.value f)) (search rules)
 
 pub returns-clause-bound : goal.returns-clause-bound
 returns-clause-bound c n small =
-    let alg = c.args.alg.now in
+    let alg = c.args.alg.now.expression in
     let label = pure_label c.args.label.now in
     let value = pure_value c.args.value.now in
-    IfOk-weaker c.image.result _ _ (λ image e. image_is (App alg label value) (AtMost (n + MAX_NUMBER)) image e
-    (λ v f. images_at_most alg label value v n MAX_NUMBER c.requires.label c.requires.small_label small f)) (search rules)
+    IfOk-weaker c.image.result _ _ (λ image e. image_is (App alg label value) (AtMost (n + MAX_LABEL_NUMBER)) image e
+    (λ v f. images_at_most alg label value v n MAX_LABEL_NUMBER c.requires.label c.requires.small_label small f)) (search rules)

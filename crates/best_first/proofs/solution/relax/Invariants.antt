@@ -10,7 +10,7 @@ abbrev pub invariant-loop-id : goal.invariant-loop-id
 invariant-loop-id g l =
     let value = g.A.Algebra.sig_value l.algebra in
     record {
-      count : vec_len l.open ≡ length l.net.nodes;
-      sigs : AreSigs (g.A.Algebra.is_sig l.algebra) l.open.items;
-      found : (k : ℕ) → found_at (routes_of value l.open.items) k ≡ relaxed (carrier l.net) (found_at (routes_of value l.rows.items) k) (found_at (routes_of value l.fn.open.items) k) (heard_so_far l.net l.fn.node.0 (route_of value l.next) l.id-index k);
+      count : vec_len l.offers ≡ length l.net.nodes;
+      sigs : AreSigs (g.A.Algebra.is_sig l.algebra) l.offers.items;
+      found : (k : ℕ) → found_at (routes_of value l.offers.items) k ≡ relaxed (carrier l.net) (found_at (routes_of value l.rows.items) k) (found_at (routes_of value l.fn.offers.items) k) (heard_so_far l.net l.fn.node.0 (route_of value l.next) l.id-index k);
     }

@@ -9,19 +9,19 @@ pub loop-node-init : goal.loop-node-init
 loop-node-init g c =
     let value = g.A.Algebra.sig_value c.args.algebra.now in
     let net = c.args.net.now in
-    let offers = c.in_ok-open.open.items in
-    let count : length offers ≡ length net.nodes = let h = c.in_ok-open.ensures.count in omega arith in
+    let offers = c.in_ok-offers.offers.items in
+    let count : length offers ≡ length net.nodes = let h = c.in_ok-offers.ensures.count in omega arith in
     let none = c.in_ok-rows.ensures in
     record {
       rows_sigs = rw (none, c.node_count.ensures.count) (sigs-none (g.A.Algebra.is_sig c.args.algebra.now) (length net.nodes));
-      open_sigs = c.in_ok-open.ensures.sigs;
-      state = rw (none, c.node_count.ensures.count) (state_before value net c.args.dest.0 offers c.node_count.ensures.net count c.in_ok-open.ensures.offers);
+      open_sigs = c.in_ok-offers.ensures.sigs;
+      state = rw (none, c.node_count.ensures.count) (state_before value net c.args.dest.0 offers c.node_count.ensures.net count c.in_ok-offers.ensures.offers);
     }
 
 pub index_mut-requires : goal.index_mut-requires
 index_mut-requires g c =
     let best = c.in-Some.ensures in
-    let l = found_within (g.A.Algebra.sig_value c.args.algebra.now) c.loop-node.open.items c.in-Some.node best.0 best.1 in
+    let l = found_within (g.A.Algebra.sig_value c.args.algebra.now) c.loop-node.offers.items c.in-Some.node best.0 best.1 in
     omega arith
 
 pub unreachable-requires : goal.unreachable-requires
@@ -30,7 +30,7 @@ unreachable-requires g c =
     let is_sig = g.A.Algebra.is_sig c.args.algebra.now in
     let net = c.args.net.now in
     let rows = c.loop-node.rows.items in
-    let offers = c.loop-node.open.items in
+    let offers = c.loop-node.offers.items in
     let node = c.in-Some.node in
     let best = rw c.requires.algebra at c.in-Some.ensures in
     let there = c.index_mut.ensures.value in
@@ -42,12 +42,13 @@ overflow_cast-node g c =
     let is_sig = g.A.Algebra.is_sig c.args.algebra.now in
     let net = c.args.net.now in
     let rows = c.loop-node.rows.items in
-    let offers = c.loop-node.open.items in
+    let offers = c.loop-node.offers.items in
     let node = c.in-Some.node in
     let best = rw c.requires.algebra at c.in-Some.ensures in
     let there = c.index_mut.ensures.value in
     let l = node_within value net c.args.dest.0 rows offers node c.index_mut.result.now c.node_count.ensures.net c.loop-node.invariant.state best there in
-    let few = c.node_count.ensures.net.node_room in
+    let few = c.node_count.ensures.few in
+    let count = c.node_count.ensures.count in
     omega arith
 
 pub relax-requires-clause-node : goal.relax-requires-clause-node
@@ -56,7 +57,7 @@ relax-requires-clause-node g c κs within =
     let is_sig = g.A.Algebra.is_sig c.args.algebra.now in
     let net = c.args.net.now in
     let rows = c.loop-node.rows.items in
-    let offers = c.loop-node.open.items in
+    let offers = c.loop-node.offers.items in
     let node = c.in-Some.node in
     let best = rw c.requires.algebra at c.in-Some.ensures in
     let there = c.index_mut.ensures.value in
@@ -68,7 +69,7 @@ relax-requires-clause-next g c κs within =
     let is_sig = g.A.Algebra.is_sig c.args.algebra.now in
     let net = c.args.net.now in
     let rows = c.loop-node.rows.items in
-    let offers = c.loop-node.open.items in
+    let offers = c.loop-node.offers.items in
     let node = c.in-Some.node in
     let best = rw c.requires.algebra at c.in-Some.ensures in
     let there = c.index_mut.ensures.value in
@@ -81,7 +82,7 @@ relax-requires-clause-small g c κs within =
     let is_sig = g.A.Algebra.is_sig c.args.algebra.now in
     let net = c.args.net.now in
     let rows = c.loop-node.rows.items in
-    let offers = c.loop-node.open.items in
+    let offers = c.loop-node.offers.items in
     let node = c.in-Some.node in
     let best = rw c.requires.algebra at c.in-Some.ensures in
     let there = c.index_mut.ensures.value in
@@ -94,7 +95,7 @@ relax-requires-clause-sigs g c κs within =
     let is_sig = g.A.Algebra.is_sig c.args.algebra.now in
     let net = c.args.net.now in
     let rows = c.loop-node.rows.items in
-    let offers = c.loop-node.open.items in
+    let offers = c.loop-node.offers.items in
     let node = c.in-Some.node in
     let best = rw c.requires.algebra at c.in-Some.ensures in
     let there = c.index_mut.ensures.value in
@@ -106,7 +107,7 @@ index_mut-requires-in-Some g c =
     let is_sig = g.A.Algebra.is_sig c.args.algebra.now in
     let net = c.args.net.now in
     let rows = c.loop-node.rows.items in
-    let offers = c.loop-node.open.items in
+    let offers = c.loop-node.offers.items in
     let node = c.in-Some.node in
     let best = rw c.requires.algebra at c.in-Some.ensures in
     let there = c.index_mut.ensures.value in
@@ -119,7 +120,7 @@ loop-node-smaller-in_ok-relax g c =
     let is_sig = g.A.Algebra.is_sig c.args.algebra.now in
     let net = c.args.net.now in
     let rows = c.loop-node.rows.items in
-    let offers = c.loop-node.open.items in
+    let offers = c.loop-node.offers.items in
     let node = c.in-Some.node in
     let best = rw c.requires.algebra at c.in-Some.ensures in
     let there = c.index_mut.ensures.value in
@@ -133,16 +134,16 @@ loop-node-preserved-in_ok-relax g c =
     let is_sig = g.A.Algebra.is_sig c.args.algebra.now in
     let net = c.args.net.now in
     let rows = c.loop-node.rows.items in
-    let offers = c.loop-node.open.items in
+    let offers = c.loop-node.offers.items in
     let node = c.in-Some.node in
     let best = rw c.requires.algebra at c.in-Some.ensures in
     let there = c.index_mut.ensures.value in
     let is : c.index_mut.result.now ≡ Some c.in-Some-take.next = sym c.take.ensures.value ∙ c.in-Some-take.is in
-    let count : length c.relax.new.open.items ≡ length net.nodes = let h = c.relax.ensures.count in omega arith in
+    let count : length c.relax.new.offers.items ≡ length net.nodes = let h = c.relax.ensures.count in omega arith in
     record {
       rows_sigs = sigs-set is_sig rows node (Some c.in-Some-take.next) (row_within value net c.args.dest.0 rows offers node c.index_mut.result.now c.node_count.ensures.net c.loop-node.invariant.state best there) c.loop-node.invariant.rows_sigs (next_sig value net c.args.dest.0 rows offers node c.index_mut.result.now c.node_count.ensures.net c.loop-node.invariant.state best there is_sig c.in-Some-take.next is c.loop-node.invariant.open_sigs);
       open_sigs = c.relax.ensures.sigs;
-      state = state_after value net c.args.dest.0 rows offers node c.index_mut.result.now c.node_count.ensures.net c.loop-node.invariant.state best there c.in-Some-take.next c.relax.new.open.items is count (rw c.take.ensures.after at c.in_ok-relax.ensures.open);
+      state = state_after value net c.args.dest.0 rows offers node c.index_mut.result.now c.node_count.ensures.net c.loop-node.invariant.state best there c.in-Some-take.next c.relax.new.offers.items is count (rw c.take.ensures.after at c.in_ok-relax.ensures.offers);
     }
 
 pub loop-node-smaller : goal.loop-node-smaller
@@ -151,7 +152,7 @@ loop-node-smaller g c =
     let is_sig = g.A.Algebra.is_sig c.args.algebra.now in
     let net = c.args.net.now in
     let rows = c.loop-node.rows.items in
-    let offers = c.loop-node.open.items in
+    let offers = c.loop-node.offers.items in
     let node = c.in-Some.node in
     let best = rw c.requires.algebra at c.in-Some.ensures in
     let there = c.index_mut.ensures.value in
@@ -165,16 +166,16 @@ loop-node-preserved g c =
     let is_sig = g.A.Algebra.is_sig c.args.algebra.now in
     let net = c.args.net.now in
     let rows = c.loop-node.rows.items in
-    let offers = c.loop-node.open.items in
+    let offers = c.loop-node.offers.items in
     let node = c.in-Some.node in
     let best = rw c.requires.algebra at c.in-Some.ensures in
     let there = c.index_mut.ensures.value in
     let is : c.index_mut.result.now ≡ Some c.in-Some-take.next = sym c.take.ensures.value ∙ c.in-Some-take.is in
-    let count : length c.relax.new.open.items ≡ length net.nodes = let h = c.relax.ensures.count in omega arith in
+    let count : length c.relax.new.offers.items ≡ length net.nodes = let h = c.relax.ensures.count in omega arith in
     record {
       rows_sigs = sigs-set is_sig rows node (Some c.in-Some-take.next) (row_within value net c.args.dest.0 rows offers node c.index_mut.result.now c.node_count.ensures.net c.loop-node.invariant.state best there) c.loop-node.invariant.rows_sigs (next_sig value net c.args.dest.0 rows offers node c.index_mut.result.now c.node_count.ensures.net c.loop-node.invariant.state best there is_sig c.in-Some-take.next is c.loop-node.invariant.open_sigs);
       open_sigs = c.relax.ensures.sigs;
-      state = state_after value net c.args.dest.0 rows offers node c.index_mut.result.now c.node_count.ensures.net c.loop-node.invariant.state best there c.in-Some-take.next c.relax.new.open.items is count (rw c.take.ensures.after at c.in_ok-relax.ensures.open);
+      state = state_after value net c.args.dest.0 rows offers node c.index_mut.result.now c.node_count.ensures.net c.loop-node.invariant.state best there c.in-Some-take.next c.relax.new.offers.items is count (rw c.take.ensures.after at c.in_ok-relax.ensures.offers);
     }
 
 pub returns-clause-rows : goal.returns-clause-rows
@@ -182,4 +183,4 @@ returns-clause-rows g c =
     let value = g.A.Algebra.sig_value c.args.algebra.now in
     let net = c.args.net.now in
     table_made net c.args.dest.0 c.into_table.result (rows_from c.args.dest.0 0 (routes_of value c.loop-node.rows.items)) c.into_table.ensures.rows
-    (last_state net c.args.dest.0 (routes_of value c.loop-node.rows.items) (routes_of value c.loop-node.open.items) c.node_count.ensures.net c.loop-node.invariant.state (rw c.in_default.is at c.best_of.ensures))
+    (last_state net c.args.dest.0 (routes_of value c.loop-node.rows.items) (routes_of value c.loop-node.offers.items) c.node_count.ensures.net c.loop-node.invariant.state (rw c.in_default.is at c.best_of.ensures))

@@ -8,8 +8,8 @@ invariant-loop-node g l =
     let value = g.A.Algebra.sig_value l.algebra in
     record {
       rows_sigs : AreSigs (g.A.Algebra.is_sig l.algebra) l.rows.items;
-      open_sigs : AreSigs (g.A.Algebra.is_sig l.algebra) l.open.items;
-      state : IsState l.net l.dest.0 (routes_of value l.rows.items) (routes_of value l.open.items);
+      open_sigs : AreSigs (g.A.Algebra.is_sig l.algebra) l.offers.items;
+      state : IsState l.net l.dest.0 (routes_of value l.rows.items) (routes_of value l.offers.items);
     }
 
 abbrev pub decreases-loop-node : goal.decreases-loop-node

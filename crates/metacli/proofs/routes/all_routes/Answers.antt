@@ -14,4 +14,4 @@ loop-dest-preserved c =
     let best = c.in_ok-table.ensures.rows in
     let optimal = c.best_first_is_optimal.ensures net dest table is_net (net_monotone net c.requires is_net) (net_isotone net c.requires is_net) best in
     rw (c.in_ok-append.ensures.items, c.into_vec-found.ensures, map-append)
-    (found_more net dest _ table c.loop-dest.invariant best optimal (c.optimal_rows_are_the_networks.ensures net dest table is_net within optimal))
+    (found_more net dest _ table c.loop-dest.invariant best optimal (c.best_first_rows_are_the_networks.ensures net dest table is_net within best))

@@ -13,8 +13,9 @@ returns-clause-printable g c =
       command = Some (Check c.args.file c.args.net);
       alg = Some c.in-Ok.alg;
       net = None;
+      changes = c.new.result;
       verdicts = pair.0;
-      rows = c.new.result;
+      rows = c.new-2.result;
       decided = pair.1;
       answer = pair.1;
     } in

@@ -1,28 +1,23 @@
 use Rattle.std.proofs.Common.{if◌then◌else◌, Some, None, Ok, sym, ap, subst, ◌∙◌}
 use Rattle.std.proofs.lemmas.Result.{err_from_is_err_and}
-use Rattle.alg_model.specs.Views.{expression_of}
 use Rattle.raml_syntax.specs.declared.faults.ExprKind.TheVariants.{CarriersDiffer}
 use Rattle.raml_syntax.specs.Heads.{paired_of}
+use Rattle.raml_syntax.specs.Forest.{tree_at}
 use Rattle.raml_syntax.specs.Forms.{Closed}
 use Rattle.raml_syntax.specs.Sequences.{Reads}
-use Rattle.raml_syntax.proofs.Descent.{closed_lacks, closed_differs, closed_good}
+use Rattle.raml_syntax.proofs.Descent.{closed_lacks, closed_good}
 use Rattle.raml_syntax.proofs.expression.close_paired.Goals as goal
 
 pub returns-in_err-place-clause-reads : goal.returns-in_err-place-clause-reads
 returns-in_err-place-clause-reads c =
     let p = err_from_is_err_and c.from_residual.result c.from_residual.ensures.1 in
-    rw (p.1, p.2) (closed_lacks (paired_of c.args.kind) (expression_of c.args.first) (expression_of c.args.second) c.args.tokens.now c.take_mark_at.new.tokens _ c.in_err-place.ensures.fault)
-
-pub returns-then-not-may_join-clause-reads : goal.returns-then-not-may_join-clause-reads
-returns-then-not-may_join-clause-reads c =
-    rw c.refused.ensures
-    (closed_differs (paired_of c.args.kind) (expression_of c.args.first) (expression_of c.args.second) c.in_ok-place.place c.args.tokens.now c.take_mark_at.new.tokens c.take_mark_at.new.tokens
-    (sym c.may_join.ensures ∙ ap (λ b. if b then None else Some CarriersDiffer) c.if-not-may_join.true) c.in_ok-place.ensures.mark)
+    rw (p.1, p.2) (closed_lacks (paired_of c.args.kind) (tree_at c.args.definitions.now.trees c.args.first) (tree_at c.args.definitions.now.trees c.args.second) c.args.tokens.now c.take_mark_at.new.tokens _ c.in_err-place.ensures.fault)
 
 pub returns-clause-reads : goal.returns-clause-reads
 returns-clause-reads c =
     let k = paired_of c.args.kind in
-    let a = expression_of c.args.first in
-    let b = expression_of c.args.second in
-    subst (λ x. Reads (Closed k a b) c.args.tokens.now (Ok x) c.take_mark_at.new.tokens) (sym c.in_ok-paired_tree.ensures.tree)
-    (closed_good k a b c.args.tokens.now c.take_mark_at.new.tokens (sym c.may_join.ensures ∙ ap (λ v. if v then None else Some CarriersDiffer) c.if-not-may_join.false) c.in_ok-place.ensures.mark.takes)
+    let a = tree_at c.args.definitions.now.trees c.args.first in
+    let b = tree_at c.args.definitions.now.trees c.args.second in
+    let joins = rw c.forest.ensures at c.may_join.ensures in
+    subst (λ x. Reads (Closed k a b) c.args.tokens.now (Ok x) c.take_mark_at.new.tokens) (sym c.in_ok-plant.ensures.means)
+    (closed_good k a b c.args.tokens.now c.take_mark_at.new.tokens (sym joins ∙ ap (λ v. if v then None else Some CarriersDiffer) c.if-not-may_join.false) c.in_ok-place.ensures.mark.takes)

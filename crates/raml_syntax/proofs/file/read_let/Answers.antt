@@ -1,9 +1,9 @@
 use Rattle.std.proofs.Common.{Ok, Err}
 use Rattle.std.proofs.lemmas.Result.{err_from_is_err_and}
 use Rattle.raml_lex.specs.Tokens.{equals}
-use Rattle.alg_model.specs.Views.{expression_of}
 use Rattle.raml_syntax.specs.Marks.{let_name}
 use Rattle.raml_syntax.specs.Sequences.{Nothing, One}
+use Rattle.raml_syntax.specs.Forest.{tree_at}
 use Rattle.raml_syntax.specs.Forms.{Behind}
 use Rattle.raml_syntax.specs.Statements.{Body}
 use Rattle.raml_syntax.proofs.Sequences.{reads_then, reads_not_first}
@@ -14,7 +14,7 @@ use Rattle.raml_syntax.proofs.file.read_let.Goals as goal
 pub returns-in_err-name-clause-reads : goal.returns-in_err-name-clause-reads
 returns-in_err-name-clause-reads c =
     let p = err_from_is_err_and c.from_residual.result c.from_residual.ensures.1 in
-    let ds = c.args.definitions.now in
+    let ds = c.args.definitions.now.defined in
     rw (p.1, p.2)
     (reads_not_first (One (let_name ds)) (λ name. Behind equals (Defined ds name)) c.args.tokens.now c.take_new_name.new.tokens _
     (λ name. behind_possible equals (Defined ds name) (defined_possible ds name)) c.in_err-name.ensures.reads)
@@ -22,7 +22,7 @@ returns-in_err-name-clause-reads c =
 pub returns-in_err-take_mark-clause-reads : goal.returns-in_err-take_mark-clause-reads
 returns-in_err-take_mark-clause-reads c =
     let p = err_from_is_err_and c.from_residual-in_err-take_mark.result c.from_residual-in_err-take_mark.ensures.1 in
-    let ds = c.args.definitions.now in
+    let ds = c.args.definitions.now.defined in
     let name = c.in_ok-name.name.now in
     rw (p.1, p.2)
     (reads_then (One (let_name ds)) (λ name. Behind equals (Defined ds name)) c.args.tokens.now c.take_new_name.new.tokens c.take_mark.new.tokens name (Err c.in_err-take_mark.field-0.0)
@@ -32,7 +32,7 @@ returns-in_err-take_mark-clause-reads c =
 pub returns-in_err-tree-clause-reads : goal.returns-in_err-tree-clause-reads
 returns-in_err-tree-clause-reads c =
     let p = err_from_is_err_and c.from_residual-in_err-tree.result c.from_residual-in_err-tree.ensures.1 in
-    let ds = c.args.definitions.now in
+    let ds = c.args.definitions.now.defined in
     let name = c.in_ok-name.name.now in
     let e = c.in_err-tree.field-0.0 in
     rw (p.1, p.2)
@@ -43,11 +43,11 @@ returns-in_err-tree-clause-reads c =
 
 pub returns-clause-reads : goal.returns-clause-reads
 returns-clause-reads c =
-    let ds = c.args.definitions.now in
+    let ds = c.args.definitions.now.defined in
     let name = c.in_ok-name.name.now in
-    let a = expression_of c.in_ok-tree.tree in
+    let a = tree_at c.read_body.new.definitions.trees c.in_ok-tree.tree in
     let es = defined ds name a in
-    rw c.in_ok-define.ensures.ok
+    rw (c.in_ok-define.ensures.defined, c.in_ok-tree.ensures.keeps.defined)
     (reads_then (One (let_name ds)) (λ name. Behind equals (Defined ds name)) c.args.tokens.now c.take_new_name.new.tokens c.read_body.new.tokens name (Ok es)
     (name_determined ds) c.in_ok-name.ensures.reads
     (behind_taken equals (Defined ds name) c.take_new_name.new.tokens c.take_mark.new.tokens c.read_body.new.tokens (Ok es) c.in_ok-take_mark.ensures.mark

@@ -15,18 +15,18 @@ pub returns-in_err-word-clause-reads : goal.returns-in_err-word-clause-reads
 returns-in_err-word-clause-reads c =
     let p = err_from_is_err_and c.from_residual.result c.from_residual.ensures.1 in
     rw (p.1, p.2)
-    (one_lacks (let_name c.args.definitions.now) [] IsWord _ c.args.tokens.now c.take_word.new.tokens (λ w. (w, refl)) (λ n x. let e : number n ≡ word x.0 = x.1 in cc) c.in_err-word.ensures.fault)
+    (one_lacks (let_name c.args.definitions.now.defined) [] IsWord _ c.args.tokens.now c.take_word.new.tokens (λ w. (w, refl)) (λ n x. let e : number n ≡ word x.0 = x.1 in cc) c.in_err-word.ensures.fault)
 
 pub returns-then-is_reserved-clause-reads : goal.returns-then-is_reserved-clause-reads
 returns-then-is_reserved-clause-reads c =
     let w = c.in_ok-word.word.text.now in
-    let ds = c.args.definitions.now in
+    let ds = c.args.definitions.now.defined in
     let taken : (is_reserved w || is_among (names_of ds) w) ≡ true = search rules in
     rw c.refused.ensures (one_bad (let_name ds) w (word w) NameTwice c.in_ok-word.word.place c.args.tokens.now c.take_word.new.tokens c.take_word.new.tokens refl (name_taken ds w taken) c.in_ok-word.ensures.word)
 
 pub returns-clause-reads : goal.returns-clause-reads
 returns-clause-reads c =
     let w = c.in_ok-word.word.text.now in
-    let ds = c.args.definitions.now in
+    let ds = c.args.definitions.now.defined in
     let free : (is_reserved w || is_among (names_of ds) w) ≡ false = search rules in
     one_good (let_name ds) w (word w) c.args.tokens.now c.take_word.new.tokens refl (name_free ds w free) c.in_ok-word.ensures.word.takes

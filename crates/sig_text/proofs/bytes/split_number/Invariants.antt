@@ -9,7 +9,7 @@ invariant-loop-byte l =
     record {
       count : l.len ≡ l.byte-index;
       behind : behind is_digit (drop l.len l.text) ≡ behind is_digit l.text;
-      bound : l.n < 2 ^ 40;
-      small : l.n ≤ 4294967295 → number_from l.n (front is_digit (drop l.len l.text)) ≡ all;
-      large : 4294967295 < l.n → 4294967295 < all;
+      bound : l.n < 2 ^ 124;
+      small : l.n ≤ 2 ^ 119 → number_from l.n (front is_digit (drop l.len l.text)) ≡ all;
+      large : 2 ^ 119 < l.n → 2 ^ 119 < all;
     }

@@ -1,5 +1,7 @@
+use Rattle.alg_model.specs.Bounds.{greatest_number}
+use Rattle.sig_text.proofs.RoundTrips.{edition_room}
 use Rattle.sig_text.proofs.LabelRoundTrips.{label_round}
 use Rattle.sig_text.proofs.laws.printed_labels_are_read_back.Goals as goal
 
 pub returns : goal.returns
-returns c = label_round
+returns c = λ a. label_round (greatest_number a.edition) (edition_room a.edition) a.expression

@@ -1,13 +1,13 @@
 use Rattle.std.proofs.Common.{◌≡◌, ◌+◌, ◌≤◌, length}
-use Rattle.net_graph.specs.Lines.{empty_net}
 use Rattle.topology_file.specs.Texts.{lines_of}
+use Rattle.topology_file.specs.NetText.{empty_file}
 use Rattle.topology_file.proofs.Runs.{outcome}
 use Rattle.topology_file.proofs.network.read_net.Given as goal
 
--- the lines that are left come to the same from the network so far as all lines from none
+-- the lines that are left come to the same from what the lines so far gave as all lines from nothing
 abbrev pub invariant-loop-line : goal.invariant-loop-line
 invariant-loop-line l = record {
-  outcome : outcome (empty_net l.fn.alg) 1 (lines_of l.source) ≡ outcome l.draft l.number (lines_of l.rest);
+  outcome : outcome (empty_file l.fn.alg) 1 (lines_of l.source) ≡ outcome l.file l.number (lines_of l.rest);
   bound : l.number + length l.rest ≤ length l.source + 1;
 }
 

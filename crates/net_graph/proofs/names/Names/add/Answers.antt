@@ -1,7 +1,8 @@
 use Rattle.std.proofs.Common.{◌∙◌, false, ◌≡◌}
 use Rattle.std.specs.List.{list_any}
 use Rattle.std.specs.Str.{bytes_eq}
-use Rattle.net_graph.proofs.Keys.{any_key, inserted_key, none_passes}
+use Rattle.net_graph.specs.NetLaws.{none_passes}
+use Rattle.net_graph.proofs.Keys.{any_key, inserted_key}
 use Rattle.net_graph.proofs.names.Names.add.Goals as goal
 
 pub returns-clause-ok : goal.returns-clause-ok

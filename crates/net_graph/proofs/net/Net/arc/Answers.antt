@@ -1,4 +1,8 @@
-use Rattle.std.proofs.Common.{refl, arith}
+use Rattle.std.proofs.Common.{refl, arith, length}
+use Rattle.net_graph.specs.Nets.{IsArcOf}
+use Rattle.net_graph.specs.NetParts.{net_of}
+use Rattle.net_graph.specs.Views.{pure_arc}
+use Rattle.net_graph.proofs.NetLemmas.{all_got}
 use Rattle.net_graph.specs.Groups.{items_at}
 use Rattle.net_graph.proofs.GroupLemmas.{item_at-stand}
 use Rattle.net_graph.proofs.FiledLemmas.{arcs_counted, arc_read}
@@ -17,8 +21,16 @@ item-requires c =
     let at = item_at-stand c.self.inside.out c.self.inside.arc_spots.items (items_at c.self.inside.out c.self.inside.arc_spots.items) c.args.id.0 c.index.result.now c.self.invariant.filed.arc_spots within c.index.ensures in
     rw at.1 refl
 
-pub returns : goal.returns
-returns c =
+pub returns-clause-arc : goal.returns-clause-arc
+returns-clause-arc c =
     let count = arcs_counted c.self.inside.out c.self.inside.arc_spots.items c.self.invariant.filed.arc_spots in
     let within = rw (← c.self.view_is, ← count) at c.requires in
     rw (← c.self.view_is) (arc_read c.self.inside.out c.self.inside.arc_spots.items c.args.id.0 c.index.result.now c.item.result.now c.self.invariant.filed.arc_spots within c.index.ensures c.item.ensures)
+
+pub returns-clause-within : goal.returns-clause-within
+returns-clause-within c =
+    let net = net_of c.self.inside in
+    let count = arcs_counted c.self.inside.out c.self.inside.arc_spots.items c.self.invariant.filed.arc_spots in
+    let within = rw (← c.self.view_is, ← count) at c.requires in
+    rw (← c.self.view_is) (all_got (IsArcOf net.alg (length net.nodes)) net.arcs c.args.id.0 (pure_arc c.item.result.now) c.self.invariant.known.is_net.arcs_in
+    (arc_read c.self.inside.out c.self.inside.arc_spots.items c.args.id.0 c.index.result.now c.item.result.now c.self.invariant.filed.arc_spots within c.index.ensures c.item.ensures))

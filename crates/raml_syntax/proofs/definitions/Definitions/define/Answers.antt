@@ -1,19 +1,25 @@
-use Rattle.std.proofs.Common.{◌≡◌, [], ◌∷◌, ◌∙◌, ap, false}
-use Rattle.alg_model.specs.Views.{expression_of}
+use Rattle.std.proofs.Common.{◌≡◌, [], false, sym, subst}
 use Rattle.raml_syntax.specs.Syntax.{is_among}
-use Rattle.raml_syntax.specs.Definitions.{names_of, latest_first}
-use Rattle.raml_syntax.proofs.Names.{inserted, inserted_apart}
+use Rattle.raml_syntax.specs.Forest.{IsTree}
+use Rattle.raml_syntax.specs.Definitions.{Known, names_of, latest_first}
+use Rattle.raml_syntax.proofs.Names.{inserted, inserted_apart, inserted_trees}
 use Rattle.raml_syntax.proofs.definitions.Definitions.define.Goals as goal
-
-pub returns : goal.returns
-returns c =
-    let es = c.self.inside.trees.entries in
-    let absent : is_among (names_of (latest_first es [])) c.args.name.now ≡ false = (rw (← c.self.view_is) at c.requires) in
-    let step = inserted es c.insert.new.self.entries c.in_ok-name.name c.args.name.now c.args.tree c.in_ok-insert.ensures.entries c.in_ok-name.ensures.items c.self.invariant absent in
-    record { ok = step ∙ ap (λ l. record { name = c.args.name.now; expression = expression_of c.args.tree } ∷ l) c.self.view_is }
 
 pub invariant_of-self-2 : goal.invariant_of-self-2
 invariant_of-self-2 c =
-    let es = c.self.inside.trees.entries in
-    let absent : is_among (names_of (latest_first es [])) c.args.name.now ≡ false = (rw (← c.self.view_is) at c.requires) in
-    inserted_apart es c.insert.new.self.entries c.in_ok-name.name c.args.name.now c.args.tree c.in_ok-insert.ensures.entries c.in_ok-name.ensures.items c.self.invariant absent
+    let ts = c.self.inside.forest in
+    let es = c.self.inside.numbers.entries in
+    let new = c.insert.new.self.entries in
+    let added = c.in_ok-insert.ensures.entries in
+    let absent : is_among (names_of (latest_first ts es [])) c.args.name.now ≡ false = subst (λ (k : Known). is_among (names_of k.defined) c.args.name.now ≡ false) (sym c.self.view_is) c.requires.absent in
+    let there : IsTree ts c.args.tree = subst (λ (k : Known). IsTree k.trees c.args.tree) (sym c.self.view_is) c.requires.tree in (
+      inserted_apart ts es new c.args.name c.args.tree added c.self.invariant.0 absent,
+      inserted_trees ts es new c.args.name c.args.tree added c.self.invariant.0 absent c.self.invariant.1 there,
+    )
+
+pub returns-clause-defined : goal.returns-clause-defined
+returns-clause-defined c =
+    let ts = c.self.inside.forest in
+    let es = c.self.inside.numbers.entries in
+    let absent : is_among (names_of (latest_first ts es [])) c.args.name.now ≡ false = subst (λ (k : Known). is_among (names_of k.defined) c.args.name.now ≡ false) (sym c.self.view_is) c.requires.absent in
+    rw (← c.self.view_is) (inserted ts es c.insert.new.self.entries c.args.name c.args.tree c.in_ok-insert.ensures.entries c.self.invariant.0 absent)

@@ -1,0 +1,7 @@
+-- Pairs of ids in a list.
+use Rattle.std.specs.Prelude.{ℕ, List, Bool, ◌==◌, ◌&&◌}
+use Rattle.std.specs.List.{list_any}
+
+-- the pair is there
+abbrev pub has_pair : List (ℕ × ℕ) → ℕ → ℕ → Bool
+has_pair pairs first second = list_any (λ (p : ℕ × ℕ). p.0 == first && p.1 == second) pairs

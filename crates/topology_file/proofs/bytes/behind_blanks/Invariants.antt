@@ -1,9 +1,0 @@
-use Rattle.std.proofs.Common.{◌≡◌, length}
-use Rattle.topology_file.specs.Bytes.{is_blank, behind}
-use Rattle.topology_file.proofs.bytes.behind_blanks.Given as goal
-
-abbrev pub invariant-loop-rest : goal.invariant-loop-rest
-invariant-loop-rest l = behind is_blank l.rest ≡ behind is_blank l.text
-
-abbrev pub decreases-loop-rest : goal.decreases-loop-rest
-decreases-loop-rest l = length l.rest

@@ -1,0 +1,227 @@
+// A network file that is being read.
+ghost use Rattle.std.specs.Prelude.{◌≡◌, true, false, length, map, Ok, IfOk, IfErr, OnOk, OnErr};
+ghost use Rattle.alg_model.specs.Expressions.{PureLabel};
+ghost use Rattle.net_graph.specs.Nets.{IsNet, has_arc};
+ghost use Rattle.net_graph.specs.Changes.{AreChanges, MayChange, changed, link};
+ghost use Rattle.net_graph.specs.ChangeSteps.{is_there_behind, is_there_behind_all};
+ghost use Rattle.net_graph.specs.Views.{pure_change};
+ghost use Rattle.topology_file.specs.NetText.{changed_net, empty_file, has_room_to_link, with_change, after_then_link, after_then_drop, after_form, after_line};
+ghost use Rattle.topology_file.specs.LineErrors.{IsRefusedAs, late_fault as late_fault_of};
+ghost use Rattle.topology_file.specs.Views.{NamesDest, pure_net_line, pure_file};
+ghost use Rattle.topology_file.specs.declared.errors.LineError.TheVariants.{Bad};
+ghost use Rattle.topology_file.specs.declared.faults.NetKind.TheVariants.{TooMany};
+ghost use Rattle.topology_file.specs.declared.faults.What.TheVariants.{Arcs};
+
+use crate::errors::{LineError, label_of};
+use crate::forms::{Line, NetLine, line_form};
+use crate::lines::{add_net_line, fault_behind, nodes_of};
+use crate::texts::said;
+use crate::{MAX_LINE_BYTES, NetFile, NetKind, What};
+use alg_model::Alg;
+use meta_base::{List, NoMemory, NodeId};
+use net_graph::{Change, MAX_ARCS, NetDraft, max_changes};
+use std::alloc::Global;
+use std::marker::Model;
+
+/// What the lines so far give. Contracts see the network of the lines without `then`, and the changes of
+/// the others.
+#[derive(Drop)]
+pub struct FileDraft {
+    alloc: Global,
+    draft: NetDraft,
+    changes: List<Change>,
+    // How many arcs there are behind the changes.
+    arc_count: usize,
+}
+
+impl Model for FileDraft {
+    ghost use Rattle.topology_file.specs.NetText.{PureNetFile};
+    ghost use Rattle.topology_file.specs.Views.{coded_file, file_with, IsDraft};
+
+    ghost Value = { PureNetFile };
+
+    ghost coded = { coded_file };
+
+    ghost view = { λ d. file_with d.draft d.changes };
+
+    ghost invariant = { λ d. IsDraft (file_with d.draft d.changes) d.arc_count };
+}
+
+impl FileDraft {
+    /// What no line gives.
+    pub fn new(alloc: Global, alg: Alg) -> FileDraft
+        ensures { result ≡ empty_file alg }
+    {
+        FileDraft {
+            alloc,
+            draft: NetDraft::new(alloc, alg),
+            changes: List::new(alloc),
+            arc_count: 0,
+        }
+    }
+
+    /// The network and its changes.
+    pub fn finish(self) -> Result<NetFile, NoMemory>
+        ensures file { IfOk result (λ file. pure_file file ≡ self) }
+        ensures changes { AreChanges self.net self.changes }
+    {
+        let FileDraft { draft, changes, .. } = self;
+        Ok(NetFile {
+            net: draft.finish()?,
+            changes,
+        })
+    }
+
+    /// Adds what the line asks for. After an error some of it may have been added.
+    pub fn add_line(&mut self, line: &[u8]) -> Result<(), LineError>
+        ensures ok { OnOk result (after_line self.old line.now ≡ Ok self.new) }
+        ensures bad { IfErr result (IsRefusedAs (after_line self.old line.now)) }
+    {
+        if line.len() > MAX_LINE_BYTES {
+            return Err(LineError::Bad(NetKind::BadLine));
+        }
+        match line_form(said(line)) {
+            Line::Silent => Ok(()),
+            Line::Network(line) => self.add_to_network(line),
+            Line::ThenLink {
+                listener,
+                speaker,
+                label,
+            } => self.add_then_link(listener, speaker, label),
+            Line::ThenDrop { listener, speaker } => self.add_then_drop(listener, speaker),
+            Line::Bad => Err(LineError::Bad(NetKind::BadLine)),
+        }
+    }
+
+    // A line of the network, which stands before all changes.
+    #[tactic(auto, using(crate::proofs::Steps::late, crate::proofs::Steps::early_ok, crate::proofs::Steps::early_bad))]
+    fn add_to_network(&mut self, line: NetLine<'_>) -> Result<(), LineError>
+        requires { NamesDest line }
+        ensures ok { OnOk result (after_form self.old (pure_net_line line.entry) ≡ Ok self.new) }
+        ensures bad { IfErr result (IsRefusedAs (after_form self.old (pure_net_line line.entry))) }
+    {
+        if !self.changes.as_slice().is_empty() {
+            return Err(late_fault(line));
+        }
+        // The arcs are counted after a refusal too: of two, one may have been added.
+        let added = add_net_line(self.alloc, &mut self.draft, line);
+        self.arc_count = self.draft.arc_count();
+        added
+    }
+
+    // The arc gets this label behind the changes so far, or is added.
+    #[tactic(auto, using(crate::proofs::Steps::link_made))]
+    fn add_then_link(
+        &mut self,
+        listener: &[u8],
+        speaker: &[u8],
+        label: &[u8],
+    ) -> Result<(), LineError>
+        ensures ok { OnOk result (after_then_link self.old listener.now speaker.now label.now ≡ Ok self.new) }
+        ensures bad { IfErr result (IsRefusedAs (after_then_link self.old listener.now speaker.now label.now)) }
+    {
+        let (tail, head) = nodes_of(&self.draft, listener, speaker)?;
+        let label = label_of(self.alloc, self.draft.alg(), label)?;
+        let arc_count = self.count_with(tail, head)?;
+        self.add_change(Change::Link { tail, head, label }, arc_count)
+    }
+
+    // The arc is taken out behind the changes so far.
+    #[tactic(auto, using(crate::proofs::Steps::drop_made, crate::proofs::Steps::dropped))]
+    fn add_then_drop(&mut self, listener: &[u8], speaker: &[u8]) -> Result<(), LineError>
+        ensures ok { OnOk result (after_then_drop self.old listener.now speaker.now ≡ Ok self.new) }
+        ensures bad { IfErr result (IsRefusedAs (after_then_drop self.old listener.now speaker.now)) }
+    {
+        let (tail, head) = nodes_of(&self.draft, listener, speaker)?;
+        if !self.has_arc(tail, head) {
+            return Err(LineError::Bad(NetKind::NoArc));
+        }
+        self.add_change(Change::Drop { tail, head }, self.arc_count - 1)
+    }
+
+    // One change more, behind which there are so many arcs.
+    fn add_change(&mut self, change: Change, arc_count: usize) -> Result<(), LineError>
+        requires may { MayChange (changed_net self.old) (pure_change change) }
+        requires count { arc_count ≡ length (changed (changed_net self.old) (pure_change change)).arcs }
+        ensures ok { OnOk result (with_change self.old (pure_change change) ≡ Ok self.new) }
+        ensures bad { IfErr result (IsRefusedAs (with_change self.old (pure_change change))) }
+    {
+        if self.changes.as_slice().len() >= max_changes(self.draft.edition()) {
+            return Err(LineError::Bad(NetKind::TooMany(What::Changes)));
+        }
+        self.changes.push(change)?;
+        self.arc_count = arc_count;
+        Ok(())
+    }
+
+    // How many arcs there are if this one gets a label behind the changes so far.
+    #[tactic(auto, using(crate::proofs::Steps::linked, crate::proofs::Steps::added))]
+    fn count_with(&self, tail: NodeId, head: NodeId) -> Result<usize, LineError>
+        ensures count { IfOk result (λ count. (l : PureLabel) →
+            count ≡ length (changed (changed_net self.now) (link tail.0 head.0 l)).arcs) }
+        ensures room { OnOk result (has_room_to_link self.now tail.0 head.0 ≡ true) }
+        ensures full { OnErr result (has_room_to_link self.now tail.0 head.0 ≡ false) }
+        ensures fault { IfErr result (λ e. e ≡ Bad (TooMany Arcs)) }
+    {
+        if self.has_arc(tail, head) {
+            return Ok(self.arc_count);
+        }
+        if self.arc_count >= MAX_ARCS {
+            return Err(LineError::Bad(NetKind::TooMany(What::Arcs)));
+        }
+        Ok(self.arc_count + 1)
+    }
+
+    // Whether the arc is there behind the changes so far, which leave a network.
+    #[tactic(auto, using(crate::proofs::Steps::draft_has_arc))]
+    fn has_arc(&self, tail: NodeId, head: NodeId) -> bool
+        ensures there { result ≡ has_arc (changed_net self.now) tail.0 head.0 }
+        ensures net { IsNet (changed_net self.now) }
+    {
+        is_there_behind_all(
+            self.draft.has_arc(tail, head),
+            self.changes.as_slice(),
+            tail,
+            head,
+        )
+    }
+}
+
+// Whether the arc is there behind these changes, by whether it is there before them.
+fn is_there_behind_all(is_there: bool, changes: &[Change], tail: NodeId, head: NodeId) -> bool
+    ensures { result ≡ is_there_behind_all tail.0 head.0 (map pure_change changes.now) is_there }
+{
+    let mut is_there = is_there;
+    let mut rest = changes;
+    while let [change, later @ ..] = rest {
+        is_there = is_there_behind(is_there, change, tail, head);
+        rest = later;
+    }
+    is_there
+}
+
+// The same of one change.
+fn is_there_behind(is_there: bool, change: &Change, tail: NodeId, head: NodeId) -> bool
+    ensures { result ≡ is_there_behind tail.0 head.0 (pure_change change.now) is_there }
+{
+    match change {
+        Change::Link {
+            tail: t,
+            head: h,
+            ..
+        } => is_there || (*t == tail && *h == head),
+        Change::Drop { tail: t, head: h } => is_there && !(*t == tail && *h == head),
+    }
+}
+
+// The fault of a line of the network behind a change: a word that is no name comes before it.
+fn late_fault(line: NetLine<'_>) -> LineError
+    ensures { result ≡ Bad (late_fault_of line.entry) }
+{
+    match line {
+        NetLine::Nodes(names) => fault_behind(NetKind::AfterThen, names),
+        NetLine::Link { .. } | NetLine::Both { .. } | NetLine::Origin { .. } => {
+            LineError::Bad(NetKind::AfterThen)
+        }
+    }
+}
