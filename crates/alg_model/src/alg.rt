@@ -51,7 +51,7 @@ pub enum Shape {
 
 /// An algebra: a tree that meets the formation rules, and none of whose numbers is above the greatest of
 /// its edition. Contracts see it as its expression and its edition.
-#[derive(Drop)]
+#[derive(Debug, Drop)]
 pub struct Alg {
     tree: Tree,
     edition: Edition,

@@ -89,7 +89,7 @@ pub trait Algebra: Sync {
 }
 
 /// The algebra by its tree: values and labels stand for themselves.
-#[derive(Drop)]
+#[derive(Debug, Drop)]
 pub struct TreeAlgebra<'a> {
     alg: &'a Alg,
 }

@@ -6,7 +6,7 @@ pub type Amount = u128;
 /// The tree of an expression of the Routing Algebra Meta-Language (Griffin and Sobrinho 2005; `Union`
 /// and `Sum` are this project's own). In what follows, small numbers are preferred unless great ones
 /// are said to be.
-#[derive(Drop)]
+#[derive(Debug, Drop)]
 pub enum Tree {
     /// `add(low..high)`: all whole numbers; a label is a number in the range, which is added.
     Add { low: u64, high: u64 },
@@ -54,7 +54,7 @@ pub enum Tree {
 }
 
 /// A table of named values and rows.
-#[derive(Drop)]
+#[derive(Debug, Drop)]
 pub struct TableSpec {
     /// The values' names, 1 to 16, which differ.
     pub names: List<Text>,
@@ -66,7 +66,7 @@ pub struct TableSpec {
 }
 
 /// A label of a table.
-#[derive(Drop)]
+#[derive(Debug, Drop)]
 pub struct TableRow {
     pub name: Text,
     /// For each value the place of its image among the values, or `None` where it is prohibited.
@@ -74,7 +74,7 @@ pub struct TableRow {
 }
 
 /// A value of an algebra's carrier: what a route is worth.
-#[derive(Drop)]
+#[derive(Debug, Drop)]
 pub enum Value {
     Number(Amount),
     /// A sequence of symbols.
@@ -93,7 +93,7 @@ pub enum Value {
 }
 
 /// A label: what an arc does to the value of a route that passes it.
-#[derive(Drop)]
+#[derive(Debug, Drop)]
 pub enum Label {
     Number(u64),
     /// Keeps the value.
@@ -129,7 +129,7 @@ pub enum Label {
 }
 
 /// The values of an algebra and their preference.
-#[derive(Drop)]
+#[derive(Debug, Drop)]
 pub enum Carrier {
     /// All whole numbers, small ones preferred.
     Whole,

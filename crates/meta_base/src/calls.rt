@@ -5,7 +5,7 @@ ghost use Rattle.meta_base.specs.Count.{raised, HasRisen};
 use crate::{Failed, List};
 
 /// The calls of an object in memory: how many there were, which of them fail, and how many did.
-#[derive(Drop)]
+#[derive(Debug, Drop)]
 pub struct Calls {
     failing: List<u64>,
     made: u64,

@@ -6,7 +6,7 @@ use std::marker::Model;
 
 /// A growing list, which contracts see as the list of its items. It is a `Vec` whose want of memory
 /// is [`NoMemory`].
-#[derive(Drop)]
+#[derive(Debug, Drop)]
 pub struct List<T> {
     items: Vec<T>,
 }

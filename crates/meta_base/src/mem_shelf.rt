@@ -8,7 +8,7 @@ use crate::calls::Calls;
 use crate::{Failed, List, Shelf, Text};
 
 /// A file in memory.
-#[derive(Drop)]
+#[derive(Debug, Drop)]
 pub struct MemFile {
     pub name: Text,
     pub bytes: List<u8>,
@@ -16,7 +16,7 @@ pub struct MemFile {
 
 /// A shelf in memory that tells all, and some of whose calls fail: for tests, and for programs that
 /// have their files in memory. No call takes memory.
-#[derive(Drop)]
+#[derive(Debug, Drop)]
 pub struct MemShelf {
     files: List<MemFile>,
     calls: Calls,

@@ -8,7 +8,7 @@ use std::alloc::Global;
 
 /// A sink in memory with so much room, which takes a bite at a time, tells all, and some of whose
 /// calls fail: for tests, and for programs that want the text in memory.
-#[derive(Drop)]
+#[derive(Debug, Drop)]
 pub struct MemSink {
     buffer: Vec<u8>,
     // How many bytes of the buffer were taken.

@@ -5,7 +5,7 @@ use std::alloc::Global;
 use std::marker::Model;
 
 /// An owned text, which contracts see as the list of its bytes.
-#[derive(Drop)]
+#[derive(Debug, Drop)]
 pub struct Text {
     text: String,
 }

@@ -30,7 +30,7 @@ pub enum Answer {
 }
 
 /// What a run came to.
-#[derive(Drop)]
+#[derive(Debug, Drop)]
 pub struct Ended {
     /// What the words asked for, where they mean a command.
     pub command: Option<Command>,

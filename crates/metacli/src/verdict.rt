@@ -45,7 +45,7 @@ impl Property {
 }
 
 /// Values at which a label lacks a property.
-#[derive(Drop)]
+#[derive(Debug, Drop)]
 pub struct Instance {
     pub property: Property,
     pub label: Label,
@@ -55,7 +55,7 @@ pub struct Instance {
 }
 
 /// Whether a property holds.
-#[derive(Drop)]
+#[derive(Debug, Drop)]
 pub enum Verdict {
     /// It holds of all labels.
     Yes,
@@ -64,7 +64,7 @@ pub enum Verdict {
 }
 
 /// A verdict on each property.
-#[derive(Drop)]
+#[derive(Debug, Drop)]
 pub struct Verdicts {
     pub monotone: Verdict,
     pub strict: Verdict,

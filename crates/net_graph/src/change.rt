@@ -10,7 +10,7 @@ use meta_base::{ArcId, NoMemory, NodeId};
 use std::alloc::Global;
 
 /// A change of a network.
-#[derive(Drop)]
+#[derive(Debug, Drop)]
 pub enum Change {
     /// The arc from `tail` to `head` gets this label in its place; if there is none, it is added as the
     /// last arc.
@@ -67,7 +67,7 @@ fn arcs_with_label(
     ensures { IfOk result (λ arcs. map pure_arc arcs.items ≡
         with_label tail.0 head.0 (pure_label label.now) net.now.arcs) }
 {
-    let mut arcs = Vec::new(alloc);
+    let mut arcs = Vec::with_capacity(alloc, net.arc_count())?;
     for id in 0..net.arc_count() {
         let arc = net.arc(ArcId(id as u32));
         arcs.push(relabel(alloc, arc, tail, head, label)?)?;
@@ -79,7 +79,7 @@ fn arcs_with_label(
 fn arcs_without(alloc: Global, net: &Net, tail: NodeId, head: NodeId) -> Result<Vec<Arc>, NoMemory>
     ensures { IfOk result (λ arcs. map pure_arc arcs.items ≡ without_arc tail.0 head.0 net.now.arcs) }
 {
-    let mut arcs = Vec::new(alloc);
+    let mut arcs = Vec::with_capacity(alloc, net.arc_count())?;
     for id in 0..net.arc_count() {
         let arc = net.arc(ArcId(id as u32));
         if !is_between(arc, tail, head) {

@@ -19,7 +19,7 @@ use std::alloc::Global;
 use std::marker::Model;
 
 /// A network that is being made, line by line. Contracts see the network that was made so far.
-#[derive(Drop)]
+#[derive(Debug, Drop)]
 pub struct NetDraft {
     alloc: Global,
     known: Known,

@@ -7,7 +7,7 @@ use std::alloc::Global;
 use std::marker::Model;
 
 // Names, numbered from 0 in order of first sight. Contracts see the list of the names.
-#[derive(Drop)]
+#[derive(Debug, Drop)]
 pub(crate) struct Names {
     names: IndexSet<Vec<u8>>,
 }

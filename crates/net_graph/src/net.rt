@@ -16,7 +16,7 @@ use std::marker::Model;
 /// A network: an algebra, nodes, destinations, arcs and origins. Contracts see the lists of these, and
 /// each network meets its rules. Only [`Net::changed`] takes memory, and every id that a call is given
 /// is below the count of its kind.
-#[derive(Drop)]
+#[derive(Debug, Drop)]
 pub struct Net {
     known: Known,
     // The arcs by their tails, and where each arc stands, in file order.
@@ -182,7 +182,7 @@ impl Net {
     fn copy_origins(&self, alloc: Global) -> Result<Vec<Origin>, NoMemory>
         ensures { IfOk result (λ origins. map pure_origin origins.items ≡ self.now.origins) }
     {
-        let mut origins = Vec::new(alloc);
+        let mut origins = Vec::with_capacity(alloc, self.origin_spots.len())?;
         for spot in &self.origin_spots {
             origins.push(self.homes.item(*spot).copy(alloc)?)?;
         }

@@ -8,7 +8,7 @@ use std::alloc::Global;
 use std::marker::Model;
 
 // Pairs of ids, in the order in which they were added. Contracts see the list of the pairs.
-#[derive(Drop)]
+#[derive(Debug, Drop)]
 pub(crate) struct Pairs {
     pairs: IndexSet<(u32, u32)>,
 }

@@ -11,7 +11,7 @@ use std::alloc::Global;
 
 /// An arc: its tail may route by its head, so the tail listens and the head speaks. The label says
 /// what the arc does to the value of a route that passes it.
-#[derive(Drop)]
+#[derive(Debug, Drop)]
 pub struct Arc {
     pub id: ArcId,
     pub tail: NodeId,
@@ -20,7 +20,7 @@ pub struct Arc {
 }
 
 /// An origin: the node has a value of its own for the destination.
-#[derive(Drop)]
+#[derive(Debug, Drop)]
 pub struct Origin {
     pub node: NodeId,
     pub dest: DestId,
@@ -50,7 +50,7 @@ fn copy_alg(alloc: Global, alg: &Alg) -> Result<Alg, NoMemory>
 }
 
 // What a network is looked up by.
-#[derive(Drop)]
+#[derive(Debug, Drop)]
 pub(crate) struct Known {
     pub alg: Alg,
     pub nodes: Names,

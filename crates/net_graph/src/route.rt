@@ -8,7 +8,7 @@ use std::alloc::Global;
 pub const MAX_ROW_NUMBER: Amount = 1 << 119;
 
 /// A route: a value, and the path from the node itself to the origin.
-#[derive(Drop)]
+#[derive(Debug, Drop)]
 pub struct Route {
     pub value: Value,
     pub path: List<NodeId>,
@@ -29,7 +29,7 @@ impl Route {
 }
 
 /// A node's route for a destination, or none.
-#[derive(Drop)]
+#[derive(Debug, Drop)]
 pub struct RouteRow {
     pub node: NodeId,
     pub dest: DestId,
@@ -37,7 +37,7 @@ pub struct RouteRow {
 }
 
 /// The routes for a destination: one row for each node of the network, in order.
-#[derive(Drop)]
+#[derive(Debug, Drop)]
 pub struct DestTable {
     pub dest: DestId,
     pub rows: List<RouteRow>,

@@ -16,7 +16,7 @@ pub struct Share {
 
 /// The book of 1 to 16 workers. Workers may use it from several threads at once, each with a share
 /// of its own.
-#[derive(Drop)]
+#[derive(Debug, Drop)]
 pub struct Book {
     base: Totals,
     workers: u32,

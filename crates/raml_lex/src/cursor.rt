@@ -6,7 +6,7 @@ use meta_base::Place;
 
 // How many bytes of the source were taken, the line there, and how many bytes stand before that line. The
 // column is told by these, so no byte of a gap is counted.
-#[derive(Clone, Copy)]
+#[derive(Clone, Copy, Debug)]
 pub struct Cursor {
     pub at: usize,
     pub line: u32,

@@ -8,7 +8,7 @@ use crate::{LexKind, TokenKind};
 use meta_base::bytes::{is_digit, is_letter};
 
 // What stands at the front: nothing, a fault, or a token with the number of its bytes.
-#[derive(Clone, Copy)]
+#[derive(Clone, Copy, Debug)]
 pub enum Front {
     End,
     Bad(LexKind),

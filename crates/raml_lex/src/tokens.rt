@@ -11,7 +11,7 @@ use std::marker::Model;
 ///
 /// Contracts see the bytes that were taken, those that are left, the greatest number that a token may
 /// hold, and the fault that was met, if one was. The text is the bytes taken and then those left.
-#[derive(Drop)]
+#[derive(Debug, Drop)]
 pub struct Tokens<'a> {
     source: &'a [u8],
     // Where it stands, behind the bytes that were taken.

@@ -15,7 +15,7 @@ use std::marker::Model;
 
 /// What the names of earlier `let`s stand for. A name is found by its hash, however many there are, and
 /// stands for the number of its tree. Contracts see the trees, and the latest definition first.
-#[derive(Drop)]
+#[derive(Debug, Drop)]
 pub struct Definitions<'a> {
     forest: Forest,
     numbers: IndexMap<&'a [u8], TreeId>,

@@ -15,20 +15,20 @@ use std::alloc::Global;
 use std::marker::Model;
 
 /// The number of a tree of a forest.
-#[derive(Clone, Copy)]
+#[derive(Clone, Copy, Debug)]
 pub struct TreeId {
     number: usize,
 }
 
 /// What a tree is made of: a base algebra, or an operator and the trees of its parts.
-#[derive(Drop)]
+#[derive(Debug, Drop)]
 pub enum Node {
     Base(Tree),
     Paired(Paired, TreeId, TreeId),
     Single(Single, TreeId),
 }
 
-#[derive(Drop)]
+#[derive(Debug, Drop)]
 struct Entry {
     node: Node,
     // The nodes of the whole tree, so that none is counted again where a name stands for it.
@@ -36,7 +36,7 @@ struct Entry {
 }
 
 /// Trees, each once. Contracts see the expressions that they mean, in the order in which they came.
-#[derive(Drop)]
+#[derive(Debug, Drop)]
 pub struct Forest {
     entries: Vec<Entry>,
 }

@@ -4,7 +4,7 @@ ghost use Rattle.raml_syntax.specs.Syntax.{ranged_word, counted_word, paired_wor
 ghost use Rattle.raml_syntax.specs.Heads.{ranged_of, counted_of, paired_of, single_of, head_word, base_words, operator_words};
 
 /// The algebras that have a top and a range.
-#[derive(Clone, Copy)]
+#[derive(Clone, Copy, Debug)]
 pub enum Ranged {
     Cap,
     Worst,
@@ -12,7 +12,7 @@ pub enum Ranged {
 }
 
 /// The algebras that have one number.
-#[derive(Clone, Copy)]
+#[derive(Clone, Copy, Debug)]
 pub enum Counted {
     Pref,
     Orig,
@@ -23,7 +23,7 @@ pub enum Counted {
 }
 
 /// The operators on two expressions.
-#[derive(Clone, Copy)]
+#[derive(Clone, Copy, Debug)]
 pub enum Paired {
     Lex,
     Scoped,
@@ -33,14 +33,14 @@ pub enum Paired {
 }
 
 /// The operators on one expression.
-#[derive(Clone, Copy)]
+#[derive(Clone, Copy, Debug)]
 pub enum Single {
     Left,
     Right,
 }
 
 /// What a first word says of the form of its expression.
-#[derive(Clone, Copy)]
+#[derive(Clone, Copy, Debug)]
 pub enum Head {
     Add,
     Ranged(Ranged),

@@ -21,7 +21,7 @@ use std::alloc::Global;
 use std::marker::Model;
 
 // What the mark behind a row leads to.
-#[derive(Clone, Copy)]
+#[derive(Clone, Copy, Debug)]
 pub enum AfterRow {
     // `;`
     Row,
@@ -30,7 +30,7 @@ pub enum AfterRow {
 }
 
 // What the mark behind a map leads to.
-#[derive(Clone, Copy)]
+#[derive(Clone, Copy, Debug)]
 pub enum AfterMap {
     // `,`
     Map,
@@ -39,7 +39,7 @@ pub enum AfterMap {
 }
 
 // `source -> target`
-#[derive(Drop)]
+#[derive(Debug, Drop)]
 pub struct Map<'a> {
     source: &'a [u8],
     target: &'a [u8],

@@ -17,7 +17,7 @@ use raml_lex::{Token, TokenKind, Tokens};
 use std::alloc::Global;
 
 // What the mark behind a value leads to.
-#[derive(Clone, Copy)]
+#[derive(Clone, Copy, Debug)]
 pub enum AfterValue {
     // `=` or `<`: a value of the same rank, or of the next.
     Value { is_tied: bool },
@@ -26,7 +26,7 @@ pub enum AfterValue {
 }
 
 // The names and ranks of the values of a table.
-#[derive(Drop)]
+#[derive(Debug, Drop)]
 pub struct ValueList {
     pub names: List<Text>,
     pub ranks: List<u8>,

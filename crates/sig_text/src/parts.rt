@@ -14,7 +14,7 @@ use meta_base::bytes::{behind_blanks, is_digit, is_letter};
 use std::alloc::Global;
 
 /// What stands at the front of a text, and behind it the rest of the text.
-#[derive(Clone, Copy)]
+#[derive(Clone, Copy, Debug)]
 pub enum Next<'a> {
     End,
     Word(&'a [u8], &'a [u8]),
@@ -92,7 +92,7 @@ pub fn word_at(text: &[u8]) -> Result<(&[u8], &[u8]), Stop>
 }
 
 /// The side that a value or a label is of.
-#[derive(Clone, Copy)]
+#[derive(Clone, Copy, Debug)]
 pub enum Side {
     First,
     Second,
@@ -112,7 +112,7 @@ pub fn side_at(text: &[u8]) -> Result<(Side, &[u8]), Stop>
 }
 
 /// Which part of a pair a label changes.
-#[derive(Clone, Copy)]
+#[derive(Clone, Copy, Debug)]
 pub enum Scope {
     /// The first, and it sets the second.
     Outer,

@@ -25,7 +25,7 @@ use std::marker::Model;
 
 /// What the lines so far give. Contracts see the network of the lines without `then`, and the changes of
 /// the others.
-#[derive(Drop)]
+#[derive(Debug, Drop)]
 pub struct FileDraft {
     alloc: Global,
     draft: NetDraft,

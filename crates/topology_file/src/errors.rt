@@ -15,7 +15,7 @@ use sig_text::{LitError, read_label, read_value};
 use std::alloc::Global;
 
 /// Why a line gave nothing.
-#[derive(Clone, Copy)]
+#[derive(Clone, Copy, Debug)]
 pub enum LineError {
     /// It breaks a rule.
     Bad(NetKind),

@@ -9,7 +9,7 @@ use crate::texts::{split_at_byte, split_word};
 
 /// What a line asks for, by its form alone. Its parts are slices of the line. All names in it are names,
 /// but for those of nodes, which are looked at as they are added.
-#[derive(Clone, Copy)]
+#[derive(Clone, Copy, Debug)]
 pub enum Line<'a> {
     /// Nothing.
     Silent,
@@ -31,7 +31,7 @@ pub enum Line<'a> {
 }
 
 /// What a line adds to the network.
-#[derive(Clone, Copy)]
+#[derive(Clone, Copy, Debug)]
 pub enum NetLine<'a> {
     /// Nodes, by the text of the words behind the first, of which there is one at least.
     Nodes(&'a [u8]),

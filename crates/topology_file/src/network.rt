@@ -17,7 +17,7 @@ use std::alloc::Global;
 pub const MAX_LINE_BYTES: usize = 4_096;
 
 /// What a network file means: a network, and the changes that come behind it.
-#[derive(Drop)]
+#[derive(Debug, Drop)]
 pub struct NetFile {
     pub net: Net,
     /// Each is one that the network behind those before it may have.

@@ -1,9 +1,13 @@
 // Tests of `net_graph` and `topology_file`: what a network holds once it is read, and what threads may
 // share of it.
+ghost use Rattle.std.specs.Prelude.{map};
+ghost use Rattle.net_graph.specs.Changes.{AreChanges};
+ghost use Rattle.net_graph.specs.Views.{pure_change};
+
 use crate::readers::{algebra, algebra_of_file, network};
-use alg_model::Value;
-use meta_base::{ArcId, DestId, List, MAX_FILE_BYTES, NodeId};
-use net_graph::{DestTable, Net, NetDraft, Route};
+use alg_model::{Label, Value};
+use meta_base::{ArcId, DestId, List, MAX_FILE_BYTES, NoMemory, NodeId};
+use net_graph::{Change, DestTable, Net, NetDraft, Route};
 use sig_text::LitFault::{BadText, NotALabel};
 use std::alloc::Global;
 use std::test::Fail;
@@ -336,5 +340,83 @@ fn destinations_are_numbered(rt: HostRuntime) -> Result<(), Fail> {
     let numbers = (net.dest_named(b"x"), net.dest_named(b"y"));
     drop(net);
     assert!(rt; numbers == (Some(DestId(0)), Some(DestId(1))));
+    Ok(())
+}
+
+// The network behind the changes, one after another.
+fn behind(alloc: Global, net: Net, changes: &[Change]) -> Result<Net, NoMemory>
+    requires { AreChanges net (map pure_change changes.now) }
+{
+    match changes {
+        [] => Ok(net),
+        [change, rest @ ..] => {
+            let changed = net.changed(alloc, change)?;
+            drop(net);
+            behind(alloc, changed, rest)
+        }
+    }
+}
+
+// The tail, the head and the label of an arc.
+type Line = (u32, u32, u64);
+
+fn is_arc(net: &Net, id: usize, line: Line) -> bool {
+    if id >= net.arc_count() {
+        return false;
+    }
+    let id = ArcId(id as u32);
+    let arc = net.arc(id);
+    let (tail, head, label) = line;
+    arc.id == id
+        && arc.tail == NodeId(tail)
+        && arc.head == NodeId(head)
+        && matches!(&arc.label, Label::Number(number) if *number == label)
+}
+
+fn are_arcs(net: &Net, lines: &[Line]) -> bool {
+    for (id, line) in lines.iter().enumerate() {
+        if !is_arc(net, id, *line) {
+            return false;
+        }
+    }
+    net.arc_count() == lines.len()
+}
+
+// Whether the arcs of the file's network are these, behind all its changes.
+fn are_arcs_behind(alloc: Global, text: &[u8], lines: &[Line]) -> Result<bool, Fail> {
+    let alg = algebra(alloc, "add(1..9)")?;
+    if text.len() > MAX_FILE_BYTES {
+        return Err("the network file is too long".into());
+    }
+    let file = read_net(alloc, alg, text)?;
+    let net = behind(alloc, file.net, file.changes.as_slice())?;
+    Ok(are_arcs(&net, lines))
+}
+
+#[test]
+fn changes_are_made(rt: HostRuntime) -> Result<(), Fail> {
+    let cases: &[(&[u8], &[Line])] = &[
+        (b"", &[(0, 1, 1), (1, 2, 2), (2, 0, 3)]),
+        (b"then link b c : 9", &[(0, 1, 1), (1, 2, 9), (2, 0, 3)]),
+        (
+            b"then link a c : 4",
+            &[(0, 1, 1), (1, 2, 2), (2, 0, 3), (0, 2, 4)],
+        ),
+        (b"then drop a b", &[(1, 2, 2), (2, 0, 3)]),
+        (
+            b"then drop a b\nthen link a b : 5",
+            &[(1, 2, 2), (2, 0, 3), (0, 1, 5)],
+        ),
+        (
+            b"then link c b : 7\nthen drop b c\nthen link c b : 8",
+            &[(0, 1, 1), (2, 0, 3), (2, 1, 8)],
+        ),
+    ];
+    for (changes, lines) in cases {
+        let mut text = Vec::new(rt.alloc());
+        text.extend_from_slice(b"node a b c\nlink a b : 1\nlink b c : 2\nlink c a : 3\n")?;
+        text.extend_from_slice(*changes)?;
+        assert!(rt; are_arcs_behind(rt.alloc(), &text, *lines)?);
+    }
     Ok(())
 }
