@@ -103,7 +103,8 @@ impl Alg {
     /// copies the whole.
     pub fn copy_part(&self, alloc: Global, part: &Tree) -> Result<Alg, NoMemory>
         requires { IsAlg (record { expression = expression_of part.now; edition = self.now.edition }) }
-        ensures { IfOk result (λ alg. alg ≡ record { expression = expression_of part.now; edition = self.now.edition }) }
+        ensures { IfOk result (λ alg.
+            alg ≡ record { expression = expression_of part.now; edition = self.now.edition }) }
     {
         Ok(Alg {
             tree: part.copy(alloc)?,

@@ -60,10 +60,11 @@ pub trait Algebra: Sync {
     fn order(&self, a: &Self::Sig, b: &Self::Sig) -> Ordering
         requires first { is_sig self.now a.now }
         requires second { is_sig self.now b.now }
-        ensures { result ≡ Order (carrier_of (expression self.now)) (sig_value self.now a.now) (sig_value self.now b.now) };
+        ensures { result ≡
+            Order (carrier_of (expression self.now)) (sig_value self.now a.now) (sig_value self.now b.now) };
 
-    /// What the label makes of the value, no number of which is above [`crate::MAX_VALUE_NUMBER`]: a value, or `None` where
-    /// it prohibits it. No number of the result is above the greatest of the value plus
+    /// What the label makes of the value, no number of which is above [`crate::MAX_VALUE_NUMBER`]: a value, or
+    /// `None` where it prohibits it. No number of the result is above the greatest of the value plus
     /// [`crate::MAX_LABEL_NUMBER`].
     fn apply(
         &self,
@@ -76,7 +77,8 @@ pub trait Algebra: Sync {
         requires small { AtMost MAX_VALUE_NUMBER (sig_value self.now sig.now) }
         ensures sig { IfOk result (λ image. IfSome image (is_sig self.now)) }
         ensures image { (l : PureLabel) → stands_for self.now lab.now l →
-            IfOk result (λ image. option_map (sig_value self.now) image ≡ App (expression self.now) l (sig_value self.now sig.now)) }
+            IfOk result (λ image.
+                option_map (sig_value self.now) image ≡ App (expression self.now) l (sig_value self.now sig.now)) }
         ensures bound { (n : ℕ) → AtMost n (sig_value self.now sig.now) →
             IfOk result (λ image. IfSome image (λ s. AtMost (n + MAX_LABEL_NUMBER) (sig_value self.now s))) };
 
@@ -114,7 +116,8 @@ impl<'a> Algebra for TreeAlgebra<'a> {
 
     ghost is_sig = { λ s v. In (carrier_of s.alg.now.expression) (pure_value v) };
 
-    ghost stands_for = { λ s label l. (pure_label label ≡ l) × IsLabel s.alg.now.expression l × LabelAtMost MAX_LABEL_NUMBER l };
+    ghost stands_for = { λ s label l.
+        (pure_label label ≡ l) × IsLabel s.alg.now.expression l × LabelAtMost MAX_LABEL_NUMBER l };
 
     ghost sig_in = { λ s v i. i };
 

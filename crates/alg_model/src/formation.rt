@@ -128,7 +128,8 @@ pub fn meets_carriers(tree: &Tree) -> bool
 /// How much room for nodes the tree leaves, if it has room.
 #[tactic(auto, using(crate::proofs::Nodes::some_node))]
 pub fn room_behind(tree: &Tree, room: usize) -> Option<usize>
-    ensures { MatchOption result (room < node_count (expression_of tree.now)) (λ left. left + node_count (expression_of tree.now) ≡ room) }
+    ensures { MatchOption result (room < node_count (expression_of tree.now))
+        (λ left. left + node_count (expression_of tree.now) ≡ room) }
 {
     let room = room.checked_sub(1)?;
     match tree {

@@ -5,3 +5,4 @@ pub mod MemFiles
 pub mod MemShelves
 pub mod MemSinks
 pub mod Bytes
+pub mod Appending

@@ -1,7 +1,8 @@
 -- What a shelf in memory shows.
-use Rattle.std.specs.Prelude.{ℕ, List, [], drop, Bool, true, ◌==◌}
+use Rattle.std.specs.Prelude.{ℕ, List, [], drop, Bool, true, ◌==◌, if◌then◌else◌}
 use Rattle.std.specs.List.{list_any}
 use Rattle.std.specs.Option.{option_map_or}
+use Rattle.meta_base.specs.Count.{raised}
 use Rattle.meta_base.specs.Shelf.{Moment}
 use Rattle.meta_base.specs.MemFiles.{bytes_at, bytes_named}
 use Rattle.meta_base.specs.declared.mem_shelf.MemFile.{MemFile}
@@ -21,6 +22,10 @@ calls_of s = s.calls.made
 -- the next call fails
 abbrev pub fails_now : MemShelf → Bool
 fails_now s = list_any (λ n. n == s.calls.made) s.calls.failing
+
+-- the count of faults behind the next call
+abbrev pub faults_next : MemShelf → ℕ
+faults_next s = if fails_now s then raised s.calls.faults 1 else s.calls.faults
 
 abbrev pub moment_of : MemShelf → Moment
 moment_of s = record {

@@ -1,6 +1,7 @@
 -- What a sink in memory shows.
-use Rattle.std.specs.Prelude.{ℕ, ◌-◌, List, take, Bool, true, ◌==◌, ◌||◌, vec_len}
+use Rattle.std.specs.Prelude.{ℕ, ◌-◌, List, length, take, min, Bool, true, ◌==◌, ◌||◌, if◌then◌else◌, vec_len}
 use Rattle.std.specs.List.{list_any}
+use Rattle.meta_base.specs.Count.{raised}
 use Rattle.meta_base.specs.Sink.{Held}
 use Rattle.meta_base.specs.declared.mem_sink.MemSink.{MemSink}
 
@@ -27,6 +28,18 @@ taken_by s = take s.len s.buffer.items
 -- the next write of a piece that isn't empty fails
 abbrev pub refuses_now : MemSink → Bool
 refuses_now s = vec_len s.buffer - s.len == 0 || list_any (λ n. n == s.calls.made) s.calls.failing
+
+-- how many faults, and how many writes, there are behind the next write of so many bytes; an empty piece is no
+-- write
+abbrev pub faults_next : ℕ → MemSink → ℕ
+faults_next n s = if n == 0 then s.calls.faults else (if refuses_now s then raised s.calls.faults 1 else s.calls.faults)
+
+abbrev pub writes_next : ℕ → MemSink → ℕ
+writes_next n s = if n == 0 then s.calls.made else raised s.calls.made 1
+
+-- how many bytes the next write of so many takes, unless it fails
+abbrev pub amount_next : ℕ → MemSink → ℕ
+amount_next n s = min (min n s.bite) (room_of s - length (taken_by s))
 
 abbrev pub held_by : MemSink → Held
 held_by s = record { tells = true; bytes = taken_by s; faults = s.calls.faults }

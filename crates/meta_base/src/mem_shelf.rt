@@ -31,7 +31,7 @@ pub struct MemShelf {
 }
 
 impl MemShelf {
-    ghost use Rattle.meta_base.specs.MemShelves.{files_of, failing_of, calls_of, fails_now, moment_of};
+    ghost use Rattle.meta_base.specs.MemShelves.{files_of, failing_of, calls_of, fails_now, faults_next, moment_of};
 
     /// A shelf of these files, of which the first of a name counts. Calls of `begin` and `read` are
     /// numbered together from 0; those whose numbers are in `failing` fail and raise the count of
@@ -88,14 +88,15 @@ fn bytes_begun(files: &[MemFile], begun: Option<usize>) -> &[u8]
 }
 
 impl Shelf for MemShelf {
-    ghost use Rattle.meta_base.specs.MemShelves.{files_of, failing_of, calls_of, fails_now, moment_of};
+    ghost use Rattle.meta_base.specs.MemShelves.{files_of, failing_of, calls_of, fails_now, faults_next, moment_of};
 
     ghost now_is = { moment_of };
 
     fn begin(&mut self, name: &str) -> Result<(), Failed>
         ensures begins { Begins (moment_of self.old) name.now (moment_of self.new) result }
-        ensures answer { is_ok result ≡ (not (fails_now self.old) && is_some (bytes_named name.now (files_of self.old))) }
-        ensures faults { (moment_of self.new).faults ≡ (if fails_now self.old then raised (moment_of self.old).faults 1 else (moment_of self.old).faults) }
+        ensures answer { is_ok result ≡
+            (not (fails_now self.old) && is_some (bytes_named name.now (files_of self.old))) }
+        ensures faults { (moment_of self.new).faults ≡ faults_next self.old }
         ensures calls { calls_of self.new ≡ raised (calls_of self.old) 1 }
         ensures failing { failing_of self.new ≡ failing_of self.old }
         ensures files { files_of self.new ≡ files_of self.old }
@@ -120,7 +121,7 @@ impl Shelf for MemShelf {
         ensures read { HasRead (moment_of self.old) buf.old result (moment_of self.new) buf.new }
         ensures answer { is_ok result ≡ not (fails_now self.old) }
         ensures amount { IfOk result (λ n. n ≡ min (length (moment_of self.old).rest) (length buf.old)) }
-        ensures faults { (moment_of self.new).faults ≡ (if fails_now self.old then raised (moment_of self.old).faults 1 else (moment_of self.old).faults) }
+        ensures faults { (moment_of self.new).faults ≡ faults_next self.old }
         ensures calls { calls_of self.new ≡ raised (calls_of self.old) 1 }
         ensures failing { failing_of self.new ≡ failing_of self.old }
         ensures files { files_of self.new ≡ files_of self.old }

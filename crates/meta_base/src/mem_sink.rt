@@ -64,16 +64,16 @@ impl MemSink {
 }
 
 impl Sink for MemSink {
-    ghost use Rattle.meta_base.specs.MemSinks.{room_of, bite_of, failing_of, writes_of, taken_by, held_by, refuses_now};
+    ghost use Rattle.meta_base.specs.MemSinks.{room_of, bite_of, failing_of, writes_of, taken_by, held_by, refuses_now, faults_next, writes_next, amount_next};
 
     ghost holds = { held_by };
 
     fn write(&mut self, piece: &[u8]) -> Result<usize, Failed>
         ensures written { HasWritten (held_by self.old) piece.now result (held_by self.new) }
         ensures answer { is_ok result ≡ (length piece.now == 0 || not (refuses_now self.old)) }
-        ensures amount { IfOk result (λ n. n ≡ min (min (length piece.now) (bite_of self.old)) (room_of self.old - length (taken_by self.old))) }
-        ensures faults { (held_by self.new).faults ≡ (if length piece.now == 0 then (held_by self.old).faults else (if refuses_now self.old then raised (held_by self.old).faults 1 else (held_by self.old).faults)) }
-        ensures writes { writes_of self.new ≡ (if length piece.now == 0 then writes_of self.old else raised (writes_of self.old) 1) }
+        ensures amount { IfOk result (λ n. n ≡ amount_next (length piece.now) self.old) }
+        ensures faults { (held_by self.new).faults ≡ faults_next (length piece.now) self.old }
+        ensures writes { writes_of self.new ≡ writes_next (length piece.now) self.old }
         ensures failing { failing_of self.new ≡ failing_of self.old }
         ensures room { room_of self.new ≡ room_of self.old }
         ensures bite { bite_of self.new ≡ bite_of self.old }

@@ -1,11 +1,12 @@
 ghost use Rattle.std.specs.Prelude.{◌≡◌, ◌++◌, OnErr, OnOk, decimal, string_bytes};
+ghost use Rattle.meta_base.specs.Appending.{Gains};
 
 use crate::NoMemory;
 use itoa::Buffer;
 
 /// Appends a number in base ten, with no leading zero. After a refusal nothing was appended.
 pub fn push_number(out: &mut String, n: u128) -> Result<(), NoMemory>
-    ensures number { OnOk result (string_bytes out.new ≡ string_bytes out.old ++ decimal n) }
+    ensures number { OnOk result (Gains out.old (decimal n) out.new) }
     ensures err { OnErr result (string_bytes out.new ≡ string_bytes out.old) }
 {
     out.push_str(Buffer::new().format(n))?;

@@ -13,8 +13,8 @@ const CHUNK: usize = 16384;
 ///
 /// It begins one file, and each read is offered a buffer of 16,384 bytes. [`TakeError::Fault`] comes only
 /// where the shelf's count of faults rose or where the shelf tells that it has no such file, and before the
-/// file's end was found; after any other answer the count is as it was. [`TakeError::TooLong`] comes exactly where more than `limit`
-/// bytes were taken. The file stays begun, read as far as the answer needed.
+/// file's end was found; after any other answer the count is as it was. [`TakeError::TooLong`] comes exactly
+/// where more than `limit` bytes were taken. The file stays begun, read as far as the answer needed.
 pub fn take_all<S: Shelf>(
     alloc: Global,
     shelf: &mut S,
@@ -27,8 +27,10 @@ pub fn take_all<S: Shelf>(
     // It begins one file, and no call failed unless that is answered.
     ensures begins { (S.now_is shelf.new).begun ≡ raised (S.now_is shelf.old).begun 1 }
     ensures no_fault { IfOk result (λ _. (S.now_is shelf.new).faults ≡ (S.now_is shelf.old).faults) }
-    ensures no_fault_long { IsErrOf result TakeError.TooLong → (S.now_is shelf.new).faults ≡ (S.now_is shelf.old).faults }
-    ensures no_fault_memory { IsErrOf result TakeError.NoMemory → (S.now_is shelf.new).faults ≡ (S.now_is shelf.old).faults }
+    ensures no_fault_long { IsErrOf result TakeError.TooLong →
+        (S.now_is shelf.new).faults ≡ (S.now_is shelf.old).faults }
+    ensures no_fault_memory { IsErrOf result TakeError.NoMemory →
+        (S.now_is shelf.new).faults ≡ (S.now_is shelf.old).faults }
 
     // Each refusal has its cause.
     ensures fault { IsErrOf result TakeError.Fault →
@@ -42,7 +44,8 @@ pub fn take_all<S: Shelf>(
     // What is taken is the file, to its end.
     ensures count { IfOk result (λ bytes. length bytes ≡ (S.now_is shelf.new).taken) }
     ensures end { OnOk result ((S.now_is shelf.new).ended ≡ true) }
-    ensures whole { IfOk result (λ bytes. IsTrue (S.now_is shelf.old).tells → (S.now_is shelf.old).file name.now ≡ Some bytes) }
+    ensures whole { IfOk result (λ bytes.
+        IsTrue (S.now_is shelf.old).tells → (S.now_is shelf.old).file name.now ≡ Some bytes) }
 {
     let mut bytes = Vec::new(alloc);
     let mut chunk = [0u8; CHUNK];

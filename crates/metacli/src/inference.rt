@@ -19,7 +19,8 @@ use std::alloc::Global;
 /// edition, and none of its values above [`alg_model::MAX_INSTANCE_NUMBER`].
 pub fn verdicts(_alloc: Global, alg: &Alg) -> Result<Verdicts, NoMemory>
     requires { IsPlainAdd alg.now.expression }
-    ensures exact { IfOk result (λ verdicts. ExactFor alg.now.expression (IsLabel alg.now.expression) (pure_verdicts verdicts)) }
+    ensures exact { IfOk result (λ verdicts.
+        ExactFor alg.now.expression (IsLabel alg.now.expression) (pure_verdicts verdicts)) }
     ensures bound { IfOk result (λ verdicts.
         VerdictsAtMost (greatest_number alg.now.edition) MAX_INSTANCE_NUMBER (pure_verdicts verdicts)) }
 {

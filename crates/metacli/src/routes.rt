@@ -23,7 +23,8 @@ pub fn routes_behind(
 ) -> Result<List<RouteRow>, NoMemory>
     requires plain { IsPlainAdd net.now.alg.expression }
     requires changes { AreChanges net.now (map pure_change changes.now) }
-    ensures routes { IfOk result (λ rows. AreRoutesOn (after_all net.now (map pure_change changes.now)) (map pure_row rows)) }
+    ensures routes { IfOk result (λ rows.
+        AreRoutesOn (after_all net.now (map pure_change changes.now)) (map pure_row rows)) }
     ensures rows { IfOk result (λ rows. AllByRecursion (IsRowOf net.now) (map pure_row rows)) }
 {
     match changes {
@@ -40,7 +41,8 @@ pub fn routes_behind(
 // The routes of all nodes for all destinations.
 fn all_routes(alloc: Global, net: &Net) -> Result<List<RouteRow>, NoMemory>
     requires { IsPlainAdd net.now.alg.expression }
-    ensures routes { IfOk result (λ rows. AreRoutesOn net.now (map pure_row rows)) }
+    ensures routes { IfOk result (λ rows.
+        AreRoutesOn net.now (map pure_row rows)) }
     ensures rows { IfOk result (λ rows. AllByRecursion (IsRowOf net.now) (map pure_row rows)) }
 {
     best_first_is_optimal();

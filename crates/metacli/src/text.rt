@@ -1,5 +1,6 @@
 // The texts that are printed.
 ghost use Rattle.std.specs.Prelude.{◌≡◌, true, map, ◌<◌, ◌≤◌, ◌++◌, ◌^◌, length, codes, decimal, string_bytes, option_copied, OnOk, IfOk};
+ghost use Rattle.meta_base.specs.Appending.{Gains};
 ghost use Rattle.alg_model.specs.declared.edition.TheConstants.{MAX_LABEL_NUMBER};
 ghost use Rattle.alg_model.specs.declared.alg.TheConstants.{MAX_VALUE_NUMBER};
 ghost use Rattle.meta_base.specs.Sink.{Puts};
@@ -8,7 +9,7 @@ ghost use Rattle.alg_model.specs.Bounds.{AtMost, LabelAtMost};
 ghost use Rattle.alg_model.specs.Carriers.{carrier_of, In};
 ghost use Rattle.alg_model.specs.Application.{IsLabel, App};
 ghost use Rattle.alg_model.specs.Texts.{value_text, label_text};
-ghost use Rattle.net_graph.specs.Nets.{is_name};
+
 ghost use Rattle.net_graph.specs.Views.{pure_row};
 ghost use Rattle.net_graph.specs.RowTexts.{AreNodesOf, IsRowOf, node_text, dest_text, path_text, route_text, row_text};
 ghost use Rattle.metacli.specs.Views.{pure_property, pure_instance, pure_verdict, pure_verdicts};
@@ -20,7 +21,6 @@ use meta_base::{DestId, Failed, NoMemory, NodeId, Sink, Text, Which, push_number
 use net_graph::{Net, RouteRow};
 use sig_text::{push_label, push_value};
 use std::alloc::Global;
-use std::str;
 
 // The text of what a label makes of a value.
 fn push_image(
@@ -34,8 +34,9 @@ fn push_image(
     requires value { In (carrier_of alg.now.expression) (pure_value value.now) }
     requires small_label { LabelAtMost MAX_LABEL_NUMBER (pure_label label.now) }
     requires small_value { AtMost MAX_VALUE_NUMBER (pure_value value.now) }
-    ensures { OnOk result (string_bytes out.new ≡ string_bytes out.old
-        ++ image_text (carrier_of alg.now.expression) (App alg.now.expression (pure_label label.now) (pure_value value.now))) }
+    ensures { OnOk result (Gains out.old
+        (image_text (carrier_of alg.now.expression) (App alg.now.expression (pure_label label.now) (pure_value value.now)))
+        out.new) }
 {
     match apply(alloc, alg, label, value)? {
         Some(image) => push_value(out, alg, &image),
@@ -50,7 +51,7 @@ fn push_instance(
     instance: &Instance,
 ) -> Result<(), NoMemory>
     requires { CanPrint alg.now.expression (pure_instance instance.now) }
-    ensures { OnOk result (string_bytes out.new ≡ string_bytes out.old ++ instance_text alg.now.expression (pure_instance instance.now)) }
+    ensures { OnOk result (Gains out.old (instance_text alg.now.expression (pure_instance instance.now)) out.new) }
 {
     push_label(out, alg, &instance.label)?;
     out.push_str(" on ")?;
@@ -76,7 +77,8 @@ fn push_verdict(
     verdict: &Verdict,
 ) -> Result<(), NoMemory>
     requires { CanPrintVerdict alg.now.expression (pure_verdict verdict.now) }
-    ensures { OnOk result (string_bytes out.new ≡ string_bytes out.old ++ verdict_text alg.now.expression word.now (pure_verdict verdict.now)) }
+    ensures { OnOk result (Gains out.old
+        (verdict_text alg.now.expression word.now (pure_verdict verdict.now)) out.new) }
 {
     out.push_str(word)?;
     match verdict {
@@ -99,8 +101,8 @@ fn push_verdicts(
     properties: &[Property],
 ) -> Result<(), NoMemory>
     requires { CanPrintVerdicts alg.now.expression (pure_verdicts verdicts.now) }
-    ensures { OnOk result (string_bytes out.new ≡ string_bytes out.old
-        ++ lines_on alg.now.expression (pure_verdicts verdicts.now) (map pure_property properties.now)) }
+    ensures { OnOk result (Gains out.old
+        (lines_on alg.now.expression (pure_verdicts verdicts.now) (map pure_property properties.now)) out.new) }
 {
     match properties {
         [] => Ok(()),
@@ -121,37 +123,24 @@ pub fn verdict_lines(alloc: Global, alg: &Alg, verdicts: &Verdicts) -> Result<Te
     Ok(Text::from_string(out))
 }
 
-// Appends a name, all of whose bytes are ASCII.
-fn push_name(out: &mut String, name: &[u8]) -> Result<(), NoMemory>
-    requires { is_name name.now ≡ true }
-    ensures { OnOk result (string_bytes out.new ≡ string_bytes out.old ++ name.now) }
-{
-    match str::from_utf8(name) {
-        Ok(name) => Ok(out.push_str(name)?),
-        Err(_) => unreachable!(),
-    }
-}
-
 fn push_node(out: &mut String, net: &Net, node: NodeId) -> Result<(), NoMemory>
     requires { node.0 < length net.now.nodes }
-    ensures { OnOk result (string_bytes out.new ≡ string_bytes out.old ++ node_text net.now node.0) }
+    ensures { OnOk result (Gains out.old (node_text net.now node.0) out.new) }
 {
-    let _count = net.node_count();
-    push_name(out, net.node_name(node))
+    Ok(out.push_str(net.node_text(node))?)
 }
 
 fn push_dest(out: &mut String, net: &Net, dest: DestId) -> Result<(), NoMemory>
     requires { dest.0 < length net.now.dests }
-    ensures { OnOk result (string_bytes out.new ≡ string_bytes out.old ++ dest_text net.now dest.0) }
+    ensures { OnOk result (Gains out.old (dest_text net.now dest.0) out.new) }
 {
-    let _count = net.node_count();
-    push_name(out, net.dest_name(dest))
+    Ok(out.push_str(net.dest_text(dest))?)
 }
 
 // The names of the nodes of a path, each behind a space.
 fn push_path(out: &mut String, net: &Net, path: &[NodeId]) -> Result<(), NoMemory>
     requires { AreNodesOf net.now (map (λ node. node.0) path.now) }
-    ensures { OnOk result (string_bytes out.new ≡ string_bytes out.old ++ path_text net.now (map (λ node. node.0) path.now)) }
+    ensures { OnOk result (Gains out.old (path_text net.now (map (λ node. node.0) path.now)) out.new) }
 {
     match path {
         [] => Ok(()),
@@ -166,7 +155,7 @@ fn push_path(out: &mut String, net: &Net, path: &[NodeId]) -> Result<(), NoMemor
 // The value and the path of a row, or the word none.
 fn push_route(out: &mut String, net: &Net, row: &RouteRow) -> Result<(), NoMemory>
     requires { IsRowOf net.now (pure_row row.now) }
-    ensures { OnOk result (string_bytes out.new ≡ string_bytes out.old ++ route_text net.now (pure_row row.now).route) }
+    ensures { OnOk result (Gains out.old (route_text net.now (pure_row row.now).route) out.new) }
 {
     match &row.route {
         None => Ok(out.push_str("none")?),

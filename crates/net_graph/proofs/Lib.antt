@@ -4,3 +4,4 @@ pub mod CutLemmas
 pub mod NetLemmas
 pub mod FiledLemmas
 pub mod CopyLemmas
+pub mod NameTexts

@@ -1,23 +1,28 @@
-ghost use Rattle.std.specs.Prelude.{◌≡◌, ◌<◌, ◌^◌, ◌++◌, ◌∷◌, [], ℕ, List, Some, None, length, slice_get, IfOk, OnOk, OnErr};
-ghost use Rattle.net_graph.specs.Nets.{number_of};
+ghost use Rattle.std.specs.Prelude.{◌≡◌, ◌<◌, ◌^◌, ◌++◌, ◌∷◌, [], ℕ, List, Some, None, length, slice_get, true, IfOk, OnOk, OnErr};
+ghost use Rattle.net_graph.specs.Nets.{is_name, number_of};
 
 use indexmap::IndexSet;
-use meta_base::NoMemory;
+use meta_base::{NoMemory, Text};
 use std::alloc::Global;
 use std::marker::Model;
+use std::str;
 
 // Names, numbered from 0 in order of first sight. Contracts see the list of the names.
 #[derive(Debug, Drop)]
 pub(crate) struct Names {
     names: IndexSet<Vec<u8>>,
+    // The same names, as they are printed.
+    texts: Vec<Text>,
 }
 
 impl Model for Names {
-    ghost use Rattle.std.specs.Prelude.{List, ℕ, map};
+    ghost use Rattle.std.specs.Prelude.{◌≡◌, List, ℕ, map};
 
     ghost Value = { List (List ℕ) };
 
     ghost view = { λ s. map (λ v. v.items) s.names.keys };
+
+    ghost invariant = { λ s. s.texts.items ≡ map (λ v. v.items) s.names.keys };
 }
 
 impl Names {
@@ -27,6 +32,7 @@ impl Names {
     {
         Names {
             names: IndexSet::new(alloc),
+            texts: Vec::new(alloc),
         }
     }
 
@@ -56,22 +62,35 @@ impl Names {
         self.names.as_slice()[number].as_slice()
     }
 
+    // The name of that number, as it is printed.
+    pub fn text(&self, number: usize) -> &str
+        requires { number < length self.now }
+        ensures { slice_get self.now number ≡ Some result.now }
+    {
+        self.texts[number].as_str()
+    }
+
     // Adds a name that isn't there. After a refusal nothing has changed.
     pub fn add(&mut self, alloc: Global, name: &[u8]) -> Result<(), NoMemory>
-        requires { number_of self.old name.now ≡ None }
+        requires name { is_name name.now ≡ true }
+        requires absent { number_of self.old name.now ≡ None }
         ensures ok { OnOk result (self.new ≡ self.old ++ name.now ∷ []) }
         ensures err { OnErr result (self.new ≡ self.old) }
     {
+        let text = Text::copy(alloc, as_text(name))?;
+        self.texts.reserve(1)?;
         self.names.insert(Vec::from_slice(alloc, name)?)?;
+        self.texts.push(text).unwrap();
         Ok(())
     }
 
     // The same names.
-    pub fn copy(&self) -> Result<Names, NoMemory>
+    pub fn copy(&self, alloc: Global) -> Result<Names, NoMemory>
         ensures { IfOk result (λ copied. copied ≡ self.now) }
     {
         Ok(Names {
             names: self.names.clone()?,
+            texts: copy_texts(alloc, &self.texts)?,
         })
     }
 
@@ -80,5 +99,27 @@ impl Names {
         ensures { (names : List (List ℕ)) (name : List ℕ) → self.old ≡ names ++ name ∷ [] → self.new ≡ names }
     {
         let _ = self.names.pop();
+        let _ = self.texts.pop();
     }
+}
+
+// The name as text: all of its bytes are ASCII.
+fn as_text(name: &[u8]) -> &str
+    requires { is_name name.now ≡ true }
+    ensures { result.now ≡ name.now }
+{
+    match str::from_utf8(name) {
+        Ok(name) => name,
+        Err(_) => unreachable!(),
+    }
+}
+
+fn copy_texts(alloc: Global, texts: &[Text]) -> Result<Vec<Text>, NoMemory>
+    ensures { IfOk result (λ copied. copied.items ≡ texts.now) }
+{
+    let mut copied = Vec::with_capacity(alloc, texts.len())?;
+    for text in texts {
+        copied.push(Text::copy(alloc, text.as_str())?)?;
+    }
+    Ok(copied)
 }

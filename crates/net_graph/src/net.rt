@@ -50,6 +50,7 @@ impl Net {
     ghost use Rattle.net_graph.specs.Changes.{changed, MayChange};
     ghost use Rattle.net_graph.specs.Parts.{IsKnown, IsFiled};
     ghost use Rattle.net_graph.specs.NetParts.{net_in};
+    ghost use Rattle.net_graph.specs.RowTexts.{node_text, dest_text};
 
     // The network of these parts.
     pub(crate) fn from_parts(known: Known, lines: FiledLines) -> Net
@@ -208,6 +209,22 @@ impl Net {
         ensures is_name { is_name result.now ≡ true }
     {
         self.known.nodes.name(node.0 as usize)
+    }
+
+    /// Lends the name of the node as text, as it is printed.
+    pub fn node_text(&self, node: NodeId) -> &str
+        requires { node.0 < length self.now.nodes }
+        ensures { result.now ≡ node_text self.now node.0 }
+    {
+        self.known.nodes.text(node.0 as usize)
+    }
+
+    /// Lends the name of the destination as text, as it is printed.
+    pub fn dest_text(&self, dest: DestId) -> &str
+        requires { dest.0 < length self.now.dests }
+        ensures { result.now ≡ dest_text self.now dest.0 }
+    {
+        self.known.dests.text(dest.0 as usize)
     }
 
     /// Lends the name of the destination.

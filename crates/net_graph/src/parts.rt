@@ -1,5 +1,5 @@
-ghost use Rattle.std.specs.Prelude.{◌≡◌, ◌<◌, ◌^◌, ◌++◌, ◌∷◌, [], ℕ, false, length, option_map, IfOk, OnOk, OnErr};
-ghost use Rattle.net_graph.specs.Nets.{number_of};
+ghost use Rattle.std.specs.Prelude.{◌≡◌, ◌<◌, ◌^◌, ◌++◌, ◌∷◌, [], ℕ, false, length, option_map, IfOk, OnOk, OnErr, true};
+ghost use Rattle.net_graph.specs.Nets.{is_name, number_of};
 ghost use Rattle.net_graph.specs.Dests.{dests_with, dest_number};
 ghost use Rattle.net_graph.specs.Pairs.{has_pair};
 
@@ -90,8 +90,8 @@ impl Known {
     {
         Ok(Known {
             alg: copy_alg(alloc, &self.alg)?,
-            nodes: self.nodes.copy()?,
-            dests: self.dests.copy()?,
+            nodes: self.nodes.copy(alloc)?,
+            dests: self.dests.copy(alloc)?,
             arc_pairs: Pairs::of_arcs(alloc, arcs)?,
             origin_pairs: self.origin_pairs.copy()?,
         })
@@ -105,6 +105,7 @@ impl Known {
         dest: &[u8],
         node: NodeId,
     ) -> Result<DestId, NoMemory>
+        requires name { is_name dest.now ≡ true }
         requires room { length self.old.dests < 2 ^ 32 }
         requires absent { has_pair self.old.origin_pairs (dest_number self.old.dests dest.now) node.0 ≡ false }
         ensures number { IfOk result (λ d. d.0 ≡ dest_number self.old.dests dest.now) }

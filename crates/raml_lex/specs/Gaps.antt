@@ -1,7 +1,7 @@
 -- What stands between two tokens: spaces, and comments. A comment runs from a `#` to the line feed that
 -- ends its line, or to the end of the text, and may hold any bytes. The first argument says whether a
 -- comment is open.
-use Rattle.std.specs.Prelude.{◌≡◌, ◌⊎◌, ◌<◌, ◌≤◌, ℕ, List, [], ◌∷◌, length, slice_index, Bool, true, false, not, ◌==◌, IsTrue, if◌then◌else◌}
+use Rattle.std.specs.Prelude.{◌≡◌, ◌⊎◌, ◌<◌, ◌≤◌, ℕ, List, [], ◌∷◌, ◌++◌, take, drop, length, slice_index, Bool, true, false, not, ◌==◌, IsTrue, if◌then◌else◌}
 use Rattle.meta_base.specs.Bytes.{is_space, is_line_feed}
 
 -- the spaces and comments at the front
@@ -15,6 +15,10 @@ abbrev pub behind_gap : Bool → List ℕ → List ℕ
 behind_gap in_comment [] = []
 behind_gap true (c ∷ cs) = behind_gap (not (is_line_feed c)) cs
 behind_gap false (c ∷ cs) = if c == 35 then behind_gap true cs else (if is_space c then behind_gap false cs else c ∷ cs)
+
+-- all that stands before a place, and the gap there
+abbrev pub passed_at : List ℕ → ℕ → List ℕ
+passed_at source at = take at source ++ gap_of false (drop at source)
 
 -- so many bytes stand before the first line feed, or all of them
 pub record IsLine (text : List ℕ) (count : ℕ) : Type 0 where

@@ -2,7 +2,7 @@
 ghost use Rattle.std.specs.Prelude.{◌≡◌, ◌+◌, ◌<◌, ◌≤◌, ◌^◌, ◌++◌, false, take, drop, length, count_by, slice_index};
 ghost use Rattle.std.specs.List.{list_all};
 ghost use Rattle.meta_base.specs.Bytes.{is_space, is_line_feed};
-ghost use Rattle.raml_lex.specs.Gaps.{gap_of, behind_gap, IsLine};
+ghost use Rattle.raml_lex.specs.Gaps.{passed_at, gap_of, behind_gap, IsLine};
 ghost use Rattle.raml_lex.specs.Sources.{IsCursor};
 
 use crate::cursor::Cursor;
@@ -26,7 +26,7 @@ fn behind_comment(source: &[u8], here: Cursor) -> Cursor
     requires mark { slice_index source.now here.at ≡ 35 }
     ensures cursor { IsCursor source.now result }
     ensures further { here.at < result.at }
-    ensures gap { take result.at source.now ++ gap_of false (drop result.at source.now) ≡ take here.at source.now ++ gap_of false (drop here.at source.now) }
+    ensures gap { passed_at source.now result.at ≡ passed_at source.now here.at }
     ensures behind { behind_gap false (drop result.at source.now) ≡ behind_gap false (drop here.at source.now) }
 {
     let (_, comment) = source.split_at(here.at);
@@ -83,7 +83,7 @@ fn behind_blocks(source: &[u8], from: Cursor) -> Cursor
     requires { IsCursor source.now from }
     ensures cursor { IsCursor source.now result }
     ensures further { from.at ≤ result.at }
-    ensures gap { take result.at source.now ++ gap_of false (drop result.at source.now) ≡ take from.at source.now ++ gap_of false (drop from.at source.now) }
+    ensures gap { passed_at source.now result.at ≡ passed_at source.now from.at }
     ensures behind { behind_gap false (drop result.at source.now) ≡ behind_gap false (drop from.at source.now) }
 {
     let mut here = from;

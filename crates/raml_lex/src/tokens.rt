@@ -27,7 +27,12 @@ impl<'a> Model for Tokens<'a> {
 
     ghost Value = { Lexer };
 
-    ghost view = { λ t. record { before = take t.here.at t.source.now; rest = drop t.here.at t.source.now; greatest = t.greatest; fault = t.fault } };
+    ghost view = { λ t. record {
+      before = take t.here.at t.source.now;
+      rest = drop t.here.at t.source.now;
+      greatest = t.greatest;
+      fault = t.fault;
+    } };
 
     ghost invariant = { λ t. IsCursor t.source.now t.here };
 }

@@ -26,9 +26,13 @@ arrow_mark _ = plain arrow
 abbrev pub sources : List MapSyntax → List (List ℕ)
 sources ms = map (λ (m : MapSyntax). m.source) ms
 
+-- the word names a value, and isn't the source of a map before
+abbrev pub is_new_source : List (List ℕ) → List (List ℕ) → List ℕ → Bool
+is_new_source names before w = is_among names w && not (is_among before w)
+
 -- the source of a map behind those of these sources
 abbrev pub source_mark : List (List ℕ) → List (List ℕ) → List ℕ → Mark
-source_mark names before w = tested (word w) BadTable (is_among names w && not (is_among before w))
+source_mark names before w = tested (word w) BadTable (is_new_source names before w)
 
 abbrev pub target_mark : List (List ℕ) → List ℕ → Mark
 target_mark names w = tested (word w) BadTable (is_none w || is_among names w)

@@ -6,7 +6,7 @@ ghost use Rattle.alg_model.specs.declared.alg.TheConstants.{MAX_TABLE_NAMES};
 ghost use Rattle.raml_lex.specs.Lexers.{Lexer};
 ghost use Rattle.raml_lex.specs.Tokens.{word};
 ghost use Rattle.raml_syntax.specs.Leaves.{IsReady};
-ghost use Rattle.raml_syntax.specs.Maps.{Maps, Target, after_map, after_row, sources, target_mark};
+ghost use Rattle.raml_syntax.specs.Maps.{Maps, Target, after_map, after_row, is_new_source, sources, target_mark};
 ghost use Rattle.raml_syntax.specs.Meaning.{image_place, place_of};
 ghost use Rattle.raml_syntax.specs.Sequences.{One, Reads, map_ok};
 ghost use Rattle.raml_syntax.specs.Syntax.{is_among, is_none};
@@ -77,7 +77,7 @@ fn is_mapped(maps: &[Map<'_>], word: &[u8]) -> bool
 // Whether the word may be the source of a map behind these.
 #[tactic(auto, using(crate::proofs::Words::among_sources))]
 fn is_source(names: &[Text], maps: &[Map<'_>], word: &[u8]) -> bool
-    ensures { result ≡ (is_among names.now word.now && not (is_among (sources maps.now) word.now)) }
+    ensures { result ≡ is_new_source names.now (sources maps.now) word.now }
 {
     is_among(names, word) && !is_mapped(maps, word)
 }
@@ -183,7 +183,8 @@ fn read_map<'a>(
 ) -> Result<Map<'a>, AlgError>
     requires { IsReady tokens.old }
     ensures ready { OnOk result (IsReady tokens.new) }
-    ensures map { ReadsBehind (is_among names.now source.entry.text.now && not (is_among (sources maps.now) source.entry.text.now)) source.entry.place (Target names.now source.entry.text.now) tokens.old result tokens.new }
+    ensures map { ReadsBehind (is_new_source names.now (sources maps.now) source.entry.text.now)
+        source.entry.place (Target names.now source.entry.text.now) tokens.old result tokens.new }
 {
     if !is_source(names, maps, source.text) {
         return Err(refused(ExprKind::BadTable, source.place));

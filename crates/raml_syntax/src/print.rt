@@ -1,5 +1,6 @@
 // Algebras as expression files.
 ghost use Rattle.std.specs.Prelude.{◌≡◌, ◌++◌, slice_index_or, decimal, codes, string_bytes, OnOk, IfOk, []};
+ghost use Rattle.meta_base.specs.Appending.{Gains};
 ghost use Rattle.alg_model.specs.Views.{expression_of};
 ghost use Rattle.raml_syntax.specs.Heads.{ranged_of, counted_of, paired_of, single_of};
 ghost use Rattle.raml_syntax.specs.Syntax.{ranged_word, counted_word, paired_word, single_word};
@@ -37,7 +38,7 @@ fn header_text(edition: Edition) -> &'static str
 
 #[cycle(trees)]
 fn push_tree(out: &mut String, tree: &Tree) -> Result<(), NoMemory>
-    ensures { OnOk result (string_bytes out.new ≡ string_bytes out.old ++ expression_text (expression_of tree.now)) }
+    ensures { OnOk result (Gains out.old (expression_text (expression_of tree.now)) out.new) }
 {
     match tree {
         Tree::Add { low, high } => push_add(out, *low, *high),
@@ -63,7 +64,8 @@ fn push_tree(out: &mut String, tree: &Tree) -> Result<(), NoMemory>
 }
 
 fn push_add(out: &mut String, low: u64, high: u64) -> Result<(), NoMemory>
-    ensures { OnOk result (string_bytes out.new ≡ string_bytes out.old ++ codes "add(" ++ decimal low ++ codes ".." ++ decimal high ++ codes ")") }
+    ensures { OnOk result (Gains out.old
+        (codes "add(" ++ decimal low ++ codes ".." ++ decimal high ++ codes ")") out.new) }
 {
     out.push_str("add(")?;
     push_number(out, u128::from(low))?;
@@ -80,7 +82,7 @@ fn push_ranged(
     low: u64,
     high: u64,
 ) -> Result<(), NoMemory>
-    ensures { OnOk result (string_bytes out.new ≡ string_bytes out.old ++ ranged_text (ranged_of head) top low high) }
+    ensures { OnOk result (Gains out.old (ranged_text (ranged_of head) top low high) out.new) }
 {
     out.push_str(ranged_word(head))?;
     out.push_str("(")?;
@@ -94,7 +96,7 @@ fn push_ranged(
 }
 
 fn push_counted(out: &mut String, head: Counted, n: u64) -> Result<(), NoMemory>
-    ensures { OnOk result (string_bytes out.new ≡ string_bytes out.old ++ counted_text (counted_of head) n) }
+    ensures { OnOk result (Gains out.old (counted_text (counted_of head) n) out.new) }
 {
     out.push_str(counted_word(head))?;
     out.push_str("(")?;
@@ -105,7 +107,9 @@ fn push_counted(out: &mut String, head: Counted, n: u64) -> Result<(), NoMemory>
 
 #[cycle(trees)]
 fn push_paired(out: &mut String, head: Paired, a: &Tree, b: &Tree) -> Result<(), NoMemory>
-    ensures { OnOk result (string_bytes out.new ≡ string_bytes out.old ++ paired_text (paired_of head) (expression_text (expression_of a.now)) (expression_text (expression_of b.now))) }
+    ensures { OnOk result (Gains out.old
+        (paired_text (paired_of head) (expression_text (expression_of a.now)) (expression_text (expression_of b.now)))
+        out.new) }
 {
     out.push_str(paired_word(head))?;
     out.push_str("(")?;
@@ -118,7 +122,8 @@ fn push_paired(out: &mut String, head: Paired, a: &Tree, b: &Tree) -> Result<(),
 
 #[cycle(trees)]
 fn push_single(out: &mut String, head: Single, a: &Tree) -> Result<(), NoMemory>
-    ensures { OnOk result (string_bytes out.new ≡ string_bytes out.old ++ single_text (single_of head) (expression_text (expression_of a.now))) }
+    ensures { OnOk result (Gains out.old
+        (single_text (single_of head) (expression_text (expression_of a.now))) out.new) }
 {
     out.push_str(single_word(head))?;
     out.push_str("(")?;
@@ -128,7 +133,7 @@ fn push_single(out: &mut String, head: Single, a: &Tree) -> Result<(), NoMemory>
 }
 
 fn push_table(out: &mut String, table: &TableSpec) -> Result<(), NoMemory>
-    ensures { OnOk result (string_bytes out.new ≡ string_bytes out.old ++ table_text table.now) }
+    ensures { OnOk result (Gains out.old (table_text table.now) out.new) }
 {
     let names = table.names.as_slice();
     out.push_str("table{")?;
@@ -139,7 +144,7 @@ fn push_table(out: &mut String, table: &TableSpec) -> Result<(), NoMemory>
 }
 
 fn push_values(out: &mut String, names: &[Text], ranks: &[u8]) -> Result<(), NoMemory>
-    ensures { OnOk result (string_bytes out.new ≡ string_bytes out.old ++ values_text names.now ranks.now) }
+    ensures { OnOk result (Gains out.old (values_text names.now ranks.now) out.new) }
 {
     match (names, ranks) {
         ([name, names @ ..], [rank, ranks @ ..]) => {
@@ -157,7 +162,7 @@ fn push_more_values(
     names: &[Text],
     ranks: &[u8],
 ) -> Result<(), NoMemory>
-    ensures { OnOk result (string_bytes out.new ≡ string_bytes out.old ++ more_values_text before names.now ranks.now) }
+    ensures { OnOk result (Gains out.old (more_values_text before names.now ranks.now) out.new) }
 {
     match names {
         [name, names @ ..] => match ranks {
@@ -179,7 +184,7 @@ fn rank_mark(before: u8, rank: u8) -> &'static str
 }
 
 fn push_rows(out: &mut String, names: &[Text], rows: &[TableRow]) -> Result<(), NoMemory>
-    ensures { OnOk result (string_bytes out.new ≡ string_bytes out.old ++ rows_text names.now rows.now) }
+    ensures { OnOk result (Gains out.old (rows_text names.now rows.now) out.new) }
 {
     match rows {
         [row, rows @ ..] => {
@@ -191,7 +196,7 @@ fn push_rows(out: &mut String, names: &[Text], rows: &[TableRow]) -> Result<(), 
 }
 
 fn push_row(out: &mut String, names: &[Text], row: &TableRow) -> Result<(), NoMemory>
-    ensures { OnOk result (string_bytes out.new ≡ string_bytes out.old ++ row_text names.now row.now) }
+    ensures { OnOk result (Gains out.old (row_text names.now row.now) out.new) }
 {
     out.push_str(";")?;
     out.push_str(row.name.as_str())?;
@@ -206,7 +211,7 @@ fn push_maps(
     names: &[Text],
     images: &[Option<u8>],
 ) -> Result<(), NoMemory>
-    ensures { OnOk result (string_bytes out.new ≡ string_bytes out.old ++ maps_text (maps_of all.now names.now images.now)) }
+    ensures { OnOk result (Gains out.old (maps_text (maps_of all.now names.now images.now)) out.new) }
 {
     match names {
         [name, names @ ..] => match images {
@@ -228,7 +233,7 @@ fn push_more_maps(
     names: &[Text],
     images: &[Option<u8>],
 ) -> Result<(), NoMemory>
-    ensures { OnOk result (string_bytes out.new ≡ string_bytes out.old ++ more_maps_text (maps_of all.now names.now images.now)) }
+    ensures { OnOk result (Gains out.old (more_maps_text (maps_of all.now names.now images.now)) out.new) }
 {
     match names {
         [name, names @ ..] => match images {
@@ -245,7 +250,7 @@ fn push_more_maps(
 }
 
 fn push_map(out: &mut String, source: &Text, target: &str) -> Result<(), NoMemory>
-    ensures { OnOk result (string_bytes out.new ≡ string_bytes out.old ++ map_text (record { source = source.now; target = target.now })) }
+    ensures { OnOk result (Gains out.old (map_text (record { source = source.now; target = target.now })) out.new) }
 {
     out.push_str(source.as_str())?;
     out.push_str("->")?;

@@ -64,7 +64,8 @@ pub fn new_name(
     is_there: bool,
 ) -> Result<Text, AlgError>
     requires { IsAscii word.text.now }
-    ensures { Tested (not (is_none word.entry.text.now) && not is_there && nat_le (before + 1) MAX_TABLE_NAMES) word.entry.place word.entry.text.now result }
+    ensures { Tested (not (is_none word.entry.text.now) && not is_there && nat_le (before + 1) MAX_TABLE_NAMES)
+        word.entry.place word.entry.text.now result }
 {
     if is_none(word.text) || is_there || before >= MAX_TABLE_NAMES {
         return Err(refused(ExprKind::BadTable, word.place));

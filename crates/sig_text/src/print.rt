@@ -1,4 +1,5 @@
 ghost use Rattle.std.specs.Prelude.{◌≡◌, ◌++◌, ◌<◌, ◌≤◌, [], OnOk, IfOk, length, decimal, string_bytes, codes, slice_get, slice_index_or};
+ghost use Rattle.meta_base.specs.Appending.{Gains};
 ghost use Rattle.alg_model.specs.Application.{IsLabel, has_mark};
 ghost use Rattle.alg_model.specs.Carriers.{carrier_of, In};
 ghost use Rattle.alg_model.specs.Formation.{MeetsRanges};
@@ -36,8 +37,7 @@ pub fn print_label(alloc: Global, alg: &Alg, label: &Label) -> Result<Text, NoMe
 /// Appends the printed text of a value of the algebra. After a refusal a front of it may be there.
 pub fn push_value(out: &mut String, alg: &Alg, value: &Value) -> Result<(), NoMemory>
     requires { In (carrier_of alg.now.expression) (pure_value value.now) }
-    ensures { OnOk result (string_bytes out.new ≡ string_bytes out.old
-        ++ value_text (carrier_of alg.now.expression) (pure_value value.now)) }
+    ensures { OnOk result (Gains out.old (value_text (carrier_of alg.now.expression) (pure_value value.now)) out.new) }
 {
     push_tree_value(out, alg.tree(), value)
 }
@@ -45,8 +45,7 @@ pub fn push_value(out: &mut String, alg: &Alg, value: &Value) -> Result<(), NoMe
 /// Appends the printed text of a label of the algebra. After a refusal a front of it may be there.
 pub fn push_label(out: &mut String, alg: &Alg, label: &Label) -> Result<(), NoMemory>
     requires { IsLabel alg.now.expression (pure_label label.now) }
-    ensures { OnOk result (string_bytes out.new ≡ string_bytes out.old
-        ++ label_text alg.now.expression (pure_label label.now)) }
+    ensures { OnOk result (Gains out.old (label_text alg.now.expression (pure_label label.now)) out.new) }
 {
     push_tree_label(out, alg.tree(), label)
 }
@@ -54,8 +53,8 @@ pub fn push_label(out: &mut String, alg: &Alg, label: &Label) -> Result<(), NoMe
 fn push_tree_value(out: &mut String, tree: &Tree, value: &Value) -> Result<(), NoMemory>
     requires ranges { MeetsRanges (expression_of tree.now) }
     requires value { In (carrier_of (expression_of tree.now)) (pure_value value.now) }
-    ensures { OnOk result (string_bytes out.new ≡ string_bytes out.old
-        ++ value_text (carrier_of (expression_of tree.now)) (pure_value value.now)) }
+    ensures { OnOk result (Gains out.old
+        (value_text (carrier_of (expression_of tree.now)) (pure_value value.now)) out.new) }
 {
     match (tree, value) {
         (
@@ -98,8 +97,7 @@ fn push_tree_value(out: &mut String, tree: &Tree, value: &Value) -> Result<(), N
 fn push_tree_label(out: &mut String, tree: &Tree, label: &Label) -> Result<(), NoMemory>
     requires ranges { MeetsRanges (expression_of tree.now) }
     requires label { IsLabel (expression_of tree.now) (pure_label label.now) }
-    ensures { OnOk result (string_bytes out.new ≡ string_bytes out.old
-        ++ label_text (expression_of tree.now) (pure_label label.now)) }
+    ensures { OnOk result (Gains out.old (label_text (expression_of tree.now) (pure_label label.now)) out.new) }
 {
     match (tree, label) {
         (
@@ -164,14 +162,14 @@ fn push_tree_label(out: &mut String, tree: &Tree, label: &Label) -> Result<(), N
 }
 
 fn push_word(out: &mut String, word: &str) -> Result<(), NoMemory>
-    ensures { OnOk result (string_bytes out.new ≡ string_bytes out.old ++ word.now) }
+    ensures { OnOk result (Gains out.old word.now out.new) }
 {
     out.push_str(word)?;
     Ok(())
 }
 
 fn push_marked(out: &mut String, mark: &str, k: u8) -> Result<(), NoMemory>
-    ensures { OnOk result (string_bytes out.new ≡ string_bytes out.old ++ (mark.now ++ decimal k)) }
+    ensures { OnOk result (Gains out.old (mark.now ++ decimal k) out.new) }
 {
     out.push_str(mark)?;
     push_number(out, u128::from(k))
@@ -179,21 +177,20 @@ fn push_marked(out: &mut String, mark: &str, k: u8) -> Result<(), NoMemory>
 
 fn push_name(out: &mut String, names: &[Text], place: u8) -> Result<(), NoMemory>
     requires { place < length names.now }
-    ensures { OnOk result (string_bytes out.new ≡ string_bytes out.old ++ slice_index_or names.now place []) }
+    ensures { OnOk result (Gains out.old (slice_index_or names.now place []) out.new) }
 {
     push_word(out, names[usize::from(place)].as_str())
 }
 
 fn push_row(out: &mut String, rows: &[TableRow], place: u8) -> Result<(), NoMemory>
     requires { place < length rows.now }
-    ensures { OnOk result (string_bytes out.new ≡ string_bytes out.old ++ row_text (slice_get rows.now place)) }
+    ensures { OnOk result (Gains out.old (row_text (slice_get rows.now place)) out.new) }
 {
     push_word(out, rows[usize::from(place)].name.as_str())
 }
 
 fn push_symbols(out: &mut String, ns: &[u64]) -> Result<(), NoMemory>
-    ensures { OnOk result (string_bytes out.new ≡ string_bytes out.old
-        ++ (codes "[" ++ numbers_text ns.now ++ codes "]")) }
+    ensures { OnOk result (Gains out.old (codes "[" ++ numbers_text ns.now ++ codes "]") out.new) }
 {
     out.push_str("[")?;
     push_numbers(out, ns)?;
@@ -202,7 +199,7 @@ fn push_symbols(out: &mut String, ns: &[u64]) -> Result<(), NoMemory>
 
 #[tactic(auto, using(crate::proofs::Printed::listed_at))]
 fn push_numbers(out: &mut String, ns: &[u64]) -> Result<(), NoMemory>
-    ensures { OnOk result (string_bytes out.new ≡ string_bytes out.old ++ numbers_text ns.now) }
+    ensures { OnOk result (Gains out.old (numbers_text ns.now) out.new) }
 {
     let mut follows = false;
     for n in ns {
@@ -214,7 +211,7 @@ fn push_numbers(out: &mut String, ns: &[u64]) -> Result<(), NoMemory>
 
 // Appends a number that stands alone, or follows others.
 fn push_next(out: &mut String, follows: bool, n: u64) -> Result<(), NoMemory>
-    ensures { OnOk result (string_bytes out.new ≡ (string_bytes out.old ++ separator follows) ++ decimal n) }
+    ensures { OnOk result (Gains out.old (separator follows ++ decimal n) out.new) }
 {
     out.push_str(separator(follows))?;
     push_number(out, u128::from(n))
@@ -228,8 +225,7 @@ fn separator(follows: bool) -> &'static str
 
 fn push_set(out: &mut String, count: u64, marks: u64) -> Result<(), NoMemory>
     requires { count ≤ MAX_MARKS }
-    ensures { OnOk result (string_bytes out.new ≡ string_bytes out.old
-        ++ (codes "{" ++ numbers_text (members count marks) ++ codes "}")) }
+    ensures { OnOk result (Gains out.old (codes "{" ++ numbers_text (members count marks) ++ codes "}") out.new) }
 {
     out.push_str("{")?;
     push_members(out, count, marks)?;
@@ -239,7 +235,7 @@ fn push_set(out: &mut String, count: u64, marks: u64) -> Result<(), NoMemory>
 // The numbers below the count that are in the set, ascending.
 fn push_members(out: &mut String, count: u64, marks: u64) -> Result<(), NoMemory>
     requires { count ≤ MAX_MARKS }
-    ensures { OnOk result (string_bytes out.new ≡ string_bytes out.old ++ numbers_text (members count marks)) }
+    ensures { OnOk result (Gains out.old (numbers_text (members count marks)) out.new) }
 {
     let mut follows = false;
     for k in 0..count {

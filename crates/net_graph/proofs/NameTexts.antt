@@ -1,4 +1,4 @@
--- Names are text, and so are the names of a network.
+-- Names are text.
 use Rattle.std.proofs.Common.{◌≡◌, ℕ, ◌<◌, List, [], ◌∷◌, Bool, true, Some, ◌&&◌, arith, zero, suc, subst}
 use Rattle.std.specs.List.{AllByRecursion, list_all, slice_get}
 use Rattle.std.specs.Str.{IsUtf8, IsAscii}
@@ -22,9 +22,3 @@ name_bytes (c ∷ cs) h (suc i) = name_bytes cs (and_right (is_name_byte c) (lis
 
 pub name_is_text : (name : List ℕ) → is_name name ≡ true → IsUtf8 name
 name_is_text name h = IsUtf8-from_ascii name (name_bytes name (and_right _ (list_all is_name_byte name) h))
-
--- each name of a list of names is one
-pub named : (names : List (List ℕ)) → AllByRecursion (λ n. is_name n ≡ true) names → (i : ℕ) (name : List ℕ) → slice_get names i ≡ Some name → is_name name ≡ true
-named [] h i name e = absurd (cc)
-named (n ∷ names) h zero name e = let same : n ≡ name = cc in subst (λ m. is_name m ≡ true) same h.0
-named (n ∷ names) h (suc i) name e = named names h.1 i name e

@@ -1,5 +1,5 @@
-use Rattle.metacli.proofs.Names.{name_is_text}
-use Rattle.metacli.proofs.text.push_name.Goals as goal
+use Rattle.net_graph.proofs.NameTexts.{name_is_text}
+use Rattle.net_graph.proofs.names.as_text.Goals as goal
 
 pub unreachable-requires : goal.unreachable-requires
 unreachable-requires c = c.in-Err.ensures.cases.0 (name_is_text c.args.name.now c.requires)
