@@ -2,8 +2,9 @@
 -- an algebra.
 use Rattle.std.specs.Prelude.{◌≡◌, ℕ, List, [], ◌∷◌, ◌++◌, ◌⊎◌, Bool, true, false, Option, Some, None, option_map}
 use Rattle.std.specs.List.{AllByRecursion}
+use Rattle.alg_model.specs.declared.edition.Edition.{Edition}
 use Rattle.alg_model.specs.declared.alg.TheConstants.{MAX_INSTANCE_NUMBER}
-use Rattle.alg_model.specs.Expressions.{PureAlg, PureCarrier, PureLabel}
+use Rattle.alg_model.specs.Expressions.{Expression, PureAlg, PureCarrier, PureLabel}
 use Rattle.alg_model.specs.Views.{pure_value, pure_label}
 use Rattle.alg_model.specs.Carriers.{carrier_of}
 use Rattle.alg_model.specs.Application.{IsLabel, App}
@@ -53,6 +54,10 @@ ExampleAtMost n (Some (between u v)) = AtMost n u × AtMost n v
 
 abbrev pub ExamplesAtMost : ℕ → PureExamples → Type 0
 ExamplesAtMost n x = (k : Fact) → ExampleAtMost n (x k)
+
+-- the algebra of an expression in an edition
+abbrev pub alg_in : Expression → Edition → PureAlg
+alg_in a e = record { expression = a; edition = e }
 
 -- The label is the algebra's, no number of it is above the greatest of the algebra's edition, and each fact
 -- of it is settled.
