@@ -1,0 +1,4 @@
+mod Fails
+mod Searches
+mod Tables
+mod Answers
