@@ -1,5 +1,6 @@
 -- Facts that fail at values with an image.
-use Rattle.std.proofs.Common.{◌≡◌, refl, sym, ap, subst, ◌∙◌, ℕ, Bool, true, false, not, Option, Some, option_map}
+use Rattle.std.proofs.Common.{◌≡◌, refl, sym, ap, subst, ◌∙◌, ℕ, Bool, true, false, not, Option, Some, None, option_map}
+use Rattle.std.specs.Option.{is_some}
 use Rattle.alg_model.specs.Expressions.{PureValue, name}
 use Rattle.alg_model.specs.Carriers.{IsPreferred}
 use Rattle.alg_classes.specs.Facts.{dead, strict, cond, narrow}
@@ -19,8 +20,12 @@ not_true false n = refl
 same : (i : ℕ) (o : Option ℕ) (w : PureValue) → Some i ≡ o → option_map name o ≡ Some w → w ≡ name i
 same i o w e f = let g : Some (name i) ≡ option_map name o = ap (option_map name) e in cc
 
-pub dead_fails : (row : PureRow) (u i : ℕ) → Some i ≡ image_at row.images u → FailsAtPlace row dead u
-dead_fails row u i e = (name i, ap (option_map name) (sym e))
+image_there : (o : Option ℕ) → IsTruthOf (is_some o) ((w : PureValue) × (option_map name o ≡ Some w))
+image_there None = (λ h. absurd (cc), λ f. let e = f.1 in absurd (cc))
+image_there (Some i) = (λ h. (name i, refl), λ f. refl)
+
+pub dead_fails : (row : PureRow) (u : ℕ) (o : Option ℕ) → o ≡ image_at row.images u → IsTruthOf (is_some o) (FailsAtPlace row dead u)
+dead_fails row u o e = subst (λ p. IsTruthOf (is_some o) ((w : PureValue) × (option_map name p ≡ Some w))) e (image_there o)
 
 pub strict_fails : (row : PureRow) (u i : ℕ) (b : Bool) → Some i ≡ image_at row.images u
     → IsTruthOf b (IsPreferred (row_carrier row) (Some (name u)) (Some (name i))) → IsTruthOf (not b) (FailsAtPlace row strict u)

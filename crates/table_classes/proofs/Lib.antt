@@ -2,3 +2,4 @@ mod Fails
 mod Searches
 mod Tables
 mod Answers
+mod Gains

@@ -1,10 +1,12 @@
 -- A fact that no place of a row refutes holds.
-use Rattle.std.proofs.Common.{◌≡◌, refl, subst, ℕ, ◌<◌, length, Option, Some, None, option_map}
+use Rattle.std.proofs.Common.{◌≡◌, refl, subst, ℕ, ◌+◌, ◌<◌, length, Bool, false, Option, Some, None, option_map}
+use borrow.Author.Count.{below_more}
 use Rattle.alg_model.specs.Expressions.{PureValue, name}
 use Rattle.alg_model.specs.Carriers.{In}
 use Rattle.alg_model.specs.PreferenceLaws.{each_name}
 use Rattle.alg_classes.specs.Facts.{Holds, PureExample, at, between, FailsAt, Refutes}
 use Rattle.alg_classes.specs.FactLaws.{Keeps, holds_unless}
+use Rattle.alg_classes.specs.Classes.{IsTruthOf}
 use Rattle.table_classes.specs.declared.fact.ValueFact.{ValueFact}
 use Rattle.table_classes.specs.declared.fact.ValueFact.TheVariants.{Total, Dead, Mono, Strict}
 use Rattle.table_classes.specs.declared.fact.PairFact.{PairFact}
@@ -33,12 +35,12 @@ unrefuted_at row Mono none (between u v) r = absurd r.1
 unrefuted_at row Strict none (between u v) r = absurd r.1
 
 unrefuted_between : (row : PureRow) (k : PairFact)
-    → ((u v : ℕ) → u < length row.names → v < length row.names → ¬ FailsBetween row (pair_fact k) u v)
+    → ((u : ℕ) → u < length row.names → (v : ℕ) → v < length row.names → ¬ FailsBetween row (pair_fact k) u v)
     → (e : PureExample) → ¬ Refutes (row_carrier row) (row_action row) (pair_fact k) e
 unrefuted_between row k none (between u v) r =
     each_name row.names row.ranks (λ u. In (row_carrier row) u → ¬ FailsAt (row_carrier row) (row_action row) (pair_fact k) (between u v))
     (λ m i. each_name row.names row.ranks (λ v. In (row_carrier row) v → ¬ FailsAt (row_carrier row) (row_action row) (pair_fact k) (between (name m) v))
-    (λ n j. none m n i j) v r.0.1 r.0.1) u r.0.0 r.0.0 r.1
+    (λ n j. none m i n j) v r.0.1 r.0.1) u r.0.0 r.0.0 r.1
 unrefuted_between row Iso none (at v) r = absurd r.1
 unrefuted_between row Canc none (at v) r = absurd r.1
 unrefuted_between row Cond none (at v) r = absurd r.1
@@ -51,7 +53,11 @@ holds_of_values row k is none =
     holds_unless (row_carrier row) (row_action row) (kept row is) (value_fact k) (unrefuted_at row k none)
 
 pub holds_of_pairs : (row : PureRow) (k : PairFact) → IsRow row
-    → ((u v : ℕ) → u < length row.names → v < length row.names → ¬ FailsBetween row (pair_fact k) u v)
+    → ((u : ℕ) → u < length row.names → (v : ℕ) → v < length row.names → ¬ FailsBetween row (pair_fact k) u v)
     → Holds (row_carrier row) (row_action row) (pair_fact k)
 holds_of_pairs row k is none =
     holds_unless (row_carrier row) (row_action row) (kept row is) (pair_fact k) (unrefuted_between row k none)
+
+-- one more value was tried, and passed
+pub passed : (P : ℕ → Type 0) (i : ℕ) (b : Bool) → ((k : ℕ) → k < i → ¬ P k) → IsTruthOf b (P i) → b ≡ false → (k : ℕ) → k < i + 1 → ¬ P k
+passed P i b before t e = below_more (λ k. ¬ P k) i before (λ p. let f = t.1 p in cc)

@@ -7,9 +7,12 @@ use Rattle.std.proofs.lemmas.Bool.Decides.{nat_tests}
 use Rattle.std.proofs.lemmas.Option.{slice_get_read}
 use Rattle.alg_model.specs.declared.tree.TableSpec.{TableSpec}
 use Rattle.alg_model.specs.declared.tree.TableRow.{TableRow}
+use Rattle.alg_model.specs.declared.tree.Tree.{Tree, Table}
+use Rattle.alg_model.specs.declared.tree.Label.{Label, Row}
 use Rattle.alg_model.specs.declared.alg.TheConstants.{MAX_TABLE_NAMES}
 use Rattle.alg_model.specs.Expressions.{table, PureValue, name, row_label}
-use Rattle.alg_model.specs.Application.{App, image_of}
+use Rattle.alg_model.specs.Views.{expression_of, pure_label}
+use Rattle.alg_model.specs.Application.{IsLabel, App, image_of}
 use Rattle.alg_model.specs.Formation.{is_table, is_table_count, are_ranks, is_row_over}
 use Rattle.alg_model.specs.ImageLaws.{image_of_within}
 use Rattle.table_classes.specs.Rows.{PureRow, IsRow, IsRowOf, image_at, row_action}
@@ -63,3 +66,11 @@ row_is_of t r row h e = record {
   carrier = refl;
   action = fun_ext (acts_alike t r row (image_same t r row h e));
 }
+
+-- what the program finds at a label's place
+pub within_rows : (tree : Tree) (label : Label) (t : TableSpec) (r : ℕ) → tree ≡ Table t → label ≡ Row r
+    → IsLabel (expression_of tree) (pure_label label) → r < length t.rows
+within_rows tree label t r e f h = rw (e, f) at h
+
+pub found_row : (rows given : List TableRow) (r place : ℕ) (row : TableRow) → given ≡ rows → place ≡ r → row ≡ get_or given place row → row ≡ get_or rows r row
+found_row rows given r place row e f h = rw (e, f) at h

@@ -1,4 +1,5 @@
-ghost use Rattle.std.specs.Prelude.{◌≡◌};
+ghost use Rattle.std.specs.Prelude.{◌≡◌, option_map};
+ghost use Rattle.alg_model.specs.declared.tree.Value.{Name};
 ghost use Rattle.table_classes.specs.Found.{AreAnswersOf, found_examples, found_profile, found_class, named_pair};
 
 use crate::fact::{PairFact, ValueFact};
@@ -67,21 +68,29 @@ impl Found {
         ensures { result ≡ found_examples self.now }
     {
         Examples {
-            outside: self.outside.map(Value::Name),
-            inside: self.inside.map(Value::Name),
-            not_mono: self.not_mono.map(Value::Name),
-            not_strict: self.not_strict.map(Value::Name),
-            not_iso: self.not_iso.map(named_pair),
-            not_canc: self.not_canc.map(named_pair),
-            not_cond: self.not_cond.map(named_pair),
-            not_narrow: self.not_narrow.map(named_pair),
+            outside: value_at(self.outside),
+            inside: value_at(self.inside),
+            not_mono: value_at(self.not_mono),
+            not_strict: value_at(self.not_strict),
+            not_iso: values_at(self.not_iso),
+            not_canc: values_at(self.not_canc),
+            not_cond: values_at(self.not_cond),
+            not_narrow: values_at(self.not_narrow),
         }
     }
 }
 
-// The values at two places.
-fn named_pair(places: (u8, u8)) -> (Value, Value)
-    ensures { result ≡ named_pair places }
+// The value at the place that was found.
+fn value_at(place: Option<u8>) -> Option<Value>
+    ensures { result ≡ option_map Name place }
 {
-    (Value::Name(places.0), Value::Name(places.1))
+    place.map(Value::Name)
+}
+
+// The values at the places that were found.
+fn values_at(places: Option<(u8, u8)>) -> Option<(Value, Value)>
+    ensures { result ≡ option_map named_pair places }
+{
+    let (u, v) = places?;
+    Some((Value::Name(u), Value::Name(v)))
 }

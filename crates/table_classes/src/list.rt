@@ -45,10 +45,9 @@ fn add_row(list: &mut ClassList, alg: &Alg, place: u8) -> Result<(), NoMemory>
     requires label { IsLabel alg.now.expression (row_label place) }
     ensures { OnOk result (GainsRow alg.now place list.old list.new) }
 {
-    let label = Label::Row(place);
-    let found = Found::of(&Row::of(alg.tree(), &label));
+    let found = Found::of(&Row::of(alg.tree(), &Label::Row(place)));
     if list.has(&found.profile()) {
         return Ok(());
     }
-    list.add(found.class(label))
+    list.add(found.class(Label::Row(place)))
 }

@@ -103,10 +103,11 @@ impl<'a> Row<'a> {
         ensures { IsTruthOf result (FailsAtPlace self.now (value_fact fact) u) }
     {
         match (fact, self.image(u)) {
-            (ValueFact::Total, None) | (ValueFact::Dead, Some(_)) => true,
+            (ValueFact::Total, image) => image.is_none(),
+            (ValueFact::Dead, image) => image.is_some(),
             (ValueFact::Mono, image) => self.is_preferred(image, Some(u)),
             (ValueFact::Strict, Some(image)) => !self.is_preferred(Some(u), Some(image)),
-            (ValueFact::Total, Some(_)) | (ValueFact::Dead | ValueFact::Strict, None) => false,
+            (ValueFact::Strict, None) => false,
         }
     }
 
