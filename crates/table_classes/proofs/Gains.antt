@@ -44,12 +44,20 @@ gains_last a place list class is one = record {
 }
 
 -- a list to which the row's class was added
-pub gains_one : (a : PureAlg) (place : ℕ) (old new : List Class) (class : Class) → ProfileOf a.expression (row_label place) class.profile
+gains_one : (a : PureAlg) (place : ℕ) (old new : List Class) (class : Class) → ProfileOf a.expression (row_label place) class.profile
     → ClassOf a class → IsGrownBy old class new → GainsRow a place old new
 gains_one a place old new class is one grown = ⊎_elim
     (λ h. subst (GainsRow a place old) (sym h.1) (gains_none a place old class.profile is h.0))
     (λ h. subst (GainsRow a place old) (sym h.1) (gains_last a place old class is one))
     grown
+
+-- a list to which the class of what was found in the row was added
+pub gains_found : (a : PureAlg) (place : ℕ) (old new : List Class) (class : Class) (row : PureRow) (x : Found)
+    → IsTable a.expression → IsLabel a.expression (row_label place) → IsRowOf a.expression (row_label place) row → AreAnswersOf row x
+    → class ≡ found_class (Row place) x → IsGrownBy old class new → GainsRow a place old new
+gains_found a place old new class row x t i is answers e = gains_one a place old new class
+    (subst (λ d. ProfileOf a.expression (row_label place) d.profile) (sym e) (profile_of_row a.expression (row_label place) row x is answers))
+    (subst (ClassOf a) (sym e) (class_of_row a (row_label place) (Row place) row x t i is answers refl))
 
 pub on_ok : {A E : Type 0} (P Q : Type 0) (r : Result A E) → (P → Q) → OnOk r P → OnOk r Q
 on_ok P Q (Ok x) f h = f h

@@ -1,8 +1,9 @@
 use Rattle.table_classes.proofs.Fails.{dead_fails, strict_fails}
 use Rattle.table_classes.proofs.row.Row.fails_at.Goals as goal
 
-pub returns-in-Dead : goal.returns-in-Dead
-returns-in-Dead c = rw (c.in-Dead.is-0, c.is_some.ensures) (dead_fails c.args.self.now c.args.u c.image.result c.image.ensures)
+pub returns-in-Dead-default : goal.returns-in-Dead-default
+returns-in-Dead-default c = rw (c.in-Dead-default.is-0, c.is_some.ensures)
+    (dead_fails c.args.self.now c.args.u c.image-image.result c.image-image.ensures)
 
 pub returns-in-Strict-Some : goal.returns-in-Strict-Some
 returns-in-Strict-Some c = rw c.in-Strict-Some.is-0
