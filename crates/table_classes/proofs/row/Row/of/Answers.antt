@@ -14,9 +14,9 @@ invariant_of-result c =
     let formed : is_table t ≡ true = rw c.in-Table-Row.is-0 at c.requires.formed in
     let within = within_rows c.args.tree.now c.args.label.now t c.in-Table-Row.place c.in-Table-Row.is-0 c.in-Table-Row.is-1 c.requires.label in
     let is = found_row t.rows c.as_slice-in-Table-Row-2.result.now c.in-Table-Row.place c.from.result row
-        c.as_slice-in-Table-Row-2.ensures c.from.ensures c.index-as_slice-from.is in
+    c.as_slice-in-Table-Row-2.ensures c.from.ensures c.index-as_slice-from.is in
     rw (c.as_slice.ensures, c.as_slice-in-Table-Row.ensures, c.as_slice-in-Table-Row-3.ensures, ← c.index-as_slice-from.is)
-        (row_is t c.in-Table-Row.place row formed within is)
+    (row_is t c.in-Table-Row.place row formed within is)
 
 pub returns : goal.returns
 returns c =
@@ -24,6 +24,6 @@ returns c =
     let row = c.index-as_slice-from.result in
     let within = within_rows c.args.tree.now c.args.label.now t c.in-Table-Row.place c.in-Table-Row.is-0 c.in-Table-Row.is-1 c.requires.label in
     let is = found_row t.rows c.as_slice-in-Table-Row-2.result.now c.in-Table-Row.place c.from.result row
-        c.as_slice-in-Table-Row-2.ensures c.from.ensures c.index-as_slice-from.is in
+    c.as_slice-in-Table-Row-2.ensures c.from.ensures c.index-as_slice-from.is in
     rw (c.in-Table-Row.is-0, c.in-Table-Row.is-1, c.as_slice.ensures, c.as_slice-in-Table-Row.ensures, c.as_slice-in-Table-Row-3.ensures, ← c.index-as_slice-from.is)
-        (row_is_of t c.in-Table-Row.place row within is)
+    (row_is_of t c.in-Table-Row.place row within is)
