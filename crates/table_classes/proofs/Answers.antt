@@ -1,0 +1,89 @@
+-- What answers to each fact make of a profile and of a class.
+use Rattle.std.proofs.Common.{◌≡◌, refl, sym, subst, ℕ, Option, Some, None}
+use Rattle.std.specs.Option.{is_none}
+use Rattle.alg_model.specs.declared.alg.TheConstants.{MAX_INSTANCE_NUMBER}
+use Rattle.alg_model.specs.declared.tree.Label.{Label}
+use Rattle.alg_model.specs.Expressions.{Expression, table, PureAlg, PureCarrier, PureLabel, row_label}
+use Rattle.alg_model.specs.Views.{pure_label}
+use Rattle.alg_model.specs.Carriers.{carrier_of}
+use Rattle.alg_model.specs.Application.{IsLabel, App}
+use Rattle.alg_model.specs.Bounds.{LabelAtMost, greatest_number}
+use Rattle.alg_classes.specs.Facts.{Action, Fact, total, dead, mono, strict, iso, canc, cond, narrow}
+use Rattle.alg_classes.specs.Profiles.{bit, ProfileOf}
+use Rattle.alg_classes.specs.Classes.{pure_examples, Settles, IsSettledBy, ExampleAtMost, ExamplesAtMost, ClassOf}
+use Rattle.alg_classes.specs.ClassLaws.{on_all, settled_profile}
+use Rattle.table_classes.specs.declared.found.Found.{Found}
+use Rattle.table_classes.specs.Rows.{IsTable, PureRow, IsRowOf, row_carrier, row_action}
+use Rattle.table_classes.specs.Found.{value_example, pair_example, found_examples, found_profile, found_class, IsAnswer, IsAnswerOf, AreAnswers, AreAnswersOf}
+
+pub all_answered : (row : PureRow) (x : Found) → IsAnswerOf row total (value_example x.outside) → IsAnswerOf row dead (value_example x.inside)
+    → IsAnswerOf row mono (value_example x.not_mono) → IsAnswerOf row strict (value_example x.not_strict)
+    → IsAnswerOf row iso (pair_example x.not_iso) → IsAnswerOf row canc (pair_example x.not_canc)
+    → IsAnswerOf row cond (pair_example x.not_cond) → IsAnswerOf row narrow (pair_example x.not_narrow) → AreAnswersOf row x
+all_answered row x = on_all (λ k. IsAnswerOf row k (pure_examples (found_examples x) k))
+
+value_settled : (c : PureCarrier) (f : Action) (k : Fact) (o : Option ℕ) → IsAnswer c f k (value_example o) → Settles c f k (is_none o) (value_example o)
+value_settled c f k None a = a
+value_settled c f k (Some u) a = a
+
+pair_settled : (c : PureCarrier) (f : Action) (k : Fact) (o : Option (ℕ × ℕ)) → IsAnswer c f k (pair_example o) → Settles c f k (is_none o) (pair_example o)
+pair_settled c f k None a = a
+pair_settled c f k (Some p) a = a
+
+all_settled : (c : PureCarrier) (f : Action) (x : Found) → AreAnswers c f (pure_examples (found_examples x))
+    → IsSettledBy c f (found_profile x) (pure_examples (found_examples x))
+all_settled c f x a = on_all (λ k. Settles c f k (bit (found_profile x) k) (pure_examples (found_examples x) k))
+    (value_settled c f total x.outside (a total))
+    (value_settled c f dead x.inside (a dead))
+    (value_settled c f mono x.not_mono (a mono))
+    (value_settled c f strict x.not_strict (a strict))
+    (pair_settled c f iso x.not_iso (a iso))
+    (pair_settled c f canc x.not_canc (a canc))
+    (pair_settled c f cond x.not_cond (a cond))
+    (pair_settled c f narrow x.not_narrow (a narrow))
+
+-- the facts of a row are those of its label
+label_settled : (a : Expression) (l : PureLabel) (row : PureRow) (x : Found) → IsRowOf a l row → AreAnswersOf row x
+    → IsSettledBy (carrier_of a) (App a l) (found_profile x) (pure_examples (found_examples x))
+label_settled a l row x is answers = all_settled (carrier_of a) (App a l) x
+    (subst (λ c. AreAnswers c (App a l) (pure_examples (found_examples x))) (sym is.carrier)
+    (subst (λ f. AreAnswers (row_carrier row) f (pure_examples (found_examples x))) (sym is.action) answers))
+
+pub profile_of_row : (a : Expression) (l : PureLabel) (row : PureRow) (x : Found) → IsRowOf a l row → AreAnswersOf row x
+    → ProfileOf a l (found_profile x)
+profile_of_row a l row x is answers =
+    settled_profile (carrier_of a) (App a l) (found_profile x) (pure_examples (found_examples x)) (label_settled a l row x is answers)
+
+-- a row's number is no number of a text, and so is the place of a value
+row_bound : (a : Expression) (l : PureLabel) (n : ℕ) → IsTable a → IsLabel a l → LabelAtMost n l
+row_bound (table t) (row_label r) n h i = tt
+row_bound (table t) _ n h i = absurd i
+row_bound _ l n h i = absurd h
+
+value_bound : (n : ℕ) (o : Option ℕ) → ExampleAtMost n (value_example o)
+value_bound n None = tt
+value_bound n (Some u) = tt
+
+pair_bound : (n : ℕ) (o : Option (ℕ × ℕ)) → ExampleAtMost n (pair_example o)
+pair_bound n None = tt
+pair_bound n (Some p) = (tt, tt)
+
+all_bound : (n : ℕ) (x : Found) → ExamplesAtMost n (pure_examples (found_examples x))
+all_bound n x = on_all (λ k. ExampleAtMost n (pure_examples (found_examples x) k))
+    (value_bound n x.outside) (value_bound n x.inside) (value_bound n x.not_mono) (value_bound n x.not_strict)
+    (pair_bound n x.not_iso) (pair_bound n x.not_canc) (pair_bound n x.not_cond) (pair_bound n x.not_narrow)
+
+class_of_label : (a : PureAlg) (label : Label) (row : PureRow) (x : Found) → IsTable a.expression → IsLabel a.expression (pure_label label)
+    → IsRowOf a.expression (pure_label label) row → AreAnswersOf row x → ClassOf a (found_class label x)
+class_of_label a label row x t i is answers = record {
+  label = i;
+  label_bound = row_bound a.expression (pure_label label) (greatest_number a.edition) t i;
+  settled = label_settled a.expression (pure_label label) row x is answers;
+  bound = all_bound MAX_INSTANCE_NUMBER x;
+}
+
+-- the same of an equal label
+pub class_of_row : (a : PureAlg) (l : PureLabel) (label : Label) (row : PureRow) (x : Found) → IsTable a.expression → IsLabel a.expression l
+    → IsRowOf a.expression l row → AreAnswersOf row x → pure_label label ≡ l → ClassOf a (found_class label x)
+class_of_row a l label row x t i is answers e = class_of_label a label row x t
+    (subst (λ l. IsLabel a.expression l) (sym e) i) (subst (λ l. IsRowOf a.expression l row) (sym e) is) answers

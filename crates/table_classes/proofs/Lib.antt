@@ -1,0 +1,5 @@
+mod Fails
+mod Searches
+mod Tables
+mod Answers
+mod Gains

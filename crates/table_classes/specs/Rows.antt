@@ -1,0 +1,58 @@
+-- Rows of a table: the values that they act on, and what they do to them.
+use Rattle.std.specs.Prelude.{◌≡◌, ℕ, ◌<◌, ◌≤◌, List, length, Option, Some, None, option_map, option_and_then, slice_get}
+use Rattle.alg_model.specs.Expressions.{Expression, table, PureCarrier, named, PureValue, name, PureLabel}
+use Rattle.alg_model.specs.Carriers.{carrier_of}
+use Rattle.alg_model.specs.Application.{App}
+use Rattle.alg_model.specs.declared.alg.TheConstants.{MAX_TABLE_NAMES}
+use Rattle.alg_classes.specs.Facts.{Action, Fact, total, dead, mono, strict, iso, canc, cond, narrow}
+use Rattle.table_classes.specs.declared.fact.ValueFact.{ValueFact}
+use Rattle.table_classes.specs.declared.fact.ValueFact.TheVariants.{Total, Dead, Mono, Strict}
+use Rattle.table_classes.specs.declared.fact.PairFact.{PairFact}
+use Rattle.table_classes.specs.declared.fact.PairFact.TheVariants.{Iso, Canc, Cond, Narrow}
+
+-- the algebra is a table
+abbrev pub IsTable : Expression → Type 0
+IsTable (table t) = Unit {0}
+IsTable _ = ⊥
+
+-- a row, with the names and the ranks of the table's values
+pub record PureRow : Type 0 where
+  pub names : List (List ℕ)
+  pub ranks : List ℕ
+  pub images : List (Option ℕ)
+
+-- the image of the value at that place, if there is one
+abbrev pub image_at : List (Option ℕ) → ℕ → Option ℕ
+image_at images k = option_and_then (λ image. image) (slice_get images k)
+
+-- the values are few, and each image is one of them
+pub record IsRow (row : PureRow) : Type 0 where
+  pub few : length row.names ≤ MAX_TABLE_NAMES
+  pub within : (k place : ℕ) → image_at row.images k ≡ Some place → place < length row.names
+
+-- the values that the row acts on
+abbrev pub row_carrier : PureRow → PureCarrier
+row_carrier row = named row.names row.ranks
+
+-- what the row makes of a value
+abbrev pub row_action : PureRow → Action
+row_action row (name k) = option_map name (image_at row.images k)
+row_action row _ = None
+
+-- the row is what the label does in the table
+pub record IsRowOf (a : Expression) (l : PureLabel) (row : PureRow) : Type 0 where
+  pub carrier : carrier_of a ≡ row_carrier row
+  pub action : App a l ≡ row_action row
+
+-- the facts of the program
+abbrev pub value_fact : ValueFact → Fact
+value_fact Total = total
+value_fact Dead = dead
+value_fact Mono = mono
+value_fact Strict = strict
+
+abbrev pub pair_fact : PairFact → Fact
+pair_fact Iso = iso
+pair_fact Canc = canc
+pair_fact Cond = cond
+pair_fact Narrow = narrow

@@ -1,0 +1,96 @@
+ghost use Rattle.std.specs.Prelude.{◌≡◌, option_map};
+ghost use Rattle.alg_model.specs.declared.tree.Value.{Name};
+ghost use Rattle.table_classes.specs.Found.{AreAnswersOf, found_examples, found_profile, found_class, named_pair};
+
+use crate::fact::{PairFact, ValueFact};
+use crate::row::Row;
+use alg_classes::{Class, Examples, Profile};
+use alg_model::{Label, Value};
+
+// Where each fact of a row fails: the places of an example, and none where the fact holds.
+#[derive(Clone, Copy, Debug)]
+pub(crate) struct Found {
+    outside: Option<u8>,
+    inside: Option<u8>,
+    not_mono: Option<u8>,
+    not_strict: Option<u8>,
+    not_iso: Option<(u8, u8)>,
+    not_canc: Option<(u8, u8)>,
+    not_cond: Option<(u8, u8)>,
+    not_narrow: Option<(u8, u8)>,
+}
+
+impl Found {
+    // What a search for each fact finds.
+    pub(crate) fn of(row: &Row<'_>) -> Found
+        ensures { AreAnswersOf row.now result }
+    {
+        Found {
+            outside: row.find_value(ValueFact::Total),
+            inside: row.find_value(ValueFact::Dead),
+            not_mono: row.find_value(ValueFact::Mono),
+            not_strict: row.find_value(ValueFact::Strict),
+            not_iso: row.find_pair(PairFact::Iso),
+            not_canc: row.find_pair(PairFact::Canc),
+            not_cond: row.find_pair(PairFact::Cond),
+            not_narrow: row.find_pair(PairFact::Narrow),
+        }
+    }
+
+    // A fact holds exactly if no example of it was found.
+    pub(crate) fn profile(&self) -> Profile
+        ensures { result ≡ found_profile self.now }
+    {
+        Profile {
+            total: self.outside.is_none(),
+            dead: self.inside.is_none(),
+            mono: self.not_mono.is_none(),
+            strict: self.not_strict.is_none(),
+            iso: self.not_iso.is_none(),
+            canc: self.not_canc.is_none(),
+            cond: self.not_cond.is_none(),
+            narrow: self.not_narrow.is_none(),
+        }
+    }
+
+    // The class of the label of this row.
+    pub(crate) fn class(&self, label: Label) -> Class
+        ensures { result ≡ found_class label self.now }
+    {
+        Class {
+            profile: self.profile(),
+            label,
+            examples: self.examples(),
+        }
+    }
+
+    fn examples(&self) -> Examples
+        ensures { result ≡ found_examples self.now }
+    {
+        Examples {
+            outside: value_at(self.outside),
+            inside: value_at(self.inside),
+            not_mono: value_at(self.not_mono),
+            not_strict: value_at(self.not_strict),
+            not_iso: values_at(self.not_iso),
+            not_canc: values_at(self.not_canc),
+            not_cond: values_at(self.not_cond),
+            not_narrow: values_at(self.not_narrow),
+        }
+    }
+}
+
+// The value at the place that was found.
+fn value_at(place: Option<u8>) -> Option<Value>
+    ensures { result ≡ option_map Name place }
+{
+    place.map(Value::Name)
+}
+
+// The values at the places that were found.
+fn values_at(places: Option<(u8, u8)>) -> Option<(Value, Value)>
+    ensures { result ≡ option_map named_pair places }
+{
+    let (u, v) = places?;
+    Some((Value::Name(u), Value::Name(v)))
+}
