@@ -5,13 +5,17 @@
 #![tactic(auto)]
 
 mod class;
+mod flat;
 mod laws;
 mod list;
 mod profile;
 mod property;
+mod shape;
 
 pub use class::{Class, Examples};
 pub use laws::{classes_have_their_profiles, examples_refute};
 pub use list::ClassList;
 pub use profile::Profile;
+pub use flat::{has_worse, is_flat};
+pub use shape::{Form, Shaped};
 pub use property::{Instance, Property};
