@@ -1,21 +1,24 @@
 -- The facts of two actions: that which sends every value to one, and that which keeps every value. With an
 -- example for each that fails, which settles it.
-use Rattle.std.proofs.Common.{◌≡◌, refl, sym, subst, Bool, true, false, not, Option, Some, None}
+use Rattle.std.proofs.Common.{◌≡◌, ℕ, refl, sym, subst, Bool, true, false, not, Option, Some, None}
 use Rattle.std.specs.declared.cmp.Ordering.TheVariants.{Less, Equal}
 use Rattle.alg_model.specs.Expressions.{Expression, left, right, scoped}
 use Rattle.alg_model.specs.Expressions.{PureCarrier, PureValue, pair}
 use Rattle.alg_model.specs.Expressions.{PureLabel, const_label, keep, outer, inner}
 use Rattle.alg_model.specs.Carriers.{carrier_of, In, Order, IsPreferred, AreEquivalent}
 use Rattle.alg_model.specs.Application.{App, both}
+use Rattle.alg_model.specs.Bounds.{AtMost}
 use Rattle.alg_model.specs.Formation.{IsCarrier}
+use Rattle.alg_model.specs.Views.{pure_value}
+use Rattle.alg_model.specs.declared.tree.Value.{Value}
 use Rattle.alg_classes.specs.declared.profile.Profile.{Profile}
 use Rattle.alg_classes.specs.Facts.{Action, Fact, total, dead, mono, strict, iso, canc, cond, narrow, Holds, PureExample, at, between, Refutes}
 use Rattle.alg_classes.specs.Profiles.{bit, IsProfile, ProfileOf}
 use Rattle.alg_classes.specs.Classes.{PureExamples, Settles, IsSettledBy}
 use Rattle.alg_classes.specs.FactLaws.{Keeps}
 use Rattle.alg_classes.specs.ClassLaws.{settled_profile}
-use Rattle.alg_classes.specs.Flat.{is_flat, has_worse, best, worse_than}
-use Rattle.alg_classes.specs.FlatLaws.{equivalent_itself, best_in, IsWorse, worse_than_is_worse, none_is_worse, flat_is_equivalent, some_is_worse}
+use Rattle.alg_classes.specs.Flat.{IsWorse, is_flat, has_worse, best, worse_than}
+use Rattle.alg_classes.specs.FlatLaws.{equivalent_itself, best_in, worse_than_is_worse, none_is_worse, flat_is_equivalent, some_is_worse}
 
 -- every value is sent to this one
 abbrev pub constant : PureValue → Action
@@ -25,38 +28,59 @@ constant v u = Some v
 abbrev pub kept : Action
 kept u = Some u
 
-abbrev pub constant_profile : PureCarrier → PureValue → Profile
-constant_profile c v = record {
+-- their profiles, by whether the carrier is flat and whether a value is worse
+abbrev pub constant_bits : Bool → Bool → Profile
+constant_bits flat worse = record {
   total = true;
   dead = false;
-  mono = not (has_worse c v);
+  mono = not worse;
   strict = false;
   iso = true;
-  canc = is_flat c;
+  canc = flat;
   cond = true;
-  narrow = is_flat c;
+  narrow = flat;
 }
 
-abbrev pub kept_profile : PureCarrier → Profile
-kept_profile c = record {
+abbrev pub kept_bits : Bool → Profile
+kept_bits flat = record {
   total = true;
   dead = false;
   mono = true;
   strict = false;
   iso = true;
   canc = true;
-  cond = is_flat c;
-  narrow = is_flat c;
+  cond = flat;
+  narrow = flat;
 }
 
--- two values of a carrier that isn't flat, the first preferred
-abbrev pub apart : PureCarrier → PureExample
-apart c = between (best c) (worse_than c (best c))
+abbrev pub constant_profile : PureCarrier → PureValue → Profile
+constant_profile c v = constant_bits (is_flat c) (has_worse c v)
+
+abbrev pub kept_profile : PureCarrier → Profile
+kept_profile c = kept_bits (is_flat c)
 
 -- the example, where the fact fails
-abbrev pub unless : Bool → PureExample → Option PureExample
+abbrev pub unless : {X : Type 0} → Bool → X → Option X
 unless true e = None
 unless false e = Some e
+
+-- a worse value of the carrier than this one, where there is one
+abbrev pub some_worse : PureCarrier → PureValue → Option PureValue
+some_worse c v = unless (not (has_worse c v)) (worse_than c v)
+
+-- two values of the carrier, the first preferred, where not all are equivalent
+abbrev pub two_apart : PureCarrier → Option (PureValue × PureValue)
+two_apart c = unless (is_flat c) (best c, worse_than c (best c))
+
+-- what two values of the program stand for, and a bound on their numbers
+abbrev pub pure_two : Value × Value → PureValue × PureValue
+pure_two p = (pure_value p.0, pure_value p.1)
+
+abbrev pub TwoAtMost : ℕ → Value × Value → Type 0
+TwoAtMost n p = AtMost n (pure_value p.0) × AtMost n (pure_value p.1)
+
+abbrev pub apart : PureCarrier → PureExample
+apart c = between (best c) (worse_than c (best c))
 
 abbrev pub constant_examples : PureCarrier → PureValue → PureExamples
 constant_examples c v total = None
@@ -172,3 +196,13 @@ left_profile a v is i = constant_is_profile (carrier_of a) v is i
 
 pub right_profile : (a : Expression) → IsCarrier (carrier_of a) → ProfileOf (right a) keep (kept_profile (carrier_of a))
 right_profile a is = kept_is_profile (carrier_of a) is
+
+-- the same of profiles made by tests
+pub constant_by_tests : (c : PureCarrier) (v : PureValue) (flat worse : Bool) → flat ≡ is_flat c → worse ≡ has_worse c v → IsCarrier c → In c v
+    → IsProfile c (constant v) (constant_bits flat worse)
+constant_by_tests c v flat worse f w is i =
+    subst (λ b. IsProfile c (constant v) (constant_bits b worse)) (sym f)
+    (subst (λ b. IsProfile c (constant v) (constant_bits (is_flat c) b)) (sym w) (constant_is_profile c v is i))
+
+pub kept_by_test : (c : PureCarrier) (flat : Bool) → flat ≡ is_flat c → IsCarrier c → IsProfile c kept (kept_bits flat)
+kept_by_test c flat f is = subst (λ b. IsProfile c kept (kept_bits b)) (sym f) (kept_is_profile c is)

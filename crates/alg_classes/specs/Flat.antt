@@ -1,13 +1,28 @@
--- Which carriers are flat: all their values are equivalent. And which values have a worse one, with one such.
-use Rattle.std.specs.Prelude.{ℕ, zero, suc, ◌+◌, ◌-◌, ◌==◌, List, [], ◌∷◌, ◌++◌, length, Bool, true, false, not, ◌&&◌, ◌||◌, if◌then◌else◌, nat_lt, slice_index}
+-- Which carriers are flat, that is, which have no value worse than another; which values have a worse one; and
+-- one that is worse.
+use Rattle.std.specs.Prelude.{◌≡◌, ℕ, zero, suc, ◌+◌, ◌-◌, ◌==◌, List, [], ◌∷◌, ◌++◌, length, Bool, true, false, not, ◌&&◌, ◌||◌, if◌then◌else◌, nat_lt, slice_index}
 use Rattle.alg_model.specs.Expressions.{PureCarrier, whole, up_to, down_from, seqs, simseqs, sets, one, named, pairs, sides}
 use Rattle.alg_model.specs.Expressions.{PureValue, number, symbols, marks, unit, name, pair, first, second}
+use Rattle.alg_model.specs.Carriers.{In, Order}
+use Rattle.std.specs.declared.cmp.Ordering.TheVariants.{Less, Equal}
+
+-- all values of the carrier are equivalent
+abbrev pub IsFlat : PureCarrier → Type 0
+IsFlat c = (u v : PureValue) → In c u → In c v → Order c u v ≡ Equal
+
+-- the second is a value of the carrier, and the first is preferred to it
+abbrev pub IsWorse : PureCarrier → PureValue → PureValue → Type 0
+IsWorse c v w = In c w × (Order c v w ≡ Less)
+
+-- some value of the carrier is worse than this one
+abbrev pub HasWorse : PureCarrier → PureValue → Type 0
+HasWorse c v = (w : PureValue) × IsWorse c v w
 
 -- the rank of the last value of a table: no value is worse
 abbrev pub last_rank : List ℕ → ℕ
 last_rank ranks = slice_index ranks (length ranks - 1)
 
--- all values of the carrier are equivalent
+-- the same, found by the carrier's parts
 abbrev pub is_flat : PureCarrier → Bool
 is_flat whole = false
 is_flat (up_to top) = top == 0
@@ -20,7 +35,6 @@ is_flat (named names ranks) = last_rank ranks == 0
 is_flat (pairs c d) = is_flat c && is_flat d
 is_flat (sides c d) = false
 
--- some value of the carrier is worse than this one
 abbrev pub has_worse : PureCarrier → PureValue → Bool
 has_worse whole v = true
 has_worse (up_to top) (number n) = nat_lt n top

@@ -10,14 +10,18 @@ use Rattle.std.proofs.lemmas.Bool.Decides.{nat_tests}
 use Rattle.std.proofs.lemmas.Cmp.{ranked}
 use Rattle.std.proofs.lemmas.Nat.{pow_pos}
 use Rattle.std.proofs.lemmas.Map.Steps.{length-le_from_distinct_below}
+use Rattle.alg_model.specs.declared.alg.TheConstants.{MAX_INSTANCE_NUMBER}
+use Rattle.alg_model.specs.declared.edition.TheConstants.{MAX_LABEL_NUMBER}
 use Rattle.alg_model.specs.Expressions.{PureCarrier, whole, up_to, down_from, seqs, simseqs, sets, one, named, pairs, sides}
 use Rattle.alg_model.specs.Expressions.{PureValue, number, symbols, marks, unit, name, pair, first, second}
 use Rattle.alg_model.specs.Carriers.{In, Order, distinct}
 use Rattle.alg_model.specs.Formation.{IsCarrier, are_values, are_ranks, ranks_rise, is_table_count}
-use Rattle.alg_model.specs.BoundLaws.{all_and_one}
+use Rattle.alg_model.specs.BoundLaws.{all_and_one, all_at_most_more, at_most_more}
+use Rattle.alg_model.specs.Bounds.{AtMost}
 use Rattle.alg_model.specs.ImageLaws.{distinct_and_one}
 use Rattle.alg_model.specs.PreferenceLaws.{total_preorder}
-use Rattle.alg_classes.specs.Flat.{last_rank, is_flat, has_worse, numbers_below, best, worse_than}
+use Rattle.alg_classes.specs.Classes.{IsTruthOf}
+use Rattle.alg_classes.specs.Flat.{IsFlat, IsWorse, HasWorse, last_rank, is_flat, has_worse, numbers_below, best, worse_than}
 
 -- what comparisons and tests of numbers say
 cmp_less : (m n : ℕ) → m < n → nat_cmp m n ≡ Less
@@ -168,18 +172,14 @@ best_in (named names ranks) is = (values_are names ranks is).0
 best_in (pairs c d) is = (best_in c is.0, best_in d is.1)
 best_in (sides c d) is = best_in c is.0
 
--- it is a value of the carrier, and the first is preferred to it
-abbrev pub IsWorse : PureCarrier → PureValue → PureValue → Type 0
-IsWorse c v w = In c w × (Order c v w ≡ Less)
-
 longer_by_one : (ns : List ℕ) → length ns < length (ns ++ 0 ∷ [])
 longer_by_one ns = let e = length-append ns (0 ∷ []) in omega arith
 
 worse_pair : (c d : PureCarrier) (u v : PureValue) → In c u → In d v → (b : Bool)
     → (b ≡ true → IsWorse c u (worse_than c u)) → (has_worse d v ≡ true → IsWorse d v (worse_than d v)) → (b || has_worse d v) ≡ true
     → IsWorse (pairs c d) (pair u v) (if b then pair (worse_than c u) v else pair u (worse_than d v))
-worse_pair c d u v i j true f g h = let w = f refl in ((w.0, j), rw w.1 refl)
-worse_pair c d u v i j false f g h = let w = g h in ((i, w.0), rw (equivalent_itself c u i, w.1) refl)
+worse_pair c d u v i j true f g h = let w = f refl in ((w.0, j), rw w.1 (refl {a = Less}))
+worse_pair c d u v i j false f g h = let w = g h in ((i, w.0), rw (equivalent_itself c u i, w.1) (refl {a = Less}))
 
 -- where some value is worse, this one is
 pub worse_than_is_worse : (c : PureCarrier) (v : PureValue) → IsCarrier c → In c v → has_worse c v ≡ true → IsWorse c v (worse_than c v)
@@ -294,3 +294,36 @@ some_is_worse (named names ranks) is h =
 some_is_worse (pairs c d) is h =
     one_of (is_flat c) (is_flat d) (has_worse c (best c)) (has_worse d (best d)) (some_is_worse c is.0) (some_is_worse d is.1) h
 some_is_worse (sides c d) is h = refl
+
+-- the tests find exactly whether the carrier is flat, and whether a value has a worse one
+true_unless_false : (b : Bool) → ¬ (b ≡ false) → b ≡ true
+true_unless_false true n = refl
+true_unless_false false n = absurd (n refl)
+
+pub flat_exactly : (c : PureCarrier) → IsCarrier c → IsTruthOf (is_flat c) (IsFlat c)
+flat_exactly c is = (
+  λ e u v i j. flat_is_equivalent c u v is e i j,
+  λ flat. true_unless_false (is_flat c) (λ e.
+      let w = worse_than_is_worse c (best c) is (best_in c is) (some_is_worse c is e) in
+      let same = flat (best c) (worse_than c (best c)) (best_in c is) w.0 in
+      let less = w.1 in
+      cc),
+)
+
+pub worse_exactly : (c : PureCarrier) (v : PureValue) → IsCarrier c → In c v → IsTruthOf (has_worse c v) (HasWorse c v)
+worse_exactly c v is i = (
+  λ e. (worse_than c v, worse_than_is_worse c v is i e),
+  λ w. true_unless_false (has_worse c v) (λ e. none_is_worse c v w.0 is i w.1.0 e w.1.1),
+)
+
+-- the numbers of those below a bound, of a sequence that is longer by one, and of two parts
+pub below_at_most : (m n : ℕ) → m ≤ n → AtMost n (symbols (numbers_below m))
+below_at_most zero n h = tt
+below_at_most (suc m) n h = all_and_one (λ k. k ≤ n) (numbers_below m) m (below_at_most m n (omega arith)) (omega arith)
+
+pub longer_at_most : (m n : ℕ) (ns : List ℕ) → m ≤ n → AtMost m (symbols ns) → AtMost n (symbols (ns ++ 0 ∷ []))
+longer_at_most m n ns h a = all_and_one (λ k. k ≤ n) ns 0 (all_at_most_more m n ns h a) (omega arith)
+
+-- a number of a text is a number of an instance
+pub value_fits : (v : PureValue) → AtMost MAX_LABEL_NUMBER v → AtMost MAX_INSTANCE_NUMBER v
+value_fits v a = at_most_more MAX_LABEL_NUMBER MAX_INSTANCE_NUMBER v (omega arith) a

@@ -1,10 +1,11 @@
-pub mod Shapes
-pub mod Flat
-pub mod FlatLaws
 pub mod Facts
 pub mod Profiles
 pub mod Classes
 pub mod Instances
 pub mod FactLaws
 pub mod ClassLaws
+pub mod Shapes
+pub mod Flat
+pub mod FlatLaws
+pub mod CarrierLaws
 pub mod Constants

@@ -1,7 +1,10 @@
 ghost use Rattle.std.specs.Prelude.{◌≡◌, slice_index};
 ghost use Rattle.alg_model.specs.Carriers.{In};
 ghost use Rattle.alg_model.specs.Views.{pure_value};
-ghost use Rattle.alg_classes.specs.Flat.{is_flat, has_worse, last_rank};
+ghost use Rattle.alg_model.specs.Expressions.{PureCarrier, PureValue};
+ghost use Rattle.alg_model.specs.Formation.{IsCarrier};
+ghost use Rattle.alg_classes.specs.Classes.{IsTruthOf};
+ghost use Rattle.alg_classes.specs.Flat.{IsFlat, HasWorse, is_flat, has_worse, last_rank};
 
 use crate::{Form, Shaped};
 use alg_model::{Amount, Value};
@@ -26,6 +29,7 @@ fn last_rank(ranks: &[u8]) -> u8
     ranks.last().copied().unwrap_or(0)
 }
 
+// The rank of the value at that place of a table. A table of an algebra has one for each place.
 fn rank(ranks: &[u8], place: u8) -> u8
     ensures { result ≡ slice_index ranks.now place }
 {
@@ -48,3 +52,13 @@ pub fn has_worse<C: Shaped>(shaped: &C, value: &Value) -> bool
         _ => false,
     }
 }
+
+/// The test by a carrier's parts finds exactly whether all its values are equivalent.
+pub fn flat_carriers_are_found()
+    ensures { (c : PureCarrier) → IsCarrier c → IsTruthOf (is_flat c) (IsFlat c) }
+{}
+
+/// The test of a value finds exactly whether some value of the carrier is worse.
+pub fn worse_values_are_found()
+    ensures { (c : PureCarrier) (v : PureValue) → IsCarrier c → In c v → IsTruthOf (has_worse c v) (HasWorse c v) }
+{}

@@ -5,17 +5,21 @@
 #![tactic(auto)]
 
 mod class;
+mod constants;
 mod flat;
 mod laws;
 mod list;
 mod profile;
 mod property;
 mod shape;
+mod worse;
 
 pub use class::{Class, Examples};
 pub use laws::{classes_have_their_profiles, examples_refute};
 pub use list::ClassList;
 pub use profile::Profile;
-pub use flat::{has_worse, is_flat};
+pub use constants::{constant_examples, constant_profile, kept_examples, kept_profile};
+pub use flat::{flat_carriers_are_found, has_worse, is_flat, worse_values_are_found};
+pub use worse::{apart, best, worse_than};
 pub use shape::{Form, Shaped};
 pub use property::{Instance, Property};
