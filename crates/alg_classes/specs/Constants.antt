@@ -1,6 +1,6 @@
 -- The facts of two actions: that which sends every value to one, and that which keeps every value. With an
 -- example for each that fails, which settles it.
-use Rattle.std.proofs.Common.{◌≡◌, ℕ, refl, sym, subst, Bool, true, false, not, Option, Some, None}
+use Rattle.std.proofs.Common.{◌≡◌, ℕ, refl, sym, subst, Bool, true, false, not, Option, Some, None, option_map}
 use Rattle.std.specs.declared.cmp.Ordering.TheVariants.{Less, Equal}
 use Rattle.alg_model.specs.Expressions.{Expression, left, right, scoped}
 use Rattle.alg_model.specs.Expressions.{PureCarrier, PureValue, pair}
@@ -17,7 +17,7 @@ use Rattle.alg_classes.specs.Profiles.{bit, IsProfile, ProfileOf}
 use Rattle.alg_classes.specs.Classes.{PureExamples, Settles, IsSettledBy}
 use Rattle.alg_classes.specs.FactLaws.{Keeps}
 use Rattle.alg_classes.specs.ClassLaws.{settled_profile}
-use Rattle.alg_classes.specs.Flat.{IsWorse, is_flat, has_worse, best, worse_than}
+use Rattle.alg_classes.specs.Flat.{IsFlat, IsWorse, HasWorse, is_flat, has_worse, best, worse_than}
 use Rattle.alg_classes.specs.FlatLaws.{equivalent_itself, best_in, worse_than_is_worse, none_is_worse, flat_is_equivalent, some_is_worse}
 
 -- every value is sent to this one
@@ -72,10 +72,21 @@ some_worse c v = unless (not (has_worse c v)) (worse_than c v)
 abbrev pub two_apart : PureCarrier → Option (PureValue × PureValue)
 two_apart c = unless (is_flat c) (best c, worse_than c (best c))
 
--- what two values of the program stand for, and a bound on their numbers
+-- what two values of the program stand for
 abbrev pub pure_two : Value × Value → PureValue × PureValue
 pure_two p = (pure_value p.0, pure_value p.1)
 
+-- a value worse than this one, or none where there is none
+abbrev pub IsWorseIfAny : PureCarrier → PureValue → Option Value → Type 0
+IsWorseIfAny c v None = ¬ HasWorse c v
+IsWorseIfAny c v (Some w) = IsWorse c v (pure_value w)
+
+-- two values, the first preferred, or none where all are equivalent
+abbrev pub AreApartIfAny : PureCarrier → Option (Value × Value) → Type 0
+AreApartIfAny c None = IsFlat c
+AreApartIfAny c (Some p) = In c (pure_value p.0) × IsWorse c (pure_value p.0) (pure_value p.1)
+
+-- no number of the two is above n
 abbrev pub TwoAtMost : ℕ → Value × Value → Type 0
 TwoAtMost n p = AtMost n (pure_value p.0) × AtMost n (pure_value p.1)
 
@@ -127,7 +138,7 @@ equals_equivalent : (c : PureCarrier) (u v w : PureValue) → In c u → u ≡ v
 equals_equivalent c u v w i e g = subst (λ x. Order c x w ≡ Equal) e (subst (λ x. Order c u x ≡ Equal) g (equivalent_itself c u i))
 
 -- the two values of a carrier that isn't flat
-apart_is : (c : PureCarrier) → IsCarrier c → is_flat c ≡ false → IsWorse c (best c) (worse_than c (best c))
+pub apart_is : (c : PureCarrier) → IsCarrier c → is_flat c ≡ false → IsWorse c (best c) (worse_than c (best c))
 apart_is c is e = worse_than_is_worse c (best c) is (best_in c is) (some_is_worse c is e)
 
 -- the facts of a constant action are settled

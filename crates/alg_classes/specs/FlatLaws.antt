@@ -172,6 +172,26 @@ best_in (named names ranks) is = (values_are names ranks is).0
 best_in (pairs c d) is = (best_in c is.0, best_in d is.1)
 best_in (sides c d) is = best_in c is.0
 
+-- none is preferred to it
+pub best_is_best : (c : PureCarrier) (v : PureValue) → IsCarrier c → In c v → ¬ (Order c v (best c) ≡ Less)
+best_is_best whole (number n) is i e = let l = less_of_cmp n 0 e in absurd (omega arith)
+best_is_best (up_to top) (number n) is i e = let l = less_of_cmp n 0 e in absurd (omega arith)
+best_is_best (down_from top) (number n) is i e = let l = less_of_cmp top n e in absurd (omega arith)
+best_is_best (seqs k) (symbols ns) is i e = let l = less_of_cmp (length ns) 0 e in absurd (omega arith)
+best_is_best (simseqs k) (symbols ns) is i e = let l = less_of_cmp (length ns) 0 e in absurd (omega arith)
+best_is_best (sets k) v is i e = cc
+best_is_best one v is i e = cc
+best_is_best (named names ranks) (name k) is i e =
+    let values = values_are names ranks is in
+    let zero_first = first_rank ranks values.2 (omega (arith, values.0, values.1)) in
+    let l = less_of_cmp (slice_index ranks k) (slice_index ranks 0) e in
+    absurd (omega arith)
+best_is_best (pairs c d) (pair u v) is i e =
+    ⊎_elim (best_is_best c u is.0 i.0) (λ s. best_is_best d v is.1 i.1 s.1) (then_less (Order c u (best c)) (Order d v (best d)) e)
+best_is_best (sides c d) (first u) is i e = best_is_best c u is.0 i e
+best_is_best (sides c d) (second v) is i e = cc
+best_is_best _ _ is i e = absurd i
+
 longer_by_one : (ns : List ℕ) → length ns < length (ns ++ 0 ∷ [])
 longer_by_one ns = let e = length-append ns (0 ∷ []) in omega arith
 
@@ -196,9 +216,11 @@ worse_than_is_worse (sets k) v is i h = absurd (cc)
 worse_than_is_worse one v is i h = absurd (cc)
 worse_than_is_worse (named names ranks) (name k) is i h =
     let values = values_are names ranks is in
-    let same = ap (λ n. slice_index ranks (n - 1)) values.1 in
-    (omega (arith, values.0), cmp_less (slice_index ranks k) (slice_index ranks (length names - 1))
-    (subst (λ r. slice_index ranks k < r) same (less_of_test (slice_index ranks k) (last_rank ranks) h)))
+    let same = ap (λ n. slice_index ranks (n - 1)) values.1 in (
+      omega (arith, values.0),
+      cmp_less (slice_index ranks k) (slice_index ranks (length names - 1))
+          (subst (λ r. slice_index ranks k < r) same (less_of_test (slice_index ranks k) (last_rank ranks) h)),
+    )
 worse_than_is_worse (pairs c d) (pair u v) is i h =
     worse_pair c d u v i.0 i.1 (has_worse c u) (worse_than_is_worse c u is.0 i.0) (worse_than_is_worse d v is.1 i.1) h
 worse_than_is_worse (sides c d) (first u) is i h = (best_in d is.1, refl)

@@ -9,7 +9,8 @@ ghost use Rattle.alg_classes.specs.Classes.{pure_examples, IsSettledBy, Examples
 ghost use Rattle.alg_classes.specs.Constants.{constant, kept, constant_profile, kept_profile};
 ghost use Rattle.alg_classes.specs.Profiles.{IsProfile};
 
-use crate::{Examples, Profile, Shaped, apart, best, has_worse, is_flat, worse_than};
+use crate::worse::best;
+use crate::{Examples, Profile, Shaped, apart, has_worse, is_flat, worse_than};
 use alg_model::{Carrier, Value};
 use meta_base::NoMemory;
 use std::alloc::Global;

@@ -1,11 +1,12 @@
 ghost use Rattle.std.specs.Prelude.{◌≡◌, ◌≤◌, ◌++◌, ◌∷◌, [], IfOk, IfSome, length, ◌-◌, option_map};
 ghost use Rattle.alg_model.specs.Bounds.{AtMost};
+ghost use Rattle.alg_model.specs.Carriers.{In};
 ghost use Rattle.alg_model.specs.Expressions.{symbols};
 ghost use Rattle.alg_model.specs.Formation.{IsCarrier};
 ghost use Rattle.alg_model.specs.Views.{pure_carrier, pure_value};
 ghost use Rattle.alg_model.specs.declared.alg.TheConstants.{MAX_INSTANCE_NUMBER, MAX_TABLE_NAMES};
 ghost use Rattle.alg_model.specs.declared.edition.TheConstants.{MAX_LABEL_NUMBER};
-ghost use Rattle.alg_classes.specs.Constants.{some_worse, two_apart, pure_two, TwoAtMost};
+ghost use Rattle.alg_classes.specs.Constants.{some_worse, two_apart, pure_two, IsWorseIfAny, AreApartIfAny, TwoAtMost};
 ghost use Rattle.alg_classes.specs.Flat.{best, numbers_below, worse_than};
 
 use crate::{has_worse, is_flat};
@@ -13,8 +14,8 @@ use alg_model::{Amount, Carrier, Value};
 use meta_base::{List, NoMemory, Text};
 use std::alloc::Global;
 
-/// A value of the carrier to which none is preferred. It is refused for want of memory alone.
-pub fn best(alloc: Global, carrier: &Carrier) -> Result<Value, NoMemory>
+// A value of the carrier to which none is preferred.
+pub(crate) fn best(alloc: Global, carrier: &Carrier) -> Result<Value, NoMemory>
     ensures value { IfOk result (λ v. pure_value v ≡ best (pure_carrier carrier.now)) }
     ensures small { IfOk result (λ v. AtMost MAX_LABEL_NUMBER (pure_value v)) }
 {
@@ -132,6 +133,8 @@ pub fn worse_than(
     requires carrier { IsCarrier (pure_carrier carrier.now) }
     requires small { AtMost MAX_LABEL_NUMBER (pure_value value.now) }
     ensures value { IfOk result (λ w. option_map pure_value w ≡ some_worse (pure_carrier carrier.now) (pure_value value.now)) }
+    ensures worse { In (pure_carrier carrier.now) (pure_value value.now) →
+        IfOk result (IsWorseIfAny (pure_carrier carrier.now) (pure_value value.now)) }
     ensures small { IfOk result (λ w. IfSome w (λ w. AtMost MAX_INSTANCE_NUMBER (pure_value w))) }
 {
     if has_worse(carrier, value) {
@@ -146,6 +149,7 @@ pub fn worse_than(
 pub fn apart(alloc: Global, carrier: &Carrier) -> Result<Option<(Value, Value)>, NoMemory>
     requires { IsCarrier (pure_carrier carrier.now) }
     ensures values { IfOk result (λ p. option_map pure_two p ≡ two_apart (pure_carrier carrier.now)) }
+    ensures apart { IfOk result (AreApartIfAny (pure_carrier carrier.now)) }
     ensures small { IfOk result (λ p. IfSome p (TwoAtMost MAX_INSTANCE_NUMBER)) }
 {
     if is_flat(carrier) {
