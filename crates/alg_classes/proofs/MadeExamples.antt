@@ -11,7 +11,7 @@ use Rattle.alg_model.specs.declared.tree.Value.{Value}
 use Rattle.alg_classes.specs.declared.class.Examples.{Examples}
 use Rattle.alg_classes.specs.Classes.{pure_at, pure_between, pure_examples, Settles, IsSettledBy, ExampleAtMost, ExamplesAtMost}
 use Rattle.alg_classes.specs.Constants.{constant, kept, constant_profile, kept_profile, unless, some_worse, two_apart, pure_two, TwoAtMost, constant_settled, kept_settled}
-use Rattle.alg_classes.specs.Facts.{Fact, total, dead, mono, strict, iso, canc, cond, narrow, PureExample, at, between}
+use Rattle.alg_classes.specs.Facts.{total, dead, mono, strict, iso, canc, cond, narrow, at, between}
 use Rattle.alg_classes.specs.Flat.{is_flat, has_worse, best, worse_than}
 use Rattle.alg_classes.specs.FlatLaws.{value_fits}
 

@@ -1,11 +1,11 @@
 -- The facts of two actions: that which sends every value to one, and that which keeps every value. With an
 -- example for each that fails, which settles it.
-use Rattle.std.proofs.Common.{◌≡◌, ℕ, refl, sym, subst, Bool, true, false, not, Option, Some, None, option_map}
+use Rattle.std.proofs.Common.{◌≡◌, ℕ, refl, sym, subst, Bool, true, false, not, Option, Some, None}
 use Rattle.std.specs.declared.cmp.Ordering.TheVariants.{Less, Equal}
 use Rattle.alg_model.specs.Expressions.{Expression, left, right, scoped}
 use Rattle.alg_model.specs.Expressions.{PureCarrier, PureValue, pair}
 use Rattle.alg_model.specs.Expressions.{PureLabel, const_label, keep, outer, inner}
-use Rattle.alg_model.specs.Carriers.{carrier_of, In, Order, IsPreferred, AreEquivalent}
+use Rattle.alg_model.specs.Carriers.{carrier_of, In, Order}
 use Rattle.alg_model.specs.Application.{App, both}
 use Rattle.alg_model.specs.Bounds.{AtMost}
 use Rattle.alg_model.specs.Formation.{IsCarrier}
@@ -13,7 +13,7 @@ use Rattle.alg_model.specs.Views.{pure_value}
 use Rattle.alg_model.specs.declared.tree.Value.{Value}
 use Rattle.alg_classes.specs.declared.profile.Profile.{Profile}
 use Rattle.alg_classes.specs.Facts.{Action, Fact, total, dead, mono, strict, iso, canc, cond, narrow, Holds, PureExample, at, between, Refutes}
-use Rattle.alg_classes.specs.Profiles.{bit, IsProfile, ProfileOf}
+use Rattle.alg_classes.specs.Profiles.{IsProfile, ProfileOf}
 use Rattle.alg_classes.specs.Classes.{PureExamples, Settles, IsSettledBy}
 use Rattle.alg_classes.specs.FactLaws.{Keeps}
 use Rattle.alg_classes.specs.ClassLaws.{settled_profile}

@@ -13,9 +13,9 @@ use Rattle.std.proofs.lemmas.Map.Steps.{length-le_from_distinct_below}
 use Rattle.alg_model.specs.declared.alg.TheConstants.{MAX_INSTANCE_NUMBER}
 use Rattle.alg_model.specs.declared.edition.TheConstants.{MAX_LABEL_NUMBER}
 use Rattle.alg_model.specs.Expressions.{PureCarrier, whole, up_to, down_from, seqs, simseqs, sets, one, named, pairs, sides}
-use Rattle.alg_model.specs.Expressions.{PureValue, number, symbols, marks, unit, name, pair, first, second}
+use Rattle.alg_model.specs.Expressions.{PureValue, number, symbols, name, pair, first, second}
 use Rattle.alg_model.specs.Carriers.{In, Order, distinct}
-use Rattle.alg_model.specs.Formation.{IsCarrier, are_values, are_ranks, ranks_rise, is_table_count}
+use Rattle.alg_model.specs.Formation.{IsCarrier, are_values, are_ranks, ranks_rise}
 use Rattle.alg_model.specs.BoundLaws.{all_and_one, all_at_most_more, at_most_more}
 use Rattle.alg_model.specs.Bounds.{AtMost}
 use Rattle.alg_model.specs.ImageLaws.{distinct_and_one}
