@@ -1,5 +1,5 @@
--- Which carriers are flat, that is, which have no value worse than another; which values have a worse one; and
--- one that is worse.
+-- Which carriers are flat, that is, have no value worse than another; which values have a worse one, and one
+-- that is worse. Both are tested by the carrier's parts.
 use Rattle.std.specs.Prelude.{◌≡◌, ℕ, zero, suc, ◌+◌, ◌-◌, ◌==◌, List, [], ◌∷◌, ◌++◌, length, Bool, true, false, ◌&&◌, ◌||◌, if◌then◌else◌, nat_lt, slice_index}
 use Rattle.alg_model.specs.Expressions.{PureCarrier, whole, up_to, down_from, seqs, simseqs, sets, one, named, pairs, sides}
 use Rattle.alg_model.specs.Expressions.{PureValue, number, symbols, marks, unit, name, pair, first, second}
@@ -18,11 +18,11 @@ IsWorse c v w = In c w × (Order c v w ≡ Less)
 abbrev pub HasWorse : PureCarrier → PureValue → Type 0
 HasWorse c v = (w : PureValue) × IsWorse c v w
 
--- the rank of the last value of a table: no value is worse
+-- the rank of the last value of a table, which is the greatest
 abbrev pub last_rank : List ℕ → ℕ
 last_rank ranks = slice_index ranks (length ranks - 1)
 
--- the same, found by the carrier's parts
+-- the test whether a carrier is flat
 abbrev pub is_flat : PureCarrier → Bool
 is_flat whole = false
 is_flat (up_to top) = top == 0
@@ -35,6 +35,7 @@ is_flat (named names ranks) = last_rank ranks == 0
 is_flat (pairs c d) = is_flat c && is_flat d
 is_flat (sides c d) = false
 
+-- the test whether a value has a worse one
 abbrev pub has_worse : PureCarrier → PureValue → Bool
 has_worse whole v = true
 has_worse (up_to top) (number n) = nat_lt n top
@@ -65,7 +66,7 @@ best (named names ranks) = name 0
 best (pairs c d) = pair (best c) (best d)
 best (sides c d) = first (best c)
 
--- a worse value of the carrier than this one, if there is one
+-- a worse value of the carrier than this one, if there is one, and else some value
 abbrev pub worse_than : PureCarrier → PureValue → PureValue
 worse_than whole (number n) = number (n + 1)
 worse_than (up_to top) (number n) = number top

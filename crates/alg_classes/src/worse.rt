@@ -85,7 +85,7 @@ fn copy(alloc: Global, value: &Value) -> Result<Value, NoMemory>
     value.copy(alloc)
 }
 
-// A worse value of the carrier than this one, if there is one, and else this one.
+// A worse value of the carrier than this one, if there is one, and else some value.
 #[tactic(auto, using(crate::specs::FlatLaws::value_fits))]
 fn worse(alloc: Global, carrier: &Carrier, value: &Value) -> Result<Value, NoMemory>
     requires carrier { IsCarrier (pure_carrier carrier.now) }
@@ -132,7 +132,8 @@ pub fn worse_than(
 ) -> Result<Option<Value>, NoMemory>
     requires carrier { IsCarrier (pure_carrier carrier.now) }
     requires small { AtMost MAX_LABEL_NUMBER (pure_value value.now) }
-    ensures value { IfOk result (λ w. option_map pure_value w ≡ some_worse (pure_carrier carrier.now) (pure_value value.now)) }
+    ensures value { IfOk result (λ w.
+        option_map pure_value w ≡ some_worse (pure_carrier carrier.now) (pure_value value.now)) }
     ensures worse { In (pure_carrier carrier.now) (pure_value value.now) →
         IfOk result (IsWorseIfAny (pure_carrier carrier.now) (pure_value value.now)) }
     ensures small { IfOk result (λ w. IfSome w (λ w. AtMost MAX_INSTANCE_NUMBER (pure_value w))) }
