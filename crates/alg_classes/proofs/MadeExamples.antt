@@ -1,0 +1,118 @@
+-- Examples made of values that stand for the pure ones settle the facts too, and are small.
+use Rattle.std.proofs.Common.{◌≡◌, sym, ap, subst, refl, Bool, true, false, not, Option, Some, None, option_map, IfSome}
+use Rattle.alg_model.specs.Bounds.{AtMost}
+use Rattle.alg_model.specs.Carriers.{In}
+use Rattle.alg_model.specs.Expressions.{PureCarrier, PureValue}
+use Rattle.alg_model.specs.Formation.{IsCarrier}
+use Rattle.alg_model.specs.Views.{pure_value}
+use Rattle.alg_model.specs.declared.alg.TheConstants.{MAX_INSTANCE_NUMBER}
+use Rattle.alg_model.specs.declared.edition.TheConstants.{MAX_LABEL_NUMBER}
+use Rattle.alg_model.specs.declared.tree.Value.{Value}
+use Rattle.alg_classes.specs.declared.class.Examples.{Examples}
+use Rattle.alg_classes.specs.Classes.{pure_at, pure_between, pure_examples, Settles, IsSettledBy, ExampleAtMost, ExamplesAtMost}
+use Rattle.alg_classes.specs.Constants.{constant, kept, constant_profile, kept_profile, unless, some_worse, two_apart, pure_two, TwoAtMost, constant_settled, kept_settled}
+use Rattle.alg_classes.specs.Facts.{total, dead, mono, strict, iso, canc, cond, narrow, at, between}
+use Rattle.alg_classes.specs.Flat.{is_flat, has_worse, best, worse_than}
+use Rattle.alg_classes.specs.FlatLaws.{value_fits}
+
+abbrev pub examples_of_constant : Value → Option Value → Value → Option (Value × Value) → Option (Value × Value) → Examples
+examples_of_constant inside worse kept two two_more = record {
+  inside = Some inside;
+  outside = None;
+  not_mono = worse;
+  not_strict = Some kept;
+  not_iso = None;
+  not_canc = two;
+  not_cond = None;
+  not_narrow = two_more;
+}
+
+abbrev pub examples_of_kept : Value → Value → Option (Value × Value) → Option (Value × Value) → Examples
+examples_of_kept inside kept two two_more = record {
+  inside = Some inside;
+  outside = None;
+  not_mono = None;
+  not_strict = Some kept;
+  not_iso = None;
+  not_canc = None;
+  not_cond = two;
+  not_narrow = two_more;
+}
+
+-- as examples
+one_example : (w : Option Value) (b : Bool) (x : PureValue) → option_map pure_value w ≡ unless b x → option_map pure_at w ≡ unless b (at x)
+one_example None true x e = refl
+one_example None false x e = absurd (cc)
+one_example (Some w) true x e = absurd (cc)
+one_example (Some w) false x e = ap (option_map at) e
+
+two_example : (p : Option (Value × Value)) (b : Bool) (x y : PureValue) → option_map pure_two p ≡ unless b (x, y)
+    → option_map pure_between p ≡ unless b (between x y)
+two_example None true x y e = refl
+two_example None false x y e = absurd (cc)
+two_example (Some p) true x y e = absurd (cc)
+two_example (Some p) false x y e = ap (option_map (λ (t : PureValue × PureValue). between t.0 t.1)) e
+
+one_small : (w : Option Value) → IfSome w (λ w. AtMost MAX_INSTANCE_NUMBER (pure_value w)) → ExampleAtMost MAX_INSTANCE_NUMBER (option_map pure_at w)
+one_small None h = tt
+one_small (Some w) h = h
+
+two_small : (p : Option (Value × Value)) → IfSome p (TwoAtMost MAX_INSTANCE_NUMBER) → ExampleAtMost MAX_INSTANCE_NUMBER (option_map pure_between p)
+two_small None h = tt
+two_small (Some p) h = h
+
+pub constant_settles : (c : PureCarrier) (v : PureValue) (i : Value) (w : Option Value) (s : Value) (p q : Option (Value × Value)) → IsCarrier c → In c v
+    → pure_value i ≡ v → option_map pure_value w ≡ some_worse c v → pure_value s ≡ v → option_map pure_two p ≡ two_apart c → option_map pure_two q ≡ two_apart c
+    → IsSettledBy c (constant v) (constant_profile c v) (pure_examples (examples_of_constant i w s p q))
+constant_settles c v i w s p q is h ei ew es ep eq total = constant_settled c v is h total
+constant_settles c v i w s p q is h ei ew es ep eq dead =
+    subst (λ x. Settles c (constant v) dead false (Some (at x))) (sym ei) (constant_settled c v is h dead)
+constant_settles c v i w s p q is h ei ew es ep eq mono =
+    subst (Settles c (constant v) mono (not (has_worse c v))) (sym (one_example w (not (has_worse c v)) (worse_than c v) ew)) (constant_settled c v is h mono)
+constant_settles c v i w s p q is h ei ew es ep eq strict =
+    subst (λ x. Settles c (constant v) strict false (Some (at x))) (sym es) (constant_settled c v is h strict)
+constant_settles c v i w s p q is h ei ew es ep eq iso = constant_settled c v is h iso
+constant_settles c v i w s p q is h ei ew es ep eq canc =
+    subst (Settles c (constant v) canc (is_flat c)) (sym (two_example p (is_flat c) (best c) (worse_than c (best c)) ep)) (constant_settled c v is h canc)
+constant_settles c v i w s p q is h ei ew es ep eq cond = constant_settled c v is h cond
+constant_settles c v i w s p q is h ei ew es ep eq narrow =
+    subst (Settles c (constant v) narrow (is_flat c)) (sym (two_example q (is_flat c) (best c) (worse_than c (best c)) eq)) (constant_settled c v is h narrow)
+
+pub constant_small : (i : Value) (w : Option Value) (s : Value) (p q : Option (Value × Value))
+    → AtMost MAX_LABEL_NUMBER (pure_value i) → IfSome w (λ w. AtMost MAX_INSTANCE_NUMBER (pure_value w)) → AtMost MAX_LABEL_NUMBER (pure_value s)
+    → IfSome p (TwoAtMost MAX_INSTANCE_NUMBER) → IfSome q (TwoAtMost MAX_INSTANCE_NUMBER)
+    → ExamplesAtMost MAX_INSTANCE_NUMBER (pure_examples (examples_of_constant i w s p q))
+constant_small i w s p q hi hw hs hp hq total = tt
+constant_small i w s p q hi hw hs hp hq dead = value_fits (pure_value i) hi
+constant_small i w s p q hi hw hs hp hq mono = one_small w hw
+constant_small i w s p q hi hw hs hp hq strict = value_fits (pure_value s) hs
+constant_small i w s p q hi hw hs hp hq iso = tt
+constant_small i w s p q hi hw hs hp hq canc = two_small p hp
+constant_small i w s p q hi hw hs hp hq cond = tt
+constant_small i w s p q hi hw hs hp hq narrow = two_small q hq
+
+pub kept_settles : (c : PureCarrier) (i s : Value) (p q : Option (Value × Value)) → IsCarrier c
+    → pure_value i ≡ best c → pure_value s ≡ best c → option_map pure_two p ≡ two_apart c → option_map pure_two q ≡ two_apart c
+    → IsSettledBy c kept (kept_profile c) (pure_examples (examples_of_kept i s p q))
+kept_settles c i s p q is ei es ep eq total = kept_settled c is total
+kept_settles c i s p q is ei es ep eq dead = subst (λ x. Settles c kept dead false (Some (at x))) (sym ei) (kept_settled c is dead)
+kept_settles c i s p q is ei es ep eq mono = kept_settled c is mono
+kept_settles c i s p q is ei es ep eq strict = subst (λ x. Settles c kept strict false (Some (at x))) (sym es) (kept_settled c is strict)
+kept_settles c i s p q is ei es ep eq iso = kept_settled c is iso
+kept_settles c i s p q is ei es ep eq canc = kept_settled c is canc
+kept_settles c i s p q is ei es ep eq cond =
+    subst (Settles c kept cond (is_flat c)) (sym (two_example p (is_flat c) (best c) (worse_than c (best c)) ep)) (kept_settled c is cond)
+kept_settles c i s p q is ei es ep eq narrow =
+    subst (Settles c kept narrow (is_flat c)) (sym (two_example q (is_flat c) (best c) (worse_than c (best c)) eq)) (kept_settled c is narrow)
+
+pub kept_small : (i s : Value) (p q : Option (Value × Value)) → AtMost MAX_LABEL_NUMBER (pure_value i) → AtMost MAX_LABEL_NUMBER (pure_value s)
+    → IfSome p (TwoAtMost MAX_INSTANCE_NUMBER) → IfSome q (TwoAtMost MAX_INSTANCE_NUMBER)
+    → ExamplesAtMost MAX_INSTANCE_NUMBER (pure_examples (examples_of_kept i s p q))
+kept_small i s p q hi hs hp hq total = tt
+kept_small i s p q hi hs hp hq dead = value_fits (pure_value i) hi
+kept_small i s p q hi hs hp hq mono = tt
+kept_small i s p q hi hs hp hq strict = value_fits (pure_value s) hs
+kept_small i s p q hi hs hp hq iso = tt
+kept_small i s p q hi hs hp hq canc = tt
+kept_small i s p q hi hs hp hq cond = two_small p hp
+kept_small i s p q hi hs hp hq narrow = two_small q hq
