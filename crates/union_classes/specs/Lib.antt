@@ -1,0 +1,8 @@
+pub mod Sums
+pub mod Made
+pub mod Growth
+pub mod SideLaws
+pub mod SumLaws
+pub mod Inhabited
+pub mod LabelLaws
+pub mod CoverLaws
