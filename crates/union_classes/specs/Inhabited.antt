@@ -1,5 +1,6 @@
 -- Every formed algebra has a label, and a value.
 use Rattle.std.proofs.Common.{◌≡◌, refl, ℕ, ◌<◌, ◌^◌, [], length, true, arith}
+use Rattle.std.proofs.Math.Pow.{pow_pos}
 use Rattle.std.proofs.lemmas.Bool.Decides.{nat_tests}
 use Rattle.alg_model.specs.declared.tree.TableSpec.{TableSpec}
 use Rattle.alg_model.specs.Expressions.{Expression, add, cap, worst, width, pref, orig, seq, simseq, tags, guard, gate, table, lex, scoped, union, sum, plus, left, right}
@@ -19,7 +20,7 @@ a_row t h = grind (arith, nat_tests)
 
 -- the empty set is one
 no_marks : (n : ℕ) → 0 < 2 ^ n
-no_marks n = grind arith
+no_marks n = pow_pos n
 
 pub some_value : (a : Expression) → IsFormed a → (v : PureValue) × In (carrier_of a) v
 some_value (add low high) f = (number 0, tt)

@@ -23,22 +23,29 @@ fn all_of_both(l: &Profile, m: &Profile) -> Profile
     }
 }
 
-/// The profile of a sum's label, from those of its parts.
-pub fn sum_profile(l: &Profile, m: &Profile) -> Profile
-    ensures rule { result ≡ beside_profile l.now m.now }
-    ensures exact { (a b : Expression) (x y : PureLabel) → IsFormed (sum a b) → IsLabel a x → IsLabel b y →
-        ProfileOf a x l.now → ProfileOf b y m.now → ProfileOf (sum a b) (both_label x y) result }
+// The profile of one action on the first side beside another on the second.
+fn beside(l: &Profile, m: &Profile) -> Profile
+    ensures { result ≡ beside_profile l.now m.now }
 {
     let both = all_of_both(l, m);
     let one_dead = l.dead || m.dead;
     Profile {
         // Order is lost where a value of the first side is sent to none, and one of the second isn't.
         iso: both.iso && (l.total || m.dead),
-        // Values of the two sides are never equivalent.
+        // Images of both sides are never equivalent, nor are values of both.
         cond: both.cond && one_dead,
         narrow: both.narrow && one_dead,
         ..both
     }
+}
+
+/// The profile of a sum's label, from those of its parts.
+pub fn sum_profile(l: &Profile, m: &Profile) -> Profile
+    ensures rule { result ≡ beside_profile l.now m.now }
+    ensures exact { (a b : Expression) (x y : PureLabel) → IsFormed (sum a b) → IsLabel a x → IsLabel b y →
+        ProfileOf a x l.now → ProfileOf b y m.now → ProfileOf (sum a b) (both_label x y) result }
+{
+    beside(l, m)
 }
 
 /// The profile of a union's label of the first side, from that of its part.
@@ -58,7 +65,7 @@ pub fn union_second_profile(x: &Profile) -> Profile
 {
     Profile {
         total: false,
-        // Values of the first side are sent to none, and so aren't worse than those of the second.
+        // The first side's values are sent to none: no image of the second side may be better than that.
         iso: x.dead,
         ..*x
     }
