@@ -231,3 +231,9 @@ value_shown a (z ∷ zs) formed covers =
     let is = covers.each.0 in
     value_of_examples a (App a.expression (pure_label z.label)) z.profile.dead z.profile.total z.examples.inside z.examples.outside formed
     (is.settled dead) (is.settled total) (is.bound dead) (is.bound total)
+
+pub never_unshown : (a : PureAlg) (classes : List Class) → IsFormed a.expression → Covers a classes → ¬ (shown_value classes ≡ None)
+never_unshown a classes formed covers e = subst (λ o. SomeValueOf a (option_map pure_value o)) e (value_shown a classes formed covers)
+
+pub shown_is : (a : PureAlg) (classes : List Class) (v : Value) → IsFormed a.expression → Covers a classes → shown_value classes ≡ Some v → IsValueOf a (pure_value v)
+shown_is a classes v formed covers e = subst (λ o. SomeValueOf a (option_map pure_value o)) e (value_shown a classes formed covers)

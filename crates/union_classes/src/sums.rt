@@ -61,9 +61,10 @@ pub fn sum_class_list(
     ensures { (c d : Expression) (e : Edition) → IsFormed (sum c d) →
         Covers (alg_in c e) a.now → Covers (alg_in d e) b.now → IfOk result (Covers (alg_in (sum c d) e)) }
 {
+    let ys = b.classes();
     let mut sums = ClassList::new(alloc);
     for x in a.classes() {
-        add_sums(alloc, &mut sums, x, b.classes())?;
+        add_sums(alloc, &mut sums, x, ys)?;
     }
     Ok(sums)
 }

@@ -151,11 +151,17 @@ pub fn union_class_list(
     ensures { (c d : Expression) (e : Edition) → IsFormed (union c d) →
         Covers (alg_in c e) a.now → Covers (alg_in d e) b.now → IfOk result (Covers (alg_in (union c d) e)) }
 {
+    let xs = a.classes();
+    let ys = b.classes();
     let mut unions = ClassList::new(alloc);
-    // Lists that cover show a value each, as no carrier is empty.
-    if let (Some(u), Some(v)) = (shown_value(a.classes()), shown_value(b.classes())) {
-        add_firsts(alloc, &mut unions, a.classes(), v)?;
-        add_seconds(alloc, &mut unions, b.classes(), u)?;
-    }
+    // Classes that cover show a value, as no carrier is empty.
+    let Some(u) = shown_value(xs) else {
+        return Ok(unions);
+    };
+    let Some(v) = shown_value(ys) else {
+        return Ok(unions);
+    };
+    add_firsts(alloc, &mut unions, xs, v)?;
+    add_seconds(alloc, &mut unions, ys, u)?;
     Ok(unions)
 }

@@ -9,8 +9,8 @@ loop-x-init c = λ a b e formed are. grown_none (ClassOf (alg_in (plus a b) e)) 
 
 pub loop-x-preserved : goal.loop-x-preserved
 loop-x-preserved c = λ a b e formed are.
-    let x = c.loop-x-item.result in
-    let is = one_of_all (ClassOf (alg_in a e)) c.args.xs.now c.loop-x.x-index x are (omega arith) c.loop-x-item.is in
+    let x = c.x-item.result in
+    let is = one_of_all (ClassOf (alg_in a e)) c.args.xs.now c.loop-x.x-index x are (omega arith) c.x-item.is in
     grown_more (ClassOf (alg_in (plus a b) e)) Only c.args.xs.now c.loop-x.x-index x
-    c.args.pluses.now c.loop-x.pluses c.add_first.new.pluses (omega arith) c.loop-x-item.is
+    c.args.pluses.now c.loop-x.pluses c.add_first.new.pluses (omega arith) c.x-item.is
     (c.loop-x.invariant a b e formed are) (c.in_ok-add_first.ensures a b e formed is)

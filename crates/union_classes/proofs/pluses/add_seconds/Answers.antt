@@ -9,8 +9,8 @@ loop-y-init c = λ a b e formed are. grown_none (ClassOf (alg_in (plus a b) e)) 
 
 pub loop-y-preserved : goal.loop-y-preserved
 loop-y-preserved c = λ a b e formed are.
-    let y = c.loop-y-item.result in
-    let is = one_of_all (ClassOf (alg_in b e)) c.args.ys.now c.loop-y.y-index y are (omega arith) c.loop-y-item.is in
+    let y = c.y-item.result in
+    let is = one_of_all (ClassOf (alg_in b e)) c.args.ys.now c.loop-y.y-index y are (omega arith) c.y-item.is in
     grown_more (ClassOf (alg_in (plus a b) e)) Only c.args.ys.now c.loop-y.y-index y
-    c.args.pluses.now c.loop-y.pluses c.add_second.new.pluses (omega arith) c.loop-y-item.is
+    c.args.pluses.now c.loop-y.pluses c.add_second.new.pluses (omega arith) c.y-item.is
     (c.loop-y.invariant a b e formed are) (c.in_ok-add_second.ensures a b e formed is)

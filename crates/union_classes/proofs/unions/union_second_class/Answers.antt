@@ -7,14 +7,14 @@ use Rattle.alg_model.specs.Views.{pure_value}
 use Rattle.alg_model.specs.Carriers.{In}
 use Rattle.alg_model.specs.Laws.{at_most_more}
 use Rattle.alg_classes.specs.Classes.{ClassOf, alg_in}
-use Rattle.union_classes.specs.Made.{IsSecondOf}
+use Rattle.union_classes.specs.Made.{IsSecondOf, IsValueOf}
 use Rattle.union_classes.specs.CoverLaws.{second_class_of}
 use Rattle.union_classes.proofs.unions.union_second_class.Goals as goal
 
 pub returns : goal.returns
 returns c = λ a b e formed carrier is.
     let v = pure_value c.in_ok-member.field-0 in
-    let other = (
+    let other : IsValueOf (alg_in a e) v = (
       subst (λ d. In d v) carrier c.in_ok-member.ensures.member,
       at_most_more MAX_NUMBER MAX_INSTANCE_NUMBER v (omega arith) c.in_ok-member.ensures.small,
     ) in
