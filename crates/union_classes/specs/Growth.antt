@@ -98,7 +98,7 @@ pub grown_more : (P : Class → Type 0) (S : Profile → Profile → Type 0) (ot
     → Grown P (Over S (take (i + 1) others)) old new
 grown_more P S others i x old mid new within is g h =
     let front : take (i + 1) others ≡ take i others ++ x ∷ [] =
-        take_more others i x within ∙ subst (λ y. take i others ++ get_or others i x ∷ [] ≡ take i others ++ y ∷ []) (sym is) refl in
+    take_more others i x within ∙ subst (λ y. take i others ++ get_or others i x ∷ [] ≡ take i others ++ y ∷ []) (sym is) refl in
     subst (λ ys. Grown P (Over S ys) old new) (sym front)
     (grown_then P (Over S (take i others)) (S x.profile) (Over S (take i others ++ x ∷ [])) old mid new (over_more S (take i others) x) g h)
 

@@ -4,5 +4,3 @@ pub mod Growth
 pub mod SideLaws
 pub mod SumLaws
 pub mod Inhabited
-pub mod LabelLaws
-pub mod CoverLaws

@@ -118,13 +118,13 @@ pub both_canc : (c d : PureCarrier) (f g : Action) → Holds c f canc → Holds 
 both_canc c d f g h k = λ u v i j. each_side c d
     (λ u. AreEquivalent (sides c d) (beside f g u) (beside f g v) → AreEquivalent (sides c d) (Some u) (Some v))
     (λ s i. each_side c d
-        (λ v. AreEquivalent (sides c d) (option_map first (f s)) (beside f g v) → AreEquivalent (sides c d) (Some (first s)) (Some v))
-        (λ t j e. h s t i j ((firsts_equivalent c d (f s) (f t)).1 e))
-        (λ t j e. absurd (across_not_equivalent c d (f s) (g t) e)) v j)
+    (λ v. AreEquivalent (sides c d) (option_map first (f s)) (beside f g v) → AreEquivalent (sides c d) (Some (first s)) (Some v))
+    (λ t j e. h s t i j ((firsts_equivalent c d (f s) (f t)).1 e))
+    (λ t j e. absurd (across_not_equivalent c d (f s) (g t) e)) v j)
     (λ s i. each_side c d
-        (λ v. AreEquivalent (sides c d) (option_map second (g s)) (beside f g v) → AreEquivalent (sides c d) (Some (second s)) (Some v))
-        (λ t j e. absurd (back_not_equivalent c d (g s) (f t) e))
-        (λ t j e. k s t i j ((seconds_equivalent c d (g s) (g t)).1 e)) v j) u i
+    (λ v. AreEquivalent (sides c d) (option_map second (g s)) (beside f g v) → AreEquivalent (sides c d) (Some (second s)) (Some v))
+    (λ t j e. absurd (back_not_equivalent c d (g s) (f t) e))
+    (λ t j e. k s t i j ((seconds_equivalent c d (g s) (g t)).1 e)) v j) u i
 
 -- an image of the second side isn't preferred to that of the first
 order_across : (c d : PureCarrier) (f g : Action) → Holds c f total ⊎ Holds d g dead → (u v : PureValue) → In c u → In d v
@@ -139,13 +139,13 @@ pub both_iso : (c d : PureCarrier) (f g : Action) → Holds c f iso → Holds d 
 both_iso c d f g h k either = λ u v i j. each_side c d
     (λ u. ¬ IsPreferred (sides c d) (Some v) (Some u) → ¬ IsPreferred (sides c d) (beside f g v) (beside f g u))
     (λ s i. each_side c d
-        (λ v. ¬ IsPreferred (sides c d) (Some v) (Some (first s)) → ¬ IsPreferred (sides c d) (beside f g v) (option_map first (f s)))
-        (λ t j n p. h s t i j n (sym (firsts_compare c d (f t) (f s)) ∙ p))
-        (λ t j n p. order_across c d f g either s t i j p) v j)
+    (λ v. ¬ IsPreferred (sides c d) (Some v) (Some (first s)) → ¬ IsPreferred (sides c d) (beside f g v) (option_map first (f s)))
+    (λ t j n p. h s t i j n (sym (firsts_compare c d (f t) (f s)) ∙ p))
+    (λ t j n p. order_across c d f g either s t i j p) v j)
     (λ s i. each_side c d
-        (λ v. ¬ IsPreferred (sides c d) (Some v) (Some (second s)) → ¬ IsPreferred (sides c d) (beside f g v) (option_map second (g s)))
-        (λ t j n p. n refl)
-        (λ t j n p. k s t i j n (sym (seconds_compare c d (g t) (g s)) ∙ p)) v j) u i
+    (λ v. ¬ IsPreferred (sides c d) (Some v) (Some (second s)) → ¬ IsPreferred (sides c d) (beside f g v) (option_map second (g s)))
+    (λ t j n p. n refl)
+    (λ t j n p. k s t i j n (sym (seconds_compare c d (g t) (g s)) ∙ p)) v j) u i
 
 -- where one side is dead, there are no images of both
 not_across : (c d : PureCarrier) (f g : Action) → Holds c f dead ⊎ Holds d g dead → (u v w x : PureValue) → In c u → In d v
@@ -160,34 +160,34 @@ pub both_cond : (c d : PureCarrier) (f g : Action) → Holds c f cond → Holds 
 both_cond c d f g h k either = λ u v w x i j. each_side c d
     (λ u. beside f g u ≡ Some w → beside f g v ≡ Some x → Order (sides c d) w x ≡ Equal)
     (λ s i. each_side c d (λ v. option_map first (f s) ≡ Some w → beside f g v ≡ Some x → Order (sides c d) w x ≡ Equal)
-        (λ t j p q.
-        let a = image_of first (f s) w p in
-        let b = image_of first (f t) x q in
-        rw (a.2, b.2) (h s t a.0 b.0 i j a.1 b.1))
-        (λ t j p q. absurd (not_across c d f g either s t w x i j p q)) v j)
+    (λ t j p q.
+    let a = image_of first (f s) w p in
+    let b = image_of first (f t) x q in
+    rw (a.2, b.2) (h s t a.0 b.0 i j a.1 b.1))
+    (λ t j p q. absurd (not_across c d f g either s t w x i j p q)) v j)
     (λ s i. each_side c d (λ v. option_map second (g s) ≡ Some w → beside f g v ≡ Some x → Order (sides c d) w x ≡ Equal)
-        (λ t j p q. absurd (not_across c d f g either t s x w j i q p))
-        (λ t j p q.
-        let a = image_of second (g s) w p in
-        let b = image_of second (g t) x q in
-        rw (a.2, b.2) (k s t a.0 b.0 i j a.1 b.1)) v j) u i
+    (λ t j p q. absurd (not_across c d f g either t s x w j i q p))
+    (λ t j p q.
+    let a = image_of second (g s) w p in
+    let b = image_of second (g t) x q in
+    rw (a.2, b.2) (k s t a.0 b.0 i j a.1 b.1)) v j) u i
 
 pub both_narrow : (c d : PureCarrier) (f g : Action) → Holds c f narrow → Holds d g narrow → Holds c f dead ⊎ Holds d g dead
     → Holds (sides c d) (beside f g) narrow
 both_narrow c d f g h k either = λ u v w x i j. each_side c d
     (λ u. beside f g u ≡ Some w → beside f g v ≡ Some x → Order (sides c d) u v ≡ Equal)
     (λ s i. each_side c d (λ v. option_map first (f s) ≡ Some w → beside f g v ≡ Some x → Order (sides c d) (first s) v ≡ Equal)
-        (λ t j p q.
-        let a = image_of first (f s) w p in
-        let b = image_of first (f t) x q in
-        h s t a.0 b.0 i j a.1 b.1)
-        (λ t j p q. absurd (not_across c d f g either s t w x i j p q)) v j)
+    (λ t j p q.
+    let a = image_of first (f s) w p in
+    let b = image_of first (f t) x q in
+    h s t a.0 b.0 i j a.1 b.1)
+    (λ t j p q. absurd (not_across c d f g either s t w x i j p q)) v j)
     (λ s i. each_side c d (λ v. option_map second (g s) ≡ Some w → beside f g v ≡ Some x → Order (sides c d) (second s) v ≡ Equal)
-        (λ t j p q. absurd (not_across c d f g either t s x w j i q p))
-        (λ t j p q.
-        let a = image_of second (g s) w p in
-        let b = image_of second (g t) x q in
-        k s t a.0 b.0 i j a.1 b.1) v j) u i
+    (λ t j p q. absurd (not_across c d f g either t s x w j i q p))
+    (λ t j p q.
+    let a = image_of second (g s) w p in
+    let b = image_of second (g t) x q in
+    k s t a.0 b.0 i j a.1 b.1) v j) u i
 
 -- what is sent to none keeps its order
 pub iso_of_dead : (c : PureCarrier) (f : Action) → Holds c f dead → Holds c f iso

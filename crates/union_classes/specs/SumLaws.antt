@@ -80,11 +80,11 @@ guarded : (c d : PureCarrier) (f g : Action) (k i j : Fact)
     → Settles (sides c d) (beside f g) k ((a && b) && (x || y)) (or_else (of_either o p) (across q r))
 guarded c d f g k i j holds one one' cross a b x y o p q r s t s' t' =
     let both : SettledAs (Holds c f k × Holds d g k) (Refutes (sides c d) (beside f g) k) (a && b) (of_either o p) =
-        both_settled (Holds c f k) (Holds d g k) (Holds c f k × Holds d g k) (Refutes c f k) (Refutes d g k) (Refutes (sides c d) (beside f g) k)
-        (λ m n. (m, n)) (refuted_on_first c d f g k) (refuted_on_second c d f g k) a b o p (of_settles c f k a o s) (of_settles d g k b p t) in
+    both_settled (Holds c f k) (Holds d g k) (Holds c f k × Holds d g k) (Refutes c f k) (Refutes d g k) (Refutes (sides c d) (beside f g) k)
+    (λ m n. (m, n)) (refuted_on_first c d f g k) (refuted_on_second c d f g k) a b o p (of_settles c f k a o s) (of_settles d g k b p t) in
     let either : SettledAs (Holds c f i ⊎ Holds d g j) (Refutes (sides c d) (beside f g) k) (x || y) (across q r) =
-        either_settled (Holds c f i) (Holds d g j) (Refutes c f i) (Refutes d g j) (Refutes (sides c d) (beside f g) k)
-        one one' cross x y q r (of_settles c f i x q s') (of_settles d g j y r t') in
+    either_settled (Holds c f i) (Holds d g j) (Refutes c f i) (Refutes d g j) (Refutes (sides c d) (beside f g) k)
+    one one' cross x y q r (of_settles c f i x q s') (of_settles d g j y r t') in
     to_settles (sides c d) (beside f g) k ((a && b) && (x || y)) (or_else (of_either o p) (across q r))
     (and_settled (Holds c f k × Holds d g k) (Holds c f i ⊎ Holds d g j) (Holds (sides c d) (beside f g) k) (Refutes (sides c d) (beside f g) k)
     (λ h e. holds h.0 h.1 e) (a && b) (x || y) (of_either o p) (across q r) both either)

@@ -26,11 +26,7 @@ fn second(alloc: Global, v: &Value) -> Result<Value, NoMemory>
 }
 
 // The first side's example if there is one, else the second's.
-fn of_either(
-    alloc: Global,
-    x: &Option<Value>,
-    y: &Option<Value>,
-) -> Result<Option<Value>, NoMemory>
+fn of_either(alloc: Global, x: &Option<Value>, y: &Option<Value>) -> Result<Option<Value>, NoMemory>
     ensures { IfOk result (λ o. option_map pure_at o ≡
         rule.of_either (option_map pure_at x.now) (option_map pure_at y.now)) }
 {
@@ -98,11 +94,7 @@ fn not_cond(alloc: Global, x: &Examples, y: &Examples) -> Result<Option<(Value, 
 }
 
 // The same for narrow.
-fn not_narrow(
-    alloc: Global,
-    x: &Examples,
-    y: &Examples,
-) -> Result<Option<(Value, Value)>, NoMemory>
+fn not_narrow(alloc: Global, x: &Examples, y: &Examples) -> Result<Option<(Value, Value)>, NoMemory>
     ensures { IfOk result (λ o. option_map pure_between o ≡
         rule.or_else (rule.of_either (option_map pure_between x.now.not_narrow) (option_map pure_between y.now.not_narrow))
         (rule.across (option_map pure_at x.now.inside) (option_map pure_at y.now.inside))) }

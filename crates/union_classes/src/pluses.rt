@@ -87,11 +87,7 @@ fn add_seconds(alloc: Global, pluses: &mut ClassList, ys: &[Class]) -> Result<()
 }
 
 /// The classes of a plus's labels, from those of its parts. They are refused for want of memory alone.
-pub fn plus_class_list(
-    alloc: Global,
-    a: &ClassList,
-    b: &ClassList,
-) -> Result<ClassList, NoMemory>
+pub fn plus_class_list(alloc: Global, a: &ClassList, b: &ClassList) -> Result<ClassList, NoMemory>
     ensures { (c d : Expression) (e : Edition) → IsFormed (plus c d) →
         Covers (alg_in c e) a.now → Covers (alg_in d e) b.now → IfOk result (Covers (alg_in (plus c d) e)) }
 {

@@ -53,11 +53,7 @@ fn add_sums(alloc: Global, sums: &mut ClassList, x: &Class, ys: &[Class]) -> Res
 }
 
 /// The classes of a sum's labels, from those of its parts. They are refused for want of memory alone.
-pub fn sum_class_list(
-    alloc: Global,
-    a: &ClassList,
-    b: &ClassList,
-) -> Result<ClassList, NoMemory>
+pub fn sum_class_list(alloc: Global, a: &ClassList, b: &ClassList) -> Result<ClassList, NoMemory>
     ensures { (c d : Expression) (e : Edition) → IsFormed (sum c d) →
         Covers (alg_in c e) a.now → Covers (alg_in d e) b.now → IfOk result (Covers (alg_in (sum c d) e)) }
 {

@@ -143,11 +143,7 @@ fn shown_value(classes: &[Class]) -> Option<&Value>
 }
 
 /// The classes of a union's labels, from those of its parts. They are refused for want of memory alone.
-pub fn union_class_list(
-    alloc: Global,
-    a: &ClassList,
-    b: &ClassList,
-) -> Result<ClassList, NoMemory>
+pub fn union_class_list(alloc: Global, a: &ClassList, b: &ClassList) -> Result<ClassList, NoMemory>
     ensures { (c d : Expression) (e : Edition) → IsFormed (union c d) →
         Covers (alg_in c e) a.now → Covers (alg_in d e) b.now → IfOk result (Covers (alg_in (union c d) e)) }
 {

@@ -1,5 +1,5 @@
 use Rattle.std.proofs.Common.{refl}
-use Rattle.union_classes.specs.CoverLaws.{plus_first_class_of}
+use Rattle.union_classes.proofs.CoverLaws.{plus_first_class_of}
 use Rattle.union_classes.proofs.pluses.plus_first_class.Goals as goal
 
 pub returns-clause-class : goal.returns-clause-class

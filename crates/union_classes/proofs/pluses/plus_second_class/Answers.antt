@@ -1,5 +1,5 @@
 use Rattle.std.proofs.Common.{refl}
-use Rattle.union_classes.specs.CoverLaws.{plus_second_class_of}
+use Rattle.union_classes.proofs.CoverLaws.{plus_second_class_of}
 use Rattle.union_classes.proofs.pluses.plus_second_class.Goals as goal
 
 pub returns-clause-class : goal.returns-clause-class

@@ -1,4 +1,4 @@
-use Rattle.union_classes.specs.CoverLaws.{sum_class_of}
+use Rattle.union_classes.proofs.CoverLaws.{sum_class_of}
 use Rattle.union_classes.proofs.sums.sum_class.Goals as goal
 
 pub returns-clause-class : goal.returns-clause-class

@@ -4,7 +4,7 @@ use Rattle.alg_model.specs.Expressions.{sum}
 use Rattle.alg_classes.specs.Classes.{ClassOf, Covers, alg_in}
 use Rattle.union_classes.specs.Sums.{beside_profile}
 use Rattle.union_classes.specs.Growth.{Grown, Only, Over, grown_none, grown_more, one_of_all}
-use Rattle.union_classes.specs.CoverLaws.{sums_cover}
+use Rattle.union_classes.proofs.CoverLaws.{sums_cover}
 use Rattle.union_classes.proofs.sums.sum_class_list.Goals as goal
 
 pub loop-x-init : goal.loop-x-init

@@ -4,7 +4,7 @@ use Rattle.alg_model.specs.Views.{pure_value}
 use Rattle.alg_classes.specs.Classes.{ClassOf, alg_in}
 use Rattle.union_classes.specs.Sums.{first_profile}
 use Rattle.union_classes.specs.Growth.{grown_by_one}
-use Rattle.union_classes.specs.CoverLaws.{first_class_of}
+use Rattle.union_classes.proofs.CoverLaws.{first_class_of}
 use Rattle.union_classes.proofs.unions.add_first.Goals as goal
 
 pub returns : goal.returns

@@ -8,7 +8,7 @@ use Rattle.alg_model.specs.Carriers.{In}
 use Rattle.alg_model.specs.Laws.{at_most_more}
 use Rattle.alg_classes.specs.Classes.{ClassOf, alg_in}
 use Rattle.union_classes.specs.Made.{IsFirstOf, IsValueOf}
-use Rattle.union_classes.specs.CoverLaws.{first_class_of}
+use Rattle.union_classes.proofs.CoverLaws.{first_class_of}
 use Rattle.union_classes.proofs.unions.union_first_class.Goals as goal
 
 pub returns : goal.returns

@@ -8,7 +8,7 @@ use Rattle.alg_model.specs.Carriers.{In}
 use Rattle.alg_model.specs.Laws.{at_most_more}
 use Rattle.alg_classes.specs.Classes.{ClassOf, alg_in}
 use Rattle.union_classes.specs.Made.{IsSecondOf, IsValueOf}
-use Rattle.union_classes.specs.CoverLaws.{second_class_of}
+use Rattle.union_classes.proofs.CoverLaws.{second_class_of}
 use Rattle.union_classes.proofs.unions.union_second_class.Goals as goal
 
 pub returns : goal.returns
