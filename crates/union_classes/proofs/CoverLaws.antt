@@ -1,5 +1,5 @@
 -- Classes of the labels of sums, unions and pluses, and lists of them that cover.
-use Rattle.std.proofs.Common.{◌≡◌, refl, sym, subst, ℕ, List, [], ◌∷◌, Bool, true, false, Option, Some, None, ◌⊎◌, inl, inr, ⊎_elim}
+use Rattle.std.proofs.Common.{◌≡◌, refl, sym, subst, ℕ, List, [], ◌∷◌, Bool, true, false, Option, Some, None}
 use Rattle.std.specs.Prelude.{option_map}
 use Rattle.std.proofs.Math.Path.{fun_ext}
 use Rattle.alg_model.specs.declared.alg.TheConstants.{MAX_INSTANCE_NUMBER}
@@ -8,7 +8,7 @@ use Rattle.alg_model.specs.declared.tree.Value.{Value}
 use Rattle.alg_model.specs.Expressions.{Expression, PureAlg, union, sum, plus}
 use Rattle.alg_model.specs.Expressions.{PureLabel, both_label, first_label, second_label, PureValue}
 use Rattle.alg_model.specs.Views.{pure_value, pure_label}
-use Rattle.alg_model.specs.Carriers.{carrier_of, In}
+use Rattle.alg_model.specs.Carriers.{carrier_of}
 use Rattle.alg_model.specs.Application.{IsLabel, App}
 use Rattle.alg_model.specs.Bounds.{LabelAtMost, greatest_number}
 use Rattle.alg_model.specs.Formation.{IsFormed}
@@ -17,9 +17,8 @@ use Rattle.alg_classes.specs.declared.profile.Profile.{Profile}
 use Rattle.alg_classes.specs.declared.class.Examples.{Examples}
 use Rattle.alg_classes.specs.declared.class.Class.{Class}
 use Rattle.alg_classes.specs.Facts.{Action, Fact, total, dead, mono, strict, iso, canc, cond, narrow, PureExample, at, between}
-use Rattle.alg_classes.specs.Profiles.{bit}
-use Rattle.alg_classes.specs.Classes.{PureExamples, pure_examples, pure_at, Settles, IsSettledBy, ExampleAtMost, ExamplesAtMost, ClassOf, alg_in, HasProfile, IsCovered, Covers}
-use Rattle.union_classes.specs.Sums.{on_first, on_second, of_either, across, or_else, beside_profile, first_profile, second_profile, beside_examples, denied_examples}
+use Rattle.alg_classes.specs.Classes.{PureExamples, pure_examples, pure_at, Settles, IsSettledBy, ExampleAtMost, ExamplesAtMost, ClassOf, alg_in, IsCovered, Covers}
+use Rattle.union_classes.specs.Sums.{of_either, across, or_else, beside_profile, first_profile, second_profile, beside_examples, denied_examples}
 use Rattle.union_classes.specs.Made.{AreExamples, IsSumOf, IsFirstOf, IsSecondOf, IsValueOf, SomeValueOf, either_value, shown_value}
 use Rattle.union_classes.specs.Growth.{Grown, Only, Over}
 use Rattle.union_classes.specs.Inhabited.{some_value, some_label}

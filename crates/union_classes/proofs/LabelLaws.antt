@@ -1,5 +1,5 @@
 -- What a label of a sum, a union or a plus does, and its profile and class from those of its parts.
-use Rattle.std.proofs.Common.{◌≡◌, refl, sym, subst, Option, Some, None}
+use Rattle.std.proofs.Common.{◌≡◌, refl, sym, subst}
 use Rattle.std.proofs.Math.Path.{fun_ext}
 use Rattle.alg_model.specs.Expressions.{Expression, union, sum, plus, sides}
 use Rattle.alg_model.specs.Expressions.{PureValue, number, symbols, marks, unit, name, pair, first, second}
@@ -7,7 +7,7 @@ use Rattle.alg_model.specs.Expressions.{PureLabel, both_label, first_label, seco
 use Rattle.alg_model.specs.Carriers.{carrier_of, In}
 use Rattle.alg_model.specs.Application.{IsLabel, App}
 use Rattle.alg_model.specs.Formation.{IsFormed}
-use Rattle.alg_model.specs.Laws.{formed_union, formed_sum, formed_plus}
+use Rattle.alg_model.specs.Laws.{formed_union, formed_sum}
 use Rattle.alg_classes.specs.declared.profile.Profile.{Profile}
 use Rattle.alg_classes.specs.Profiles.{IsProfile, ProfileOf}
 use Rattle.alg_classes.specs.Classes.{PureExamples, IsSettledBy}

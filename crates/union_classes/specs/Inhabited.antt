@@ -4,7 +4,7 @@ use Rattle.std.proofs.Math.Pow.{pow_pos}
 use Rattle.std.proofs.lemmas.Bool.Decides.{nat_tests}
 use Rattle.alg_model.specs.declared.tree.TableSpec.{TableSpec}
 use Rattle.alg_model.specs.Expressions.{Expression, add, cap, worst, width, pref, orig, seq, simseq, tags, guard, gate, table, lex, scoped, union, sum, plus, left, right}
-use Rattle.alg_model.specs.Expressions.{PureValue, number, symbols, marks, unit, name, pair, first, second}
+use Rattle.alg_model.specs.Expressions.{PureValue, number, symbols, marks, unit, name, pair, first}
 use Rattle.alg_model.specs.Expressions.{PureLabel, number_label, keep, symbol_label, need, allow, row_label, pair_label, both_label, first_label, const_label, inner}
 use Rattle.alg_model.specs.Carriers.{carrier_of, In}
 use Rattle.alg_model.specs.Application.{IsLabel}

@@ -1,7 +1,7 @@
 -- What holds and fails of one action beside another, by what holds and fails of each.
-use Rattle.std.proofs.Common.{◌≡◌, refl, sym, ap, subst, ◌∙◌, Option, Some, None, ◌⊎◌, inl, inr, ⊎_elim}
+use Rattle.std.proofs.Common.{◌≡◌, refl, sym, ap, subst, ◌∙◌, Option, Some, None, ◌⊎◌, ⊎_elim}
 use Rattle.std.specs.Prelude.{option_map}
-use Rattle.std.specs.declared.cmp.Ordering.TheVariants.{Less, Equal, Greater}
+use Rattle.std.specs.declared.cmp.Ordering.TheVariants.{Equal}
 use Rattle.alg_model.specs.Expressions.{PureCarrier, sides, PureValue, first, second}
 use Rattle.alg_model.specs.Carriers.{In, Order, OrderOrNone, IsPreferred, AreEquivalent}
 use Rattle.alg_model.specs.PreferenceLaws.{each_side}

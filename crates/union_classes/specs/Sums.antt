@@ -1,9 +1,9 @@
 -- Actions on the two sides of a sum's or a union's values, and how facts and examples come from those of the
 -- two sides.
-use Rattle.std.specs.Prelude.{Bool, true, false, ◌&&◌, ◌||◌, Option, Some, None, option_map}
+use Rattle.std.specs.Prelude.{true, false, ◌&&◌, ◌||◌, Option, Some, None, option_map}
 use Rattle.alg_model.specs.Expressions.{PureValue, first, second}
 use Rattle.alg_classes.specs.declared.profile.Profile.{Profile}
-use Rattle.alg_classes.specs.Facts.{Action, Fact, total, dead, mono, strict, iso, canc, cond, narrow, PureExample, at, between}
+use Rattle.alg_classes.specs.Facts.{Action, total, dead, mono, strict, iso, canc, cond, narrow, PureExample, at, between}
 use Rattle.alg_classes.specs.Classes.{PureExamples}
 
 -- one action on the values of the first side, and another on those of the second

@@ -51,7 +51,7 @@ fn add_first(alloc: Global, pluses: &mut ClassList, x: &Class) -> Result<(), NoM
     pluses.add(plus_first_class(alloc, x)?)
 }
 
-// The same of the second algebra.
+// Adds the class of the second algebra's label if its profile is new.
 fn add_second(alloc: Global, pluses: &mut ClassList, y: &Class) -> Result<(), NoMemory>
     ensures { (a b : Expression) (e : Edition) → IsFormed (plus a b) → ClassOf (alg_in b e) y.now → OnOk result
         (Grown (ClassOf (alg_in (plus a b) e)) (Only y.now.profile) pluses.old pluses.new) }
@@ -62,7 +62,7 @@ fn add_second(alloc: Global, pluses: &mut ClassList, y: &Class) -> Result<(), No
     pluses.add(plus_second_class(alloc, y)?)
 }
 
-// The same for each class of the first algebra.
+// Adds those of the first algebra's labels whose profiles are new.
 fn add_firsts(alloc: Global, pluses: &mut ClassList, xs: &[Class]) -> Result<(), NoMemory>
     ensures { (a b : Expression) (e : Edition) → IsFormed (plus a b) →
         AllByRecursion (ClassOf (alg_in a e)) xs.now → OnOk result
@@ -74,7 +74,7 @@ fn add_firsts(alloc: Global, pluses: &mut ClassList, xs: &[Class]) -> Result<(),
     Ok(())
 }
 
-// The same for each class of the second algebra.
+// Adds those of the second algebra's labels whose profiles are new.
 fn add_seconds(alloc: Global, pluses: &mut ClassList, ys: &[Class]) -> Result<(), NoMemory>
     ensures { (a b : Expression) (e : Edition) → IsFormed (plus a b) →
         AllByRecursion (ClassOf (alg_in b e)) ys.now → OnOk result

@@ -28,7 +28,7 @@ pub fn sum_class(alloc: Global, x: &Class, y: &Class) -> Result<Class, NoMemory>
     })
 }
 
-// Adds the class of the label of both if its profile is new.
+// Adds the class of the sum's label of both if its profile is new.
 fn add_sum(alloc: Global, sums: &mut ClassList, x: &Class, y: &Class) -> Result<(), NoMemory>
     ensures { (a b : Expression) (e : Edition) → IsFormed (sum a b) →
         ClassOf (alg_in a e) x.now → ClassOf (alg_in b e) y.now → OnOk result
@@ -40,7 +40,7 @@ fn add_sum(alloc: Global, sums: &mut ClassList, x: &Class, y: &Class) -> Result<
     sums.add(sum_class(alloc, x, y)?)
 }
 
-// The same for each class of the second part.
+// Adds those of this class with each of the second part whose profiles are new.
 fn add_sums(alloc: Global, sums: &mut ClassList, x: &Class, ys: &[Class]) -> Result<(), NoMemory>
     ensures { (a b : Expression) (e : Edition) → IsFormed (sum a b) →
         ClassOf (alg_in a e) x.now → AllByRecursion (ClassOf (alg_in b e)) ys.now → OnOk result

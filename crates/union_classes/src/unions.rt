@@ -78,7 +78,7 @@ fn add_first(
     unions.add(first_class(alloc, x, other)?)
 }
 
-// The same of the second side.
+// Adds the class of the second side's label if its profile is new.
 fn add_second(
     alloc: Global,
     unions: &mut ClassList,
@@ -95,7 +95,7 @@ fn add_second(
     unions.add(second_class(alloc, y, other)?)
 }
 
-// The same for each class of the first part.
+// Adds those of the first side's labels whose profiles are new.
 fn add_firsts(
     alloc: Global,
     unions: &mut ClassList,
@@ -112,7 +112,7 @@ fn add_firsts(
     Ok(())
 }
 
-// The same for each class of the second part.
+// Adds those of the second side's labels whose profiles are new.
 fn add_seconds(
     alloc: Global,
     unions: &mut ClassList,
