@@ -1,0 +1,16 @@
+use Rattle.std.proofs.Common.{arith}
+use Rattle.alg_model.specs.Expressions.{plus}
+use Rattle.alg_classes.specs.Classes.{ClassOf, alg_in}
+use Rattle.union_classes.specs.Growth.{Only, grown_none, grown_more, one_of_all}
+use Rattle.union_classes.proofs.pluses.add_firsts.Goals as goal
+
+pub loop-x-init : goal.loop-x-init
+loop-x-init c = λ a b e formed are. grown_none (ClassOf (alg_in (plus a b) e)) Only c.args.pluses.now
+
+pub loop-x-preserved : goal.loop-x-preserved
+loop-x-preserved c = λ a b e formed are.
+    let x = c.x-item.result in
+    let is = one_of_all (ClassOf (alg_in a e)) c.args.xs.now c.loop-x.x-index x are (omega arith) c.x-item.is in
+    grown_more (ClassOf (alg_in (plus a b) e)) Only c.args.xs.now c.loop-x.x-index x
+    c.args.pluses.now c.loop-x.pluses c.add_first.new.pluses (omega arith) c.x-item.is
+    (c.loop-x.invariant a b e formed are) (c.in_ok-add_first.ensures a b e formed is)

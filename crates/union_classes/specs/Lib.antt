@@ -1,0 +1,6 @@
+pub mod Sums
+pub mod Made
+pub mod Growth
+pub mod SideLaws
+pub mod SumLaws
+pub mod Inhabited

@@ -1,0 +1,17 @@
+//! Exact facts of the labels of unions, sums and pluses, from those of their parts. A union's or a sum's
+//! label does one thing to the values of the first side and another to those of the second; what holds of
+//! that is proved once, and a union's label is one that denies the other side. It stands on `alg_classes`.
+#![tactic(auto)]
+
+mod copying;
+mod examples;
+mod labels;
+mod pluses;
+mod profiles;
+mod sums;
+mod unions;
+
+pub use pluses::{plus_class_list, plus_first_class, plus_second_class};
+pub use profiles::{sum_profile, union_first_profile, union_second_profile};
+pub use sums::{sum_class, sum_class_list};
+pub use unions::{union_class_list, union_first_class, union_second_class};
