@@ -14,5 +14,6 @@ pub fn examples_refute()
 /// A class has the exact facts of its label.
 #[tactic(auto, using(crate::specs::ClassLaws::class_profile))]
 pub fn classes_have_their_profiles()
-    ensures { (a : PureAlg) (class : Class) → ClassOf a class → ProfileOf a.expression (pure_label class.label) class.profile }
+    ensures { (a : PureAlg) (class : Class) → ClassOf a class →
+        ProfileOf a.expression (pure_label class.label) class.profile }
 {}

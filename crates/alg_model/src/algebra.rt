@@ -78,7 +78,7 @@ pub trait Algebra: Sync {
         ensures sig { IfOk result (λ image. IfSome image (is_sig self.now)) }
         ensures image { (l : PureLabel) → stands_for self.now lab.now l →
             IfOk result (λ image.
-                option_map (sig_value self.now) image ≡ App (expression self.now) l (sig_value self.now sig.now)) }
+            option_map (sig_value self.now) image ≡ App (expression self.now) l (sig_value self.now sig.now)) }
         ensures bound { (n : ℕ) → AtMost n (sig_value self.now sig.now) →
             IfOk result (λ image. IfSome image (λ s. AtMost (n + MAX_LABEL_NUMBER) (sig_value self.now s))) };
 

@@ -45,8 +45,8 @@ impl<T> OutEnd<T> {
         ensures moved { 0 < free_slots self.new → outbox_of self.new ≡ [] }
 
         // A slot that was known to be free is filled from the outbox, or still known.
-        ensures slots {
-            free_slots self.old + length (outbox_of self.new) ≤ free_slots self.new + length (outbox_of self.old) }
+        ensures slots { free_slots self.old + length (outbox_of self.new)
+            ≤ free_slots self.new + length (outbox_of self.old) }
         ensures spare { spare_of self.old ≤ spare_of self.new }
         ensures link { out_link self.new ≡ out_link self.old }
     {

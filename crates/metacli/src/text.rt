@@ -9,7 +9,6 @@ ghost use Rattle.alg_model.specs.Bounds.{AtMost, LabelAtMost};
 ghost use Rattle.alg_model.specs.Carriers.{carrier_of, In};
 ghost use Rattle.alg_model.specs.Application.{IsLabel, App};
 ghost use Rattle.alg_model.specs.Texts.{value_text, label_text};
-
 ghost use Rattle.net_graph.specs.Views.{pure_row};
 ghost use Rattle.net_graph.specs.RowTexts.{AreNodesOf, IsRowOf, node_text, dest_text, path_text, route_text, row_text};
 ghost use Rattle.metacli.specs.Views.{pure_property, pure_instance, pure_verdict, pure_verdicts};

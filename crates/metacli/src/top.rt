@@ -152,8 +152,8 @@ fn route<S: Shelf>(
     requires file { file < length words.now }
     requires net { net < length words.now }
     ensures command { result.command ≡ Some (Command.Route file net workers) }
-    ensures routed {
-        IsRouted (word_at words.now file) (word_at words.now net) (S.now_is shelf.old) (S.now_is shelf.new) result }
+    ensures routed { IsRouted (word_at words.now file) (word_at words.now net)
+        (S.now_is shelf.old) (S.now_is shelf.new) result }
     ensures printable { IsPrintable result }
 {
     let command = Some(Command::Route { file, net, workers });
@@ -187,9 +187,8 @@ struct Routed {
 // What comes of a network file.
 fn route_network(alloc: Global, file: Result<NetFile, Answer>) -> Routed
     requires { IfOk file (λ f. IsServedFile (pure_file f)) }
-    ensures routed {
-        IsRoutedTo (map_ok pure_file file) result.net (map pure_change result.changes) (map pure_row result.rows)
-            result.decided }
+    ensures routed { IsRoutedTo (map_ok pure_file file)
+        result.net (map pure_change result.changes) (map pure_row result.rows) result.decided }
     ensures printable { CanPrintTo (map_ok pure_file file) (map pure_row result.rows) result.decided }
 {
     match file {
