@@ -1,0 +1,5 @@
+//! Exact facts of the labels of base algebras other than tables: a table of rules, each with values that
+//! show where a fact fails. It knows no operator, and stands on `alg_model` and `alg_classes`.
+#![tactic(auto)]
+
+mod examples;
