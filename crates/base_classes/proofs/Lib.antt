@@ -1,3 +1,7 @@
+pub mod Compare
 pub mod Told
 pub mod Kept
 pub mod Numbers
+pub mod Sets
+pub mod Sequences
+pub mod Base

@@ -1,9 +1,5 @@
--- Which of the facts hold and which their witnesses refute; and how what a test on numbers answers says which.
-use Rattle.std.proofs.Common.{◌≡◌, ℕ, ◌<◌, ◌≤◌, refl, sym, Bool, true, false, Option, Some, None, arith}
-use Rattle.std.specs.Ordering.{nat_cmp}
-use Rattle.std.specs.Cmp.{nat_cmp_is, ranked}
-use Rattle.std.specs.declared.cmp.Ordering.{Ordering}
-use Rattle.std.specs.declared.cmp.Ordering.TheVariants.{Less, Equal, Greater}
+-- Which of the facts hold, and which their witnesses refute.
+use Rattle.std.proofs.Common.{◌≡◌, ℕ, ◌≤◌, refl, Bool, true, false}
 use Rattle.alg_model.specs.Expressions.{PureCarrier, PureValue, number, whole, up_to, down_from}
 use Rattle.alg_model.specs.Carriers.{In}
 use Rattle.alg_classes.specs.declared.profile.Profile.{Profile}
@@ -33,19 +29,6 @@ always h = (λ e. h, λ e. absurd (cc))
 
 pub never : {H R : Type 0} → R → (false ≡ true → H) × (false ≡ false → R)
 never r = (λ e. absurd (cc), λ e. r)
-
--- how numbers compare
-pub less : (m n : ℕ) → m < n → nat_cmp m n ≡ Less
-less m n h = sym (nat_cmp_is m n Less h)
-
-pub alike : (m n : ℕ) → m ≡ n → nat_cmp m n ≡ Equal
-alike m n h = sym (nat_cmp_is m n Equal h)
-
-pub when_less : (m n : ℕ) → nat_cmp m n ≡ Less → m < n
-when_less m n e = ranked m n Less (sym e)
-
-pub when_alike : (m n : ℕ) → nat_cmp m n ≡ Equal → m ≡ n
-when_alike m n e = ranked m n Equal (sym e)
 
 -- what holds of each number of a carrier holds of its members
 pub on_whole : (P : PureValue → Type 0) → ((n : ℕ) → P (number n)) → (v : PureValue) → In whole v → P v

@@ -45,6 +45,8 @@ sequence_witness own other narrow = between (symbols []) (symbols (other ∷ [])
 sequence_witness own other _ = at (symbols [])
 
 abbrev pub unit_witness : Witness
+unit_witness cond = between unit unit
+unit_witness narrow = between unit unit
 unit_witness _ = at unit
 
 -- where the facts of a label that adds this number fail, with this top

@@ -3,3 +3,6 @@
 #![tactic(auto)]
 
 mod examples;
+mod profile;
+
+pub use profile::{base_profile, base_tree_profile};
