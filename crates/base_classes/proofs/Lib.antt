@@ -5,3 +5,4 @@ pub mod Numbers
 pub mod Sets
 pub mod Sequences
 pub mod Base
+pub mod Bounds

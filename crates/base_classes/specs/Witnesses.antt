@@ -3,9 +3,10 @@ use Rattle.std.specs.Prelude.{◌≡◌, ℕ, ◌+◌, ◌-◌, ◌^◌, ◌==�
 use Rattle.alg_model.specs.Expressions.{Expression, add, cap, worst, width, pref, orig, seq, simseq, tags, guard, gate, table, lex, scoped, union, sum, plus, left, right}
 use Rattle.alg_model.specs.Expressions.{PureLabel, number, symbols, marks, unit}
 use Rattle.alg_classes.specs.declared.profile.Profile.{Profile}
+use Rattle.alg_classes.specs.declared.class.Examples.{Examples}
 use Rattle.alg_classes.specs.Facts.{Fact, total, dead, mono, strict, iso, canc, cond, narrow, PureExample, at, between}
 use Rattle.alg_classes.specs.Profiles.{bit}
-use Rattle.alg_classes.specs.Classes.{PureExamples}
+use Rattle.alg_classes.specs.Classes.{PureExamples, pure_examples}
 use Rattle.base_classes.specs.declared.examples.Numbers.{Numbers}
 use Rattle.base_classes.specs.Kinds.{number_in, asks}
 
@@ -21,6 +22,10 @@ unless false e = Some e
 -- the examples of the facts that fail
 abbrev pub failing : Profile → Witness → PureExamples
 failing p w k = unless (bit p k) (w k)
+
+-- the program's examples are those
+abbrev pub AreExamples : Examples → Profile → Witness → Type 0
+AreExamples x p w = (k : Fact) → pure_examples x k ≡ failing p w k
 
 abbrev pub number_witness : Numbers → Witness
 number_witness n total = at (number n.outside)

@@ -2,7 +2,9 @@
 //! show where a fact fails. It knows no operator, and stands on `alg_model` and `alg_classes`.
 #![tactic(auto)]
 
+mod class;
 mod examples;
 mod profile;
 
+pub use class::base_class;
 pub use profile::{base_profile, base_tree_profile};

@@ -85,14 +85,8 @@ fn add_rule(n: u64) -> Profile
     ensures { result ≡ add_profile n }
 {
     Profile {
-        total: true,
-        dead: false,
-        mono: true,
         strict: n != 0,
-        iso: true,
-        canc: true,
-        cond: false,
-        narrow: false,
+        ..keep_rule(false)
     }
 }
 
@@ -102,12 +96,8 @@ fn cap_rule(top: u64, n: u64) -> Profile
     Profile {
         total: n == 0,
         dead: n > top,
-        mono: true,
         strict: n != 0,
-        iso: true,
-        canc: true,
-        cond: n >= top,
-        narrow: n >= top,
+        ..keep_rule(n >= top)
     }
 }
 
@@ -115,14 +105,9 @@ fn worst_rule(top: u64, n: u64) -> Profile
     ensures { result ≡ worst_profile top n }
 {
     Profile {
-        total: true,
-        dead: false,
-        mono: true,
-        strict: false,
-        iso: true,
         canc: n == 0,
         cond: n == top,
-        narrow: top == 0,
+        ..keep_rule(top == 0)
     }
 }
 
@@ -130,14 +115,9 @@ fn width_rule(top: u64, n: u64) -> Profile
     ensures { result ≡ width_profile top n }
 {
     Profile {
-        total: true,
-        dead: false,
-        mono: true,
-        strict: false,
-        iso: true,
         canc: n == top,
         cond: n == 0,
-        narrow: top == 0,
+        ..keep_rule(top == 0)
     }
 }
 
@@ -145,18 +125,44 @@ fn pref_rule(top: u64, n: u64) -> Profile
     ensures { result ≡ pref_profile top n }
 {
     Profile {
-        total: true,
-        dead: false,
         mono: n == 0,
-        strict: false,
-        iso: true,
         canc: top == 0,
         cond: true,
-        narrow: top == 0,
+        ..keep_rule(top == 0)
     }
 }
 
-// A label that keeps each value, or makes a set of a set.
+fn seq_rule() -> Profile
+    ensures { result ≡ seq_profile }
+{
+    Profile {
+        strict: true,
+        ..keep_rule(false)
+    }
+}
+
+fn simseq_rule(symbols: u64) -> Profile
+    ensures { result ≡ simseq_profile symbols }
+{
+    Profile {
+        total: false,
+        strict: true,
+        iso: symbols == 1,
+        ..keep_rule(symbols == 1)
+    }
+}
+
+fn guard_rule() -> Profile
+    ensures { result ≡ guard_profile }
+{
+    Profile {
+        total: false,
+        iso: false,
+        ..keep_rule(true)
+    }
+}
+
+// A label that keeps each value, or makes a set of each set.
 fn keep_rule(flat: bool) -> Profile
     ensures { result ≡ keep_profile flat }
 {
@@ -181,51 +187,6 @@ fn dead_rule() -> Profile
         mono: true,
         strict: true,
         iso: true,
-        canc: true,
-        cond: true,
-        narrow: true,
-    }
-}
-
-fn seq_rule() -> Profile
-    ensures { result ≡ seq_profile }
-{
-    Profile {
-        total: true,
-        dead: false,
-        mono: true,
-        strict: true,
-        iso: true,
-        canc: true,
-        cond: false,
-        narrow: false,
-    }
-}
-
-fn simseq_rule(symbols: u64) -> Profile
-    ensures { result ≡ simseq_profile symbols }
-{
-    Profile {
-        total: false,
-        dead: false,
-        mono: true,
-        strict: true,
-        iso: symbols == 1,
-        canc: true,
-        cond: symbols == 1,
-        narrow: symbols == 1,
-    }
-}
-
-fn guard_rule() -> Profile
-    ensures { result ≡ guard_profile }
-{
-    Profile {
-        total: false,
-        dead: false,
-        mono: true,
-        strict: false,
-        iso: false,
         canc: true,
         cond: true,
         narrow: true,
