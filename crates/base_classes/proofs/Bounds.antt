@@ -3,7 +3,6 @@
 use Rattle.std.proofs.Common.{◌≡◌, ℕ, ◌+◌, ◌≤◌, ◌<◌, ◌-◌, ◌==◌, refl, sym, subst, [], ◌∷◌, Bool, true, false, Option, Some, None, arith}
 use Rattle.std.specs.Prelude.{if◌then◌else◌}
 use Rattle.alg_model.specs.declared.alg.TheConstants.{MAX_INSTANCE_NUMBER}
-use Rattle.alg_model.specs.declared.edition.TheConstants.{MAX_LABEL_NUMBER}
 use Rattle.alg_model.specs.Expressions.{Expression, PureAlg, add, cap, worst, width, pref, orig, seq, simseq, tags, guard, gate}
 use Rattle.alg_model.specs.Expressions.{PureLabel, number_label, keep, symbol_label, mark, unmark, need, bar, allow, deny}
 use Rattle.alg_model.specs.Views.{pure_label}
@@ -17,7 +16,7 @@ use Rattle.alg_classes.specs.declared.profile.Profile.{Profile}
 use Rattle.alg_classes.specs.Facts.{Fact, total, dead, mono, strict, iso, canc, cond, narrow, PureExample, at, between}
 use Rattle.alg_classes.specs.Profiles.{bit}
 use Rattle.alg_classes.specs.ClassLaws.{on_all}
-use Rattle.alg_classes.specs.Classes.{Settles, ExampleAtMost, ClassOf}
+use Rattle.alg_classes.specs.Classes.{Settles, ExampleAtMost, ClassOf, pure_examples}
 use Rattle.base_classes.specs.declared.examples.Numbers.{Numbers}
 use Rattle.base_classes.specs.Kinds.{IsBase, asks, number_in}
 use Rattle.base_classes.specs.Profiles.{base_profile_of}
@@ -82,25 +81,50 @@ small_symbol : (b : Bool) → (if b then 1 else 0) ≤ MAX_INSTANCE_NUMBER
 small_symbol true = omega arith
 small_symbol false = omega arith
 
-witness_bounded : (a : Expression) (l : PureLabel) → IsBase a → ExpressionAtMost MAX_LABEL_NUMBER a → LabelAtMost MAX_LABEL_NUMBER l → IsLabel a l → Bounded (base_witness_of a l)
-witness_bounded (add low high) l b e m i = numbers_bounded add_numbers (omega arith) (omega arith) (omega arith) (omega arith) (omega arith) (omega arith)
-witness_bounded (cap top low high) l b e m i = numbers_bounded (cap_numbers top (number_in l)) (omega (arith, e.0)) (omega arith) (omega arith) (omega arith) (omega arith) (omega arith)
-witness_bounded (worst top low high) (number_label n) b e m i = numbers_bounded (worst_numbers top n) (omega arith) (omega (arith, e.0)) (omega arith) (omega (arith, m)) (omega arith) (omega (arith, e.0))
-witness_bounded (width top low high) (number_label n) b e m i = numbers_bounded (width_numbers top n) (omega arith) (omega arith) (omega (arith, e.0)) (omega (arith, m)) (omega (arith, e.0)) (omega arith)
-witness_bounded (pref top) (number_label n) b e m i = numbers_bounded (pref_numbers top n) (omega arith) (omega (arith, m)) (omega (arith, e)) (omega arith) (omega (arith, e)) (omega arith)
-witness_bounded (orig top) l b e m i = numbers_bounded (orig_numbers top) (omega arith) (omega arith) (omega arith) (omega (arith, e)) (omega arith) (omega (arith, e))
-witness_bounded (seq k) (symbol_label n) b e m i = sequences_bounded n n (omega (arith, m)) (omega (arith, m))
-witness_bounded (simseq k) (symbol_label n) b e m i = sequences_bounded n (other_symbol n) (omega (arith, m)) (small_symbol (n == 0))
-witness_bounded (tags k) l b e m i = sets_bounded 0 0
-witness_bounded (guard k) l b e m i = guards_bounded (asks l) (number_in l)
-witness_bounded gate l b e m i = units_bounded
-witness_bounded (worst top low high) l b e m i = absurd i
-witness_bounded (width top low high) l b e m i = absurd i
-witness_bounded (pref top) l b e m i = absurd i
-witness_bounded (seq k) l b e m i = absurd i
-witness_bounded (simseq k) l b e m i = absurd i
-witness_bounded a l b e m i = absurd b
+witness_bounded : (n : ℕ) (a : Expression) (l : PureLabel) → n < MAX_INSTANCE_NUMBER → IsBase a → ExpressionAtMost n a → LabelAtMost n l → IsLabel a l → Bounded (base_witness_of a l)
+witness_bounded n (add low high) l h b e m i = numbers_bounded add_numbers (omega arith) (omega arith) (omega arith) (omega arith) (omega arith) (omega arith)
+witness_bounded n (cap top low high) l h b e m i = numbers_bounded (cap_numbers top (number_in l)) (omega (arith, e.0)) (omega arith) (omega arith) (omega arith) (omega arith) (omega arith)
+witness_bounded n (worst top low high) (number_label j) h b e m i = numbers_bounded (worst_numbers top j) (omega arith) (omega (arith, e.0)) (omega arith) (omega (arith, m)) (omega arith) (omega (arith, e.0))
+witness_bounded n (width top low high) (number_label j) h b e m i = numbers_bounded (width_numbers top j) (omega arith) (omega arith) (omega (arith, e.0)) (omega (arith, m)) (omega (arith, e.0)) (omega arith)
+witness_bounded n (pref top) (number_label j) h b e m i = numbers_bounded (pref_numbers top j) (omega arith) (omega (arith, m)) (omega (arith, e)) (omega arith) (omega (arith, e)) (omega arith)
+witness_bounded n (orig top) l h b e m i = numbers_bounded (orig_numbers top) (omega arith) (omega arith) (omega arith) (omega (arith, e)) (omega arith) (omega (arith, e))
+witness_bounded n (seq k) (symbol_label j) h b e m i = sequences_bounded j j (omega (arith, m)) (omega (arith, m))
+witness_bounded n (simseq k) (symbol_label j) h b e m i = sequences_bounded j (other_symbol j) (omega (arith, m)) (small_symbol (j == 0))
+witness_bounded n (tags k) l h b e m i = sets_bounded 0 0
+witness_bounded n (guard k) l h b e m i = guards_bounded (asks l) (number_in l)
+witness_bounded n gate l h b e m i = units_bounded
+witness_bounded n (worst top low high) l h b e m i = absurd i
+witness_bounded n (width top low high) l h b e m i = absurd i
+witness_bounded n (pref top) l h b e m i = absurd i
+witness_bounded n (seq k) l h b e m i = absurd i
+witness_bounded n (simseq k) l h b e m i = absurd i
+witness_bounded n a l h b e m i = absurd b
 
 failing_bounded : (n : ℕ) (b : Bool) (e : PureExample) → ExampleAtMost n (Some e) → ExampleAtMost n (unless b e)
 failing_bounded n true e h = tt
 failing_bounded n false e h = h
+
+-- an edition's greatest number is below the bound
+edition_bounded : (a : PureAlg) → greatest_number a.edition < MAX_INSTANCE_NUMBER
+edition_bounded a = omega (arith, greatest_is_bounded a.edition)
+
+-- a copy of the label, what the table tells of it, and the examples by its witnesses make a class of it
+pub class_is : (a : PureAlg) (class : Class) (l : PureLabel) (x y : Expression) → IsAlg a → IsBase a.expression → IsLabel a.expression l
+    → x ≡ a.expression → y ≡ a.expression → pure_label class.label ≡ l → class.profile ≡ base_profile_of x l
+    → AreExamples class.examples class.profile (base_witness_of y l) → ClassOf a class
+class_is a class l x y is base i ex ey copied told examples =
+    let p : class.profile ≡ base_profile_of a.expression l = subst (λ z. class.profile ≡ base_profile_of z l) ex told in
+    let w : Witness = base_witness_of a.expression l in
+    let e : AreExamples class.examples class.profile w = subst (λ z. AreExamples class.examples class.profile (base_witness_of z l)) ey examples in
+    let small : LabelAtMost (greatest_number a.edition) l = label_bounded (greatest_number a.edition) a.expression l base is.bound i in
+    record {
+      label = subst (IsLabel a.expression) (sym copied) i;
+      label_bound = subst (LabelAtMost (greatest_number a.edition)) (sym copied) small;
+      settled = λ k.
+          subst (λ m. Settles (carrier_of a.expression) (App a.expression m) k (bit class.profile k) (pure_examples class.examples k)) (sym copied)
+          (subst (λ o. Settles (carrier_of a.expression) (App a.expression l) k (bit class.profile k) o) (sym (e k))
+          (subst (λ q. Settles (carrier_of a.expression) (App a.expression l) k (bit q k) (failing q w k)) (sym p)
+          (base_settled a.expression l base is.formed.ranges i k)));
+      bound = λ k. subst (ExampleAtMost MAX_INSTANCE_NUMBER) (sym (e k)) (failing_bounded MAX_INSTANCE_NUMBER (bit class.profile k) (w k)
+          (witness_bounded (greatest_number a.edition) a.expression l (edition_bounded a) base is.bound small i k));
+    }

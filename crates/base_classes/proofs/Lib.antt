@@ -6,3 +6,4 @@ pub mod Sets
 pub mod Sequences
 pub mod Base
 pub mod Bounds
+pub mod Lists

@@ -89,11 +89,10 @@ fn number_examples(profile: &Profile, numbers: Numbers) -> Examples
     requires { profile.now.iso ≡ true }
     ensures { AreExamples result profile.now (number_witness numbers) }
 {
-    let zero = Value::Number(0);
     let (u, v) = numbers.merged;
     let (x, y) = numbers.apart;
     Examples {
-        inside: unless(profile.dead, zero),
+        inside: unless(profile.dead, Value::Number(0)),
         outside: unless(profile.total, Value::Number(numbers.outside)),
         not_mono: unless(profile.mono, Value::Number(0)),
         not_strict: unless(profile.strict, Value::Number(numbers.kept)),

@@ -4,7 +4,9 @@
 
 mod class;
 mod examples;
+mod list;
 mod profile;
 
 pub use class::base_class;
+pub use list::base_class_list;
 pub use profile::{base_profile, base_tree_profile};

@@ -1,0 +1,160 @@
+-- Each profile of a label is that of a candidate; and what adding a candidate's class makes of a list.
+use Rattle.std.proofs.Common.{◌≡◌, ℕ, ◌+◌, ◌<◌, ◌≤◌, ◌==◌, refl, sym, subst, ◌∙◌, ◌⊎◌, inl, inr, ⊎_elim, List, [], ◌∷◌, ◌++◌, Bool, true, false, not, arith}
+use Rattle.std.proofs.lemmas.Bool.{cases_lt}
+use Rattle.std.proofs.lemmas.Bool.Decides.{nat_tests}
+use Rattle.std.specs.Prelude.{nat_le, nat_lt, if◌then◌else◌}
+use Rattle.std.specs.List.{AllByRecursion}
+use Rattle.alg_model.specs.Expressions.{Expression, PureAlg, add, cap, worst, width, pref, orig, seq, simseq, tags, guard, gate}
+use Rattle.alg_model.specs.Expressions.{PureLabel, number_label, keep, symbol_label, mark, unmark, need, bar, allow, deny}
+use Rattle.alg_model.specs.Views.{pure_label}
+use Rattle.alg_model.specs.Application.{IsLabel}
+use Rattle.alg_model.specs.Formation.{MeetsRanges, IsAlg}
+use Rattle.alg_classes.specs.declared.profile.Profile.{Profile}
+use Rattle.alg_classes.specs.declared.class.Class.{Class}
+use Rattle.alg_classes.specs.Classes.{HasProfile, AreDistinct, IsGrownBy, ClassOf, IsCovered, Covers}
+use Rattle.base_classes.specs.Kinds.{IsBase, number_in}
+use Rattle.base_classes.specs.Profiles.{base_profile_of, add_profile, cap_profile, worst_profile, width_profile, pref_profile}
+use Rattle.base_classes.specs.Lists.{candidate_number, candidate, HasBefore}
+use Rattle.base_classes.proofs.Base.{base_is_profile}
+use Rattle.base_classes.proofs.Compare.{tests_at_most, tests_above, tests_same, tests_other}
+
+-- two numbers compare alike with 0 and the top
+abbrev Alike : ℕ → ℕ → ℕ → Type 0
+Alike top c n = ((c == 0) ≡ (n == 0)) × ((c == top) ≡ (n == top)) × (nat_lt top c ≡ nat_lt top n) × (nat_le top c ≡ nat_le top n)
+
+-- a candidate in the range compares alike
+abbrev Found : ℕ → ℕ → ℕ → ℕ → Type 0
+Found low top high n =
+    (p : ℕ) × (p < 4) × (low ≤ candidate_number p low top high) × (candidate_number p low top high ≤ high) × Alike top (candidate_number p low top high) n
+
+alike_same : (top c n : ℕ) → c ≡ n → Alike top c n
+alike_same top c n e = subst (λ m. Alike top c m) e (refl, refl, refl, refl)
+
+alike_above : (top c n : ℕ) → top < c → top < n → Alike top c n
+alike_above top c n h i = (grind (arith, nat_tests), grind (arith, nat_tests), grind (arith, nat_tests), grind (arith, nat_tests))
+
+alike_between : (top c n : ℕ) → 0 < c → c < top → 0 < n → n < top → Alike top c n
+alike_between top c n a h b i = (grind (arith, nat_tests), grind (arith, nat_tests), grind (arith, nat_tests), grind (arith, nat_tests))
+
+found_below : (low top high n : ℕ) → low ≤ n → n ≤ high → n < top → Found low top high n
+found_below low top high n a b h = ⊎_elim
+    (λ some. ⊎_elim
+        (λ positive. (0, omega arith, omega arith, omega arith, alike_between top low n positive (omega arith) some h))
+        (λ z. (1, omega arith, omega arith, omega arith, alike_between top 1 n (omega arith) (omega arith) some h))
+        (cases_lt 0 low))
+    (λ z. (0, omega arith, omega arith, omega arith, alike_same top low n (omega arith)))
+    (cases_lt 0 n)
+
+found : (low top high n : ℕ) → low ≤ n → n ≤ high → Found low top high n
+found low top high n a b = ⊎_elim
+    (found_below low top high n a b)
+    (λ h. ⊎_elim
+        (λ over. (3, omega arith, omega arith, omega arith, alike_above top high n (omega arith) over))
+        (λ e. (2, omega arith, omega arith, omega arith, alike_same top top n (omega arith)))
+        (cases_lt top n))
+    (cases_lt n top)
+
+-- numbers that compare alike have one profile
+add_alike : (top c n : ℕ) → Alike top c n → add_profile c ≡ add_profile n
+add_alike top c n e = rw (e.0) refl
+
+cap_alike : (top c n : ℕ) → Alike top c n → cap_profile top c ≡ cap_profile top n
+cap_alike top c n e = rw (e.0, e.2, e.3) refl
+
+worst_alike : (top c n : ℕ) → Alike top c n → worst_profile top c ≡ worst_profile top n
+worst_alike top c n e = rw (e.0, e.1) refl
+
+width_alike : (top c n : ℕ) → Alike top c n → width_profile top c ≡ width_profile top n
+width_alike top c n e = rw (e.0, e.1) refl
+
+pref_alike : (top c n : ℕ) → Alike top c n → pref_profile top c ≡ pref_profile top n
+pref_alike top c n e = rw (e.0) refl
+
+-- a candidate that is a label has the label's profile
+abbrev Has : Expression → PureLabel → Type 0
+Has a l = (p : ℕ) × (p < 4) × IsLabel a (candidate a p) × (base_profile_of a (candidate a p) ≡ base_profile_of a l)
+
+has_candidate : (a : Expression) (l : PureLabel) → IsBase a → MeetsRanges a → IsLabel a l → Has a l
+has_candidate (add low high) (number_label n) b r i = let f = found low low high n i.0 i.1 in (f.0, f.1, (f.2, f.3), add_alike low (candidate_number f.0 low low high) n f.4)
+has_candidate (cap top low high) (number_label n) b r i = let f = found low top high n i.0 i.1 in (f.0, f.1, (f.2, f.3), cap_alike top (candidate_number f.0 low top high) n f.4)
+has_candidate (worst top low high) (number_label n) b r i = let f = found low top high n i.0 i.1 in (f.0, f.1, (f.2, f.3), worst_alike top (candidate_number f.0 low top high) n f.4)
+has_candidate (width top low high) (number_label n) b r i = let f = found low top high n i.0 i.1 in (f.0, f.1, (f.2, f.3), width_alike top (candidate_number f.0 low top high) n f.4)
+has_candidate (pref top) (number_label n) b r i = let f = found 0 top top n (omega arith) i in (f.0, f.1, f.3, pref_alike top (candidate_number f.0 0 top top) n f.4)
+has_candidate (orig top) keep b r i = (0, omega arith, tt, refl)
+has_candidate (seq k) (symbol_label n) b r i = (0, omega arith, omega (arith, i), refl)
+has_candidate (simseq k) (symbol_label n) b r i = (0, omega arith, omega (arith, i), refl)
+has_candidate (tags k) l b r i = (0, omega arith, tt, refl)
+has_candidate (guard k) l b r i = (0, omega arith, omega (arith, r.0), refl)
+has_candidate gate allow b r i = (0, omega arith, tt, refl)
+has_candidate gate deny b r i = (1, omega arith, tt, refl)
+has_candidate (add low high) l b r i = absurd i
+has_candidate (cap top low high) l b r i = absurd i
+has_candidate (worst top low high) l b r i = absurd i
+has_candidate (width top low high) l b r i = absurd i
+has_candidate (pref top) l b r i = absurd i
+has_candidate (orig top) l b r i = absurd i
+has_candidate (seq k) l b r i = absurd i
+has_candidate (simseq k) l b r i = absurd i
+has_candidate gate l b r i = absurd i
+has_candidate a l b r i = absurd b
+
+-- a list that has the profile of each candidate covers the algebra
+pub covers : (a : PureAlg) (classes : List Class) → IsAlg a → IsBase a.expression → HasBefore a 4 classes → Covers a classes
+covers a classes is base h = record {
+  distinct = h.distinct;
+  each = h.each;
+  labels = λ l i.
+      let c = has_candidate a.expression l base is.formed.ranges i in
+      (base_profile_of a.expression l, base_is_profile a.expression l base is.formed.ranges i, subst (HasProfile classes) c.3 (h.before c.0 c.1 c.2));
+}
+
+-- nothing is before the first place
+pub none_before : (a : PureAlg) → HasBefore a 0 []
+none_before a = record { distinct = tt; each = tt; before = λ p h. absurd (omega (arith, h)) }
+
+-- the next place, where the candidate's profile is in the list
+pub one_more : (a : PureAlg) (place : ℕ) (classes : List Class) → HasBefore a place classes
+    → (IsLabel a.expression (candidate a.expression place) → HasProfile classes (base_profile_of a.expression (candidate a.expression place)))
+    → HasBefore a (place + 1) classes
+one_more a place classes h has = record {
+  distinct = h.distinct;
+  each = h.each;
+  before = λ p k i. ⊎_elim
+      (λ l. h.before p l i)
+      (λ l. let e : place ≡ p = omega (arith, k, l) in
+      subst (λ q. IsLabel a.expression (candidate a.expression q) → HasProfile classes (base_profile_of a.expression (candidate a.expression q))) e has i)
+      (cases_lt p place);
+}
+
+all_and_last : (P : Class → Type 0) (classes : List Class) (class : Class) → AllByRecursion P classes → P class → AllByRecursion P (classes ++ class ∷ [])
+all_and_last P [] class a h = (h, tt)
+all_and_last P (d ∷ ds) class a h = (a.0, all_and_last P ds class a.1 h)
+
+still_has : (classes : List Class) (class : Class) (p : Profile) → HasProfile classes p → HasProfile (classes ++ class ∷ []) p
+still_has [] class p h = absurd h
+still_has (d ∷ ds) class p h = ⊎_elim inl (λ g. inr (still_has ds class p g)) h
+
+has_last : (classes : List Class) (class : Class) → HasProfile (classes ++ class ∷ []) class.profile
+has_last [] class = inl refl
+has_last (d ∷ ds) class = inr (has_last ds class)
+
+other_profiles : (classes : List Class) (class : Class) (p : Profile) → ¬ HasProfile classes p → ¬ (class.profile ≡ p) → ¬ HasProfile (classes ++ class ∷ []) p
+other_profiles [] class p none other h = ⊎_elim other none h
+other_profiles (d ∷ ds) class p none other h = ⊎_elim (λ e. none (inl e)) (other_profiles ds class p (λ g. none (inr g)) other) h
+
+distinct_more : (classes : List Class) (class : Class) → AreDistinct classes → ¬ HasProfile classes class.profile → AreDistinct (classes ++ class ∷ [])
+distinct_more [] class d none = (λ h. h, tt)
+distinct_more (d ∷ ds) class a none =
+    (other_profiles ds class d.profile a.0 (λ e. none (inl (sym e))), distinct_more ds class a.1 (λ h. none (inr h)))
+
+-- and where its class is added
+pub class_added : (a : PureAlg) (place : ℕ) (old new : List Class) (class : Class) → HasBefore a place old → ClassOf a class
+    → IsGrownBy old class new → class.profile ≡ base_profile_of a.expression (candidate a.expression place) → HasBefore a (place + 1) new
+class_added a place old new class h is grown e = ⊎_elim
+    (λ g. subst (HasBefore a (place + 1)) (sym g.1) (one_more a place old h (λ i. subst (HasProfile old) e g.0)))
+    (λ g. subst (HasBefore a (place + 1)) (sym g.1) (one_more a place (old ++ class ∷ []) (record {
+      distinct = distinct_more old class h.distinct g.0;
+      each = all_and_last (ClassOf a) old class h.each is;
+      before = λ p k i. still_has old class (base_profile_of a.expression (candidate a.expression p)) (h.before p k i);
+    }) (λ i. subst (HasProfile (old ++ class ∷ [])) e (has_last old class))))
+    grown
