@@ -1,5 +1,5 @@
 -- Each profile of a label is that of a candidate; and what adding a candidate's class makes of a list.
-use Rattle.std.proofs.Common.{◌≡◌, ℕ, ◌+◌, ◌<◌, ◌≤◌, ◌==◌, refl, sym, subst, ◌∙◌, ◌⊎◌, inl, inr, ⊎_elim, List, [], ◌∷◌, ◌++◌, Bool, true, false, not, arith}
+use Rattle.std.proofs.Common.{◌≡◌, ℕ, ◌+◌, ◌<◌, ◌≤◌, ◌==◌, refl, sym, subst, ◌∙◌, ◌⊎◌, inl, inr, ⊎_elim, List, [], ◌∷◌, ◌++◌, Bool, true, false, Result, Ok, Err, OnOk, arith}
 use Rattle.std.proofs.lemmas.Bool.{cases_lt}
 use Rattle.std.proofs.lemmas.Bool.Decides.{nat_tests}
 use Rattle.std.specs.Prelude.{nat_le, nat_lt, if◌then◌else◌}
@@ -147,8 +147,14 @@ distinct_more [] class d none = (λ h. h, tt)
 distinct_more (d ∷ ds) class a none =
     (other_profiles ds class d.profile a.0 (λ e. none (inl (sym e))), distinct_more ds class a.1 (λ h. none (inr h)))
 
+-- so too where the label is none of the algebra's, or its profile is there
+pub none_added : (a : PureAlg) (place : ℕ) (classes : List Class) (l : PureLabel) → l ≡ candidate a.expression place → HasBefore a place classes
+    → (IsLabel a.expression l → HasProfile classes (base_profile_of a.expression l)) → HasBefore a (place + 1) classes
+none_added a place classes l e h has =
+    one_more a place classes h (subst (λ m. IsLabel a.expression m → HasProfile classes (base_profile_of a.expression m)) e has)
+
 -- and where its class is added
-pub class_added : (a : PureAlg) (place : ℕ) (old new : List Class) (class : Class) → HasBefore a place old → ClassOf a class
+class_added : (a : PureAlg) (place : ℕ) (old new : List Class) (class : Class) → HasBefore a place old → ClassOf a class
     → IsGrownBy old class new → class.profile ≡ base_profile_of a.expression (candidate a.expression place) → HasBefore a (place + 1) new
 class_added a place old new class h is grown e = ⊎_elim
     (λ g. subst (HasBefore a (place + 1)) (sym g.1) (one_more a place old h (λ i. subst (HasProfile old) e g.0)))
@@ -158,3 +164,10 @@ class_added a place old new class h is grown e = ⊎_elim
       before = λ p k i. still_has old class (base_profile_of a.expression (candidate a.expression p)) (h.before p k i);
     }) (λ i. subst (HasProfile (old ++ class ∷ [])) e (has_last old class))))
     grown
+
+-- unless memory is refused
+pub one_added : {A E : Type 0} (a : PureAlg) (r : Result A E) (old new : List Class) (class : Class) (l : PureLabel) (place : ℕ) → ClassOf a class
+    → class.profile ≡ base_profile_of a.expression l → l ≡ candidate a.expression place → OnOk r (IsGrownBy old class new)
+    → HasBefore a place old → OnOk r (HasBefore a (place + 1) new)
+one_added a (Ok x) old new class l place is p e grown h = class_added a place old new class h is grown (subst (λ m. class.profile ≡ base_profile_of a.expression m) e p)
+one_added a (Err x) old new class l place is p e grown h = tt

@@ -1,4 +1,4 @@
-ghost use Rattle.std.specs.Prelude.{◌≡◌, ◌+◌, IfOk, OnOk};
+ghost use Rattle.std.specs.Prelude.{◌≡◌, ℕ, ◌+◌, IfOk, OnOk};
 ghost use Rattle.alg_model.specs.Views.{expression_of, pure_label};
 ghost use Rattle.alg_classes.specs.Classes.{Covers};
 ghost use Rattle.base_classes.specs.Kinds.{IsBase};
@@ -22,30 +22,30 @@ pub fn base_class_list(alloc: Global, alg: &Alg) -> Result<ClassList, NoMemory>
     requires { IsBase alg.now.expression }
     ensures { IfOk result (Covers alg.now) }
 {
+    let tree = alg.tree();
     let mut list = ClassList::new(alloc);
     for place in 0..CANDIDATES {
-        add_candidate(alloc, alg, place, &mut list)?;
+        let label = candidate(tree, place);
+        add_class(alloc, alg, &label, &mut list)?;
     }
     Ok(list)
 }
 
-// Adds the class of the candidate, if it is a label of the algebra and has a new profile.
-fn add_candidate(
+// Adds the class of the label, if it is the algebra's and has a new profile.
+fn add_class(
     alloc: Global,
     alg: &Alg,
-    place: usize,
+    label: &Label,
     list: &mut ClassList,
 ) -> Result<(), NoMemory>
-    requires base { IsBase alg.now.expression }
-    requires before { HasBefore alg.now place list.old }
-    ensures { OnOk result (HasBefore alg.now (place + 1) list.new) }
+    requires { IsBase alg.now.expression }
+    ensures { (place : ℕ) → pure_label label.now ≡ candidate alg.now.expression place → HasBefore alg.now place list.old →
+        OnOk result (HasBefore alg.now (place + 1) list.new) }
 {
-    let label = candidate(alg.tree(), place);
-    if !label_in(alg, &label) || list.has(&rule(alg.tree(), &label)) {
+    if !label_in(alg, label) || list.has(&rule(alg.tree(), label)) {
         return Ok(());
     }
-    let class = base_class(alloc, alg, &label)?;
-    list.add(class)
+    list.add(base_class(alloc, alg, label)?)
 }
 
 // The label at that place among those that are tried, which may be none of the algebra's.
