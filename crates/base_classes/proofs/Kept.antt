@@ -40,12 +40,10 @@ kept_told c f flat w s u v kept level steep e1 e2 e3 e4 in_s in_u in_v = on_all 
     (always (λ x i. subst (λ o. ¬ IsPreferred c o (Some x)) (sym (kept x i)) (not_preferred c x i)))
     (never (subst (λ e. Refutes c f strict e) (sym e2) (in_s, (s, kept s in_s, not_preferred c s in_s))))
     (always (λ x y i j n. subst (λ o. ¬ IsPreferred c (f y) o) (sym (kept x i)) (subst (λ o. ¬ IsPreferred c o (Some x)) (sym (kept y j)) n)))
-    (always (λ x y i j h. subst (λ o. AreEquivalent c o (Some y)) (kept x i) (subst (λ o. AreEquivalent c (f x) o) (kept y j) h)))
-    (
+    (always (λ x y i j h. subst (λ o. AreEquivalent c o (Some y)) (kept x i) (subst (λ o. AreEquivalent c (f x) o) (kept y j) h))) (
       λ e x y a b i j g h. subst (λ o. Order c a o ≡ Equal) (same_value y b (sym (kept y j) ∙ h)) (subst (λ o. Order c o y ≡ Equal) (same_value x a (sym (kept x i) ∙ g)) (level e x y i j)),
       λ e. subst (λ e. Refutes c f cond e) (sym e3) ((in_u, in_v), (u, v, kept u in_u, kept v in_v, steep e)),
-    )
-    (
+    ) (
       λ e x y a b i j g h. level e x y i j,
       λ e. subst (λ e. Refutes c f narrow e) (sym e4) ((in_u, in_v), (u, v, kept u in_u, kept v in_v, steep e)),
     )

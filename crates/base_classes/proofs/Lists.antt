@@ -39,9 +39,9 @@ alike_between top c n a h b i = (grind (arith, nat_tests), grind (arith, nat_tes
 found_below : (low top high n : ℕ) → low ≤ n → n ≤ high → n < top → Found low top high n
 found_below low top high n a b h = ⊎_elim
     (λ some. ⊎_elim
-        (λ positive. (0, omega arith, omega arith, omega arith, alike_between top low n positive (omega arith) some h))
-        (λ z. (1, omega arith, omega arith, omega arith, alike_between top 1 n (omega arith) (omega arith) some h))
-        (cases_lt 0 low))
+    (λ positive. (0, omega arith, omega arith, omega arith, alike_between top low n positive (omega arith) some h))
+    (λ z. (1, omega arith, omega arith, omega arith, alike_between top 1 n (omega arith) (omega arith) some h))
+    (cases_lt 0 low))
     (λ z. (0, omega arith, omega arith, omega arith, alike_same top low n (omega arith)))
     (cases_lt 0 n)
 
@@ -49,9 +49,9 @@ found : (low top high n : ℕ) → low ≤ n → n ≤ high → Found low top hi
 found low top high n a b = ⊎_elim
     (found_below low top high n a b)
     (λ h. ⊎_elim
-        (λ over. (3, omega arith, omega arith, omega arith, alike_above top high n (omega arith) over))
-        (λ e. (2, omega arith, omega arith, omega arith, alike_same top top n (omega arith)))
-        (cases_lt top n))
+    (λ over. (3, omega arith, omega arith, omega arith, alike_above top high n (omega arith) over))
+    (λ e. (2, omega arith, omega arith, omega arith, alike_same top top n (omega arith)))
+    (cases_lt top n))
     (cases_lt n top)
 
 -- numbers that compare alike have one profile

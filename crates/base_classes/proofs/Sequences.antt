@@ -45,9 +45,9 @@ seq_told k n below = on_all (λ j. Tells (seqs k) (appends k n) j (bit seq_profi
     (always (on_seq k (λ v. ¬ IsPreferred (seqs k) (appends k n v) (Some v)) (λ ns e. omega (arith, one_more ns n, when_less (length (ns ++ n ∷ [])) (length ns) e))))
     (always (on_seq k (λ v. IsPreferred (seqs k) (Some v) (appends k n v)) (λ ns. less (length ns) (length (ns ++ n ∷ [])) (omega (arith, one_more ns n)))))
     (always (on_two_seq k (λ u v. ¬ IsPreferred (seqs k) (Some v) (Some u) → ¬ IsPreferred (seqs k) (appends k n v) (appends k n u))
-        (λ ls ms h e. omega (arith, one_more ls n, one_more ms n, not_below (length ms) (length ls) h, when_less (length (ms ++ n ∷ [])) (length (ls ++ n ∷ [])) e))))
+    (λ ls ms h e. omega (arith, one_more ls n, one_more ms n, not_below (length ms) (length ls) h, when_less (length (ms ++ n ∷ [])) (length (ls ++ n ∷ [])) e))))
     (always (on_two_seq k (λ u v. AreEquivalent (seqs k) (appends k n u) (appends k n v) → AreEquivalent (seqs k) (Some u) (Some v))
-        (λ ls ms h. alike (length ls) (length ms) (omega (arith, one_more ls n, one_more ms n, when_alike (length (ls ++ n ∷ [])) (length (ms ++ n ∷ [])) h)))))
+    (λ ls ms h. alike (length ls) (length ms) (omega (arith, one_more ls n, one_more ms n, when_alike (length (ls ++ n ∷ [])) (length (ms ++ n ∷ [])) h)))))
     (never ((tt, (below, tt)), (symbols (n ∷ []), symbols (n ∷ n ∷ []), refl, refl, less 1 2 (omega arith))))
     (never ((tt, (below, tt)), (symbols (n ∷ []), symbols (n ∷ n ∷ []), refl, refl, less 0 1 (omega arith))))
 
@@ -125,8 +125,7 @@ simseq_told k n below = on_all (λ j. Tells (simseqs k) (joins k n) j (bit (sims
     (never (((below, tt), refl), own_gone k n))
     (never ((tt, refl), (symbols (n ∷ []), refl)))
     (always (on_simple k (λ v. ¬ IsPreferred (simseqs k) (joins k n v) (Some v)) (λ ns a. longer_mono k (has n ns) ns n)))
-    (always (on_simple k (λ v. IsPreferred (simseqs k) (Some v) (joins k n v)) (λ ns a. longer_strict k (has n ns) ns n)))
-    (
+    (always (on_simple k (λ v. IsPreferred (simseqs k) (Some v) (joins k n v)) (λ ns a. longer_strict k (has n ns) ns n))) (
       λ e. on_two_simple k (λ u v. ¬ IsPreferred (simseqs k) (Some v) (Some u) → ¬ IsPreferred (simseqs k) (joins k n v) (joins k n u))
           (λ ls ms a b h. alone_iso k n ls ms (has n ls) (has n ms) (empty k n ms (same k 1 e) below b) (λ z. rw z refl) (not_below (length ms) (length ls) h)),
       λ e. (
@@ -139,8 +138,7 @@ simseq_told k n below = on_all (λ j. Tells (simseqs k) (joins k n) j (bit (sims
       ),
     )
     (always (on_two_simple k (λ u v. AreEquivalent (simseqs k) (joins k n u) (joins k n v) → AreEquivalent (simseqs k) (Some u) (Some v))
-        (λ ls ms a b h. alike (length ls) (length ms) (longer_canc k (has n ls) (has n ms) ls ms n h))))
-    (
+    (λ ls ms a b h. alike (length ls) (length ms) (longer_canc k (has n ls) (has n ms) ls ms n h)))) (
       λ e u v w x i j g h. on_two_simple k (λ u v. joins k n u ≡ Some w → joins k n v ≡ Some x → Order (simseqs k) w x ≡ Equal)
           (λ ls ms a b g h.
           let p = was_longer (has n ls) ls n w g in
@@ -154,8 +152,7 @@ simseq_told k n below = on_all (λ j. Tells (simseqs k) (joins k n) j (bit (sims
         ((tt, refl), ((other_is_below k n e below, tt), refl)),
         (symbols (n ∷ []), symbols (other_symbol n ∷ n ∷ []), refl, other_kept k n (other_symbol n) (is_other n), less 1 2 (omega arith)),
       ),
-    )
-    (
+    ) (
       λ e u v w x i j g h. on_two_simple k (λ u v. joins k n u ≡ Some w → joins k n v ≡ Some x → Order (simseqs k) u v ≡ Equal)
           (λ ls ms a b g h.
           let y = empty k n ls (same k 1 e) below a (was_longer (has n ls) ls n w g).0 in

@@ -32,12 +32,7 @@ pub fn base_class_list(alloc: Global, alg: &Alg) -> Result<ClassList, NoMemory>
 }
 
 // Adds the class of the label, if it is the algebra's and has a new profile.
-fn add_class(
-    alloc: Global,
-    alg: &Alg,
-    label: &Label,
-    list: &mut ClassList,
-) -> Result<(), NoMemory>
+fn add_class(alloc: Global, alg: &Alg, label: &Label, list: &mut ClassList) -> Result<(), NoMemory>
     requires { IsBase alg.now.expression }
     ensures { (place : ℕ) → pure_label label.now ≡ candidate alg.now.expression place → HasBefore alg.now place list.old →
         OnOk result (HasBefore alg.now (place + 1) list.new) }
