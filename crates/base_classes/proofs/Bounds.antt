@@ -18,7 +18,7 @@ use Rattle.alg_classes.specs.Profiles.{bit}
 use Rattle.alg_classes.specs.ClassLaws.{on_all}
 use Rattle.alg_classes.specs.Classes.{Settles, ExampleAtMost, ClassOf, pure_examples}
 use Rattle.base_classes.specs.declared.examples.Numbers.{Numbers}
-use Rattle.base_classes.specs.Kinds.{IsBase, asks, number_in}
+use Rattle.base_classes.specs.Kinds.{IsBase, number_in}
 use Rattle.base_classes.specs.Profiles.{base_profile_of}
 use Rattle.base_classes.specs.Witnesses.{Witness, AreExamples, unless, failing, base_witness_of, number_witness, set_witness, guard_witness, sequence_witness, unit_witness, other_symbol}
 use Rattle.base_classes.specs.Witnesses.{add_numbers, cap_numbers, worst_numbers, width_numbers, pref_numbers, orig_numbers}
@@ -66,9 +66,10 @@ numbers_bounded n a b c d e f = on_all (λ k. ExampleAtMost MAX_INSTANCE_NUMBER 
 sets_bounded : (o s : ℕ) → Bounded (set_witness o s)
 sets_bounded o s = on_all (λ k. ExampleAtMost MAX_INSTANCE_NUMBER (Some (set_witness o s k))) tt tt tt tt (tt, tt) tt tt tt
 
-guards_bounded : (b : Bool) (k : ℕ) → Bounded (guard_witness b k)
-guards_bounded true k = sets_bounded _ _
-guards_bounded false k = sets_bounded _ _
+guards_bounded : (l : PureLabel) → Bounded (guard_witness l)
+guards_bounded (need k) = sets_bounded _ _
+guards_bounded (bar k) = sets_bounded _ _
+guards_bounded _ = sets_bounded 0 0
 
 sequences_bounded : (own other : ℕ) → own ≤ MAX_INSTANCE_NUMBER → other ≤ MAX_INSTANCE_NUMBER → Bounded (sequence_witness own other)
 sequences_bounded own other a b = on_all (λ k. ExampleAtMost MAX_INSTANCE_NUMBER (Some (sequence_witness own other k)))
@@ -91,7 +92,7 @@ witness_bounded n (orig top) l h b e m i = numbers_bounded (orig_numbers top) (o
 witness_bounded n (seq k) (symbol_label j) h b e m i = sequences_bounded j j (omega (arith, m)) (omega (arith, m))
 witness_bounded n (simseq k) (symbol_label j) h b e m i = sequences_bounded j (other_symbol j) (omega (arith, m)) (small_symbol (j == 0))
 witness_bounded n (tags k) l h b e m i = sets_bounded 0 0
-witness_bounded n (guard k) l h b e m i = guards_bounded (asks l) (number_in l)
+witness_bounded n (guard k) l h b e m i = guards_bounded l
 witness_bounded n gate l h b e m i = units_bounded
 witness_bounded n (worst top low high) l h b e m i = absurd i
 witness_bounded n (width top low high) l h b e m i = absurd i

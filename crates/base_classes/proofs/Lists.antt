@@ -4,13 +4,17 @@ use Rattle.std.proofs.lemmas.Bool.{cases_lt}
 use Rattle.std.proofs.lemmas.Bool.Decides.{nat_tests}
 use Rattle.std.specs.Prelude.{nat_le, nat_lt, if◌then◌else◌}
 use Rattle.std.specs.List.{AllByRecursion}
-use Rattle.alg_model.specs.Expressions.{Expression, PureAlg, add, cap, worst, width, pref, orig, seq, simseq, tags, guard, gate}
+use Rattle.alg_model.specs.Expressions.{Expression, PureAlg, PureCarrier, add, cap, worst, width, pref, orig, seq, simseq, tags, guard, gate}
 use Rattle.alg_model.specs.Expressions.{PureLabel, number_label, keep, symbol_label, mark, unmark, need, bar, allow, deny}
 use Rattle.alg_model.specs.Views.{pure_label}
-use Rattle.alg_model.specs.Application.{IsLabel}
+use Rattle.alg_model.specs.Carriers.{carrier_of}
+use Rattle.alg_model.specs.Application.{IsLabel, App}
 use Rattle.alg_model.specs.Formation.{MeetsRanges, IsAlg}
 use Rattle.alg_classes.specs.declared.profile.Profile.{Profile}
 use Rattle.alg_classes.specs.declared.class.Class.{Class}
+use Rattle.alg_classes.specs.Facts.{Action, Fact, total, dead, mono, strict, iso, canc, cond, narrow, Holds}
+use Rattle.alg_classes.specs.Profiles.{bit, IsProfile}
+use Rattle.alg_classes.specs.ClassLaws.{class_profile}
 use Rattle.alg_classes.specs.Classes.{HasProfile, AreDistinct, IsGrownBy, ClassOf, IsCovered, Covers}
 use Rattle.base_classes.specs.Kinds.{IsBase, number_in}
 use Rattle.base_classes.specs.Profiles.{base_profile_of, add_profile, cap_profile, worst_profile, width_profile, pref_profile}
@@ -98,31 +102,57 @@ has_candidate (simseq k) l b r i = absurd i
 has_candidate gate l b r i = absurd i
 has_candidate a l b r i = absurd b
 
--- a list that has the profile of each candidate covers the algebra
+-- a label has one profile
+one_bit : (b c : Bool) (H : Type 0) → (b ≡ true → H) × (H → b ≡ true) → (c ≡ true → H) × (H → c ≡ true) → b ≡ c
+one_bit true c H s t = sym (t.1 (s.0 refl))
+one_bit false true H s t = s.1 (t.0 refl)
+one_bit false false H s t = refl
+
+abbrev of_bits : (Fact → Bool) → Profile
+of_bits b = record {
+  total = b total;
+  dead = b dead;
+  mono = b mono;
+  strict = b strict;
+  iso = b iso;
+  canc = b canc;
+  cond = b cond;
+  narrow = b narrow;
+}
+
+same_bits : (b c : Fact → Bool) → ((k : Fact) → b k ≡ c k) → of_bits b ≡ of_bits c
+same_bits b c e = rw (e total, e dead, e mono, e strict, e iso, e canc, e cond, e narrow) refl
+
+one_profile : (c : PureCarrier) (f : Action) (p q : Profile) → IsProfile c f p → IsProfile c f q → p ≡ q
+one_profile c f p q s t = same_bits (bit p) (bit q) (λ k. one_bit (bit p k) (bit q k) (Holds c f k) (s k) (t k))
+
+-- and so labels of which the table tells the same are covered together
+also_covered : (a : PureAlg) (classes : List Class) (l m : PureLabel) → IsAlg a → IsBase a.expression → IsLabel a.expression l → IsLabel a.expression m
+    → base_profile_of a.expression l ≡ base_profile_of a.expression m → IsCovered a classes l → IsCovered a classes m
+also_covered a classes l m is base i j e (p, profile, has) =
+    let told = base_is_profile a.expression l base is.formed.ranges i in
+    let same : p ≡ base_profile_of a.expression m = one_profile (carrier_of a.expression) (App a.expression l) p (base_profile_of a.expression l) profile told ∙ e in
+    (base_profile_of a.expression m, base_is_profile a.expression m base is.formed.ranges j, subst (HasProfile classes) same has)
+
+-- a list that covers each candidate covers the algebra
 pub covers : (a : PureAlg) (classes : List Class) → IsAlg a → IsBase a.expression → HasBefore a 4 classes → Covers a classes
 covers a classes is base h = record {
   distinct = h.distinct;
   each = h.each;
   labels = λ l i.
       let c = has_candidate a.expression l base is.formed.ranges i in
-      (base_profile_of a.expression l, base_is_profile a.expression l base is.formed.ranges i, subst (HasProfile classes) c.3 (h.before c.0 c.1 c.2));
+      also_covered a classes (candidate a.expression c.0) l is base c.2 i c.3 (h.before c.0 c.1 c.2);
 }
 
--- nothing is before the first place
-pub none_before : (a : PureAlg) → HasBefore a 0 []
-none_before a = record { distinct = tt; each = tt; before = λ p h. absurd (omega (arith, h)) }
-
--- the next place, where the candidate's profile is in the list
-pub one_more : (a : PureAlg) (place : ℕ) (classes : List Class) → HasBefore a place classes
-    → (IsLabel a.expression (candidate a.expression place) → HasProfile classes (base_profile_of a.expression (candidate a.expression place)))
-    → HasBefore a (place + 1) classes
+-- the next place, where the candidate is covered
+one_more : (a : PureAlg) (place : ℕ) (classes : List Class) → HasBefore a place classes
+    → (IsLabel a.expression (candidate a.expression place) → IsCovered a classes (candidate a.expression place)) → HasBefore a (place + 1) classes
 one_more a place classes h has = record {
   distinct = h.distinct;
   each = h.each;
   before = λ p k i. ⊎_elim
       (λ l. h.before p l i)
-      (λ l. let e : place ≡ p = omega (arith, k, l) in
-      subst (λ q. IsLabel a.expression (candidate a.expression q) → HasProfile classes (base_profile_of a.expression (candidate a.expression q))) e has i)
+      (λ l. subst (λ q. IsLabel a.expression (candidate a.expression q) → IsCovered a classes (candidate a.expression q)) (omega (arith, k, l)) has i)
       (cases_lt p place);
 }
 
@@ -149,25 +179,26 @@ distinct_more (d ∷ ds) class a none =
 
 -- so too where the label is none of the algebra's, or its profile is there
 pub none_added : (a : PureAlg) (place : ℕ) (classes : List Class) (l : PureLabel) → l ≡ candidate a.expression place → HasBefore a place classes
-    → (IsLabel a.expression l → HasProfile classes (base_profile_of a.expression l)) → HasBefore a (place + 1) classes
-none_added a place classes l e h has =
-    one_more a place classes h (subst (λ m. IsLabel a.expression m → HasProfile classes (base_profile_of a.expression m)) e has)
+    → (IsLabel a.expression l → IsCovered a classes l) → HasBefore a (place + 1) classes
+none_added a place classes l e h has = one_more a place classes h (subst (λ m. IsLabel a.expression m → IsCovered a classes m) e has)
 
 -- and where its class is added
 class_added : (a : PureAlg) (place : ℕ) (old new : List Class) (class : Class) → HasBefore a place old → ClassOf a class
-    → IsGrownBy old class new → class.profile ≡ base_profile_of a.expression (candidate a.expression place) → HasBefore a (place + 1) new
-class_added a place old new class h is grown e = ⊎_elim
-    (λ g. subst (HasBefore a (place + 1)) (sym g.1) (one_more a place old h (λ i. subst (HasProfile old) e g.0)))
-    (λ g. subst (HasBefore a (place + 1)) (sym g.1) (one_more a place (old ++ class ∷ []) (record {
+    → IsGrownBy old class new → pure_label class.label ≡ candidate a.expression place → HasBefore a (place + 1) new
+class_added a place old new class h is grown e =
+    let profile = class_profile a class is in
+    ⊎_elim
+    (λ g. subst (HasBefore a (place + 1)) (sym g.1) (none_added a place old (pure_label class.label) e h (λ i. (class.profile, profile, g.0))))
+    (λ g. subst (HasBefore a (place + 1)) (sym g.1) (none_added a place (old ++ class ∷ []) (pure_label class.label) e (record {
       distinct = distinct_more old class h.distinct g.0;
       each = all_and_last (ClassOf a) old class h.each is;
-      before = λ p k i. still_has old class (base_profile_of a.expression (candidate a.expression p)) (h.before p k i);
-    }) (λ i. subst (HasProfile (old ++ class ∷ [])) e (has_last old class))))
+      before = λ p k i. let c = h.before p k i in (c.0, c.1, still_has old class c.0 c.2);
+    }) (λ i. (class.profile, profile, has_last old class))))
     grown
 
 -- unless memory is refused
 pub one_added : {A E : Type 0} (a : PureAlg) (r : Result A E) (old new : List Class) (class : Class) (l : PureLabel) (place : ℕ) → ClassOf a class
-    → class.profile ≡ base_profile_of a.expression l → l ≡ candidate a.expression place → OnOk r (IsGrownBy old class new)
+    → pure_label class.label ≡ l → l ≡ candidate a.expression place → OnOk r (IsGrownBy old class new)
     → HasBefore a place old → OnOk r (HasBefore a (place + 1) new)
-one_added a (Ok x) old new class l place is p e grown h = class_added a place old new class h is grown (subst (λ m. class.profile ≡ base_profile_of a.expression m) e p)
-one_added a (Err x) old new class l place is p e grown h = tt
+one_added a (Ok x) old new class l place is copied e grown h = class_added a place old new class h is grown (copied ∙ e)
+one_added a (Err x) old new class l place is copied e grown h = tt

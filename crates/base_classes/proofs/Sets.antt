@@ -68,10 +68,10 @@ has_own j = rw (bit_at-pow_same j) refl
 has_none : (j : ℕ) → has_mark 0 j ≡ false
 has_none j = rw (bit_at-zero j) refl
 
-pub need_told : (k j : ℕ) → j < k → Told (sets k) (App (guard k) (need j)) guard_profile (guard_witness true j)
+pub need_told : (k j : ℕ) → j < k → Told (sets k) (App (guard k) (need j)) guard_profile (guard_witness (need j))
 need_told k j i = some_told k (App (guard k) (need j)) 0 (2 ^ j) (pow_pos k) (pow_below j k i) (rw (has_none j) refl) (rw (has_own j) refl)
 
-pub bar_told : (k j : ℕ) → j < k → Told (sets k) (App (guard k) (bar j)) guard_profile (guard_witness false j)
+pub bar_told : (k j : ℕ) → j < k → Told (sets k) (App (guard k) (bar j)) guard_profile (guard_witness (bar j))
 bar_told k j i = some_told k (App (guard k) (bar j)) (2 ^ j) 0 (pow_below j k i) (pow_pos k) (rw (has_own j) refl) (rw (has_none j) refl)
 
 -- of a gate

@@ -28,8 +28,7 @@ number_in (need k) = k
 number_in (bar k) = k
 number_in _ = 0
 
--- the label asks for what it names, or lets all pass
-abbrev pub asks : PureLabel → Bool
-asks (need k) = true
-asks allow = true
-asks _ = false
+-- the label lets all pass
+abbrev pub is_allow : PureLabel → Bool
+is_allow allow = true
+is_allow _ = false

@@ -4,10 +4,8 @@ use Rattle.std.specs.List.{AllByRecursion}
 use Rattle.alg_model.specs.Expressions.{Expression, PureAlg, add, cap, worst, width, pref, orig, seq, simseq, tags, guard, gate, table, lex, scoped, union, sum, plus, left, right}
 use Rattle.alg_model.specs.Expressions.{PureLabel, number_label, keep, symbol_label, need, allow, deny}
 use Rattle.alg_model.specs.Application.{IsLabel}
-use Rattle.alg_classes.specs.declared.profile.Profile.{Profile}
 use Rattle.alg_classes.specs.declared.class.Class.{Class}
-use Rattle.alg_classes.specs.Classes.{HasProfile, AreDistinct, ClassOf}
-use Rattle.base_classes.specs.Profiles.{base_profile_of}
+use Rattle.alg_classes.specs.Classes.{AreDistinct, ClassOf, IsCovered}
 
 -- place, low, top, high
 abbrev pub candidate_number : ℕ → ℕ → ℕ → ℕ → ℕ
@@ -39,5 +37,4 @@ candidate (right a) p = keep
 pub record HasBefore (a : PureAlg) (place : ℕ) (classes : List Class) : Type 0 where
   pub distinct : AreDistinct classes
   pub each : AllByRecursion (ClassOf a) classes
-  pub before : (p : ℕ) → p < place → IsLabel a.expression (candidate a.expression p)
-      → HasProfile classes (base_profile_of a.expression (candidate a.expression p))
+  pub before : (p : ℕ) → p < place → IsLabel a.expression (candidate a.expression p) → IsCovered a classes (candidate a.expression p)

@@ -3,7 +3,7 @@ use Rattle.std.specs.Prelude.{ℕ, ◌==◌, Bool, true, false, not, nat_lt, nat
 use Rattle.alg_model.specs.Expressions.{Expression, add, cap, worst, width, pref, orig, seq, simseq, tags, guard, gate, table, lex, scoped, union, sum, plus, left, right}
 use Rattle.alg_model.specs.Expressions.{PureLabel}
 use Rattle.alg_classes.specs.declared.profile.Profile.{Profile}
-use Rattle.base_classes.specs.Kinds.{number_in, asks}
+use Rattle.base_classes.specs.Kinds.{number_in, is_allow}
 
 abbrev pub add_profile : ℕ → Profile
 add_profile n = record {
@@ -141,7 +141,7 @@ base_profile_of (seq k) l = seq_profile
 base_profile_of (simseq k) l = simseq_profile k
 base_profile_of (tags k) l = keep_profile true
 base_profile_of (guard k) l = guard_profile
-base_profile_of gate l = if asks l then keep_profile true else dead_profile
+base_profile_of gate l = if is_allow l then keep_profile true else dead_profile
 base_profile_of (table t) l = dead_profile
 base_profile_of (lex a b) l = dead_profile
 base_profile_of (scoped a b) l = dead_profile

@@ -1,14 +1,14 @@
 -- What shows, of a label of a base algebra, that a fact fails, where it does.
 use Rattle.std.specs.Prelude.{◌≡◌, ℕ, ◌+◌, ◌-◌, ◌^◌, ◌==◌, [], ◌∷◌, Bool, true, false, Option, Some, None, if◌then◌else◌}
 use Rattle.alg_model.specs.Expressions.{Expression, add, cap, worst, width, pref, orig, seq, simseq, tags, guard, gate, table, lex, scoped, union, sum, plus, left, right}
-use Rattle.alg_model.specs.Expressions.{PureLabel, number, symbols, marks, unit}
+use Rattle.alg_model.specs.Expressions.{PureLabel, need, bar, number, symbols, marks, unit}
 use Rattle.alg_classes.specs.declared.profile.Profile.{Profile}
 use Rattle.alg_classes.specs.declared.class.Examples.{Examples}
 use Rattle.alg_classes.specs.Facts.{Fact, total, dead, mono, strict, iso, canc, cond, narrow, PureExample, at, between}
 use Rattle.alg_classes.specs.Profiles.{bit}
 use Rattle.alg_classes.specs.Classes.{PureExamples, pure_examples}
 use Rattle.base_classes.specs.declared.examples.Numbers.{Numbers}
-use Rattle.base_classes.specs.Kinds.{number_in, asks}
+use Rattle.base_classes.specs.Kinds.{number_in}
 
 -- an example for each fact, whether it holds or not
 abbrev pub Witness : Type 0
@@ -54,7 +54,7 @@ unit_witness cond = between unit unit
 unit_witness narrow = between unit unit
 unit_witness _ = at unit
 
--- where the facts of a label that adds this number fail, with this top
+-- where the facts of a label fail that do, by the top and the label's number
 abbrev pub add_numbers : Numbers
 add_numbers = record { outside = 0; kept = 0; merged = (0, 1); apart = (0, 1) }
 
@@ -77,9 +77,11 @@ orig_numbers top = record { outside = 0; kept = 0; merged = (0, top); apart = (0
 abbrev pub other_symbol : ℕ → ℕ
 other_symbol n = if n == 0 then 1 else 0
 
-abbrev pub guard_witness : Bool → ℕ → Witness
-guard_witness true k = set_witness 0 (2 ^ k)
-guard_witness false k = set_witness (2 ^ k) 0
+-- of a label that asks for a number, and of one that bars it
+abbrev pub guard_witness : PureLabel → Witness
+guard_witness (need k) = set_witness 0 (2 ^ k)
+guard_witness (bar k) = set_witness (2 ^ k) 0
+guard_witness _ = set_witness 0 0
 
 -- of a label of a base algebra
 abbrev pub base_witness_of : Expression → PureLabel → Witness
@@ -92,7 +94,7 @@ base_witness_of (orig top) l = number_witness (orig_numbers top)
 base_witness_of (seq k) l = sequence_witness (number_in l) (number_in l)
 base_witness_of (simseq k) l = sequence_witness (number_in l) (other_symbol (number_in l))
 base_witness_of (tags k) l = set_witness 0 0
-base_witness_of (guard k) l = guard_witness (asks l) (number_in l)
+base_witness_of (guard k) l = guard_witness l
 base_witness_of gate l = unit_witness
 base_witness_of (table t) l = unit_witness
 base_witness_of (lex a b) l = unit_witness
@@ -102,3 +104,7 @@ base_witness_of (sum a b) l = unit_witness
 base_witness_of (plus a b) l = unit_witness
 base_witness_of (left a) l = unit_witness
 base_witness_of (right a) l = unit_witness
+
+-- the examples are those of the label's facts that fail
+abbrev pub AreExamplesOf : Expression → PureLabel → Profile → Examples → Type 0
+AreExamplesOf a l p x = AreExamples x p (base_witness_of a l)

@@ -3,7 +3,6 @@ ghost use Rattle.alg_model.specs.Views.{pure_label};
 ghost use Rattle.alg_model.specs.Application.{IsLabel};
 ghost use Rattle.alg_classes.specs.Classes.{ClassOf};
 ghost use Rattle.base_classes.specs.Kinds.{IsBase};
-ghost use Rattle.base_classes.specs.Profiles.{base_profile_of};
 
 use crate::examples::examples;
 use crate::profile::rule;
@@ -20,7 +19,6 @@ pub fn base_class(alloc: Global, alg: &Alg, label: &Label) -> Result<Class, NoMe
     requires base { IsBase alg.now.expression }
     requires label { IsLabel alg.now.expression (pure_label label.now) }
     ensures class { IfOk result (ClassOf alg.now) }
-    ensures profile { IfOk result (λ class. class.profile ≡ base_profile_of alg.now.expression (pure_label label.now)) }
     ensures label { IfOk result (λ class. pure_label class.label ≡ pure_label label.now) }
 {
     let profile = rule(alg.tree(), label);

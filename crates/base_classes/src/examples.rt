@@ -7,9 +7,9 @@ ghost use Rattle.alg_model.specs.Formation.{MeetsRanges};
 ghost use Rattle.alg_model.specs.declared.alg.TheConstants.{MAX_MARKS};
 ghost use Rattle.alg_classes.specs.Facts.{at, between};
 ghost use Rattle.alg_classes.specs.Classes.{pure_at, pure_between};
-ghost use Rattle.base_classes.specs.Kinds.{IsBase, number_in, asks};
+ghost use Rattle.base_classes.specs.Kinds.{IsBase};
 ghost use Rattle.base_classes.specs.Profiles.{base_profile_of};
-ghost use Rattle.base_classes.specs.Witnesses.{unless, AreExamples, base_witness_of, number_witness, set_witness};
+ghost use Rattle.base_classes.specs.Witnesses.{unless, AreExamples, AreExamplesOf, number_witness, set_witness};
 ghost use Rattle.base_classes.specs.Witnesses.{sequence_witness, unit_witness, guard_witness, other_symbol};
 ghost use Rattle.base_classes.specs.Witnesses.{add_numbers, cap_numbers, worst_numbers, width_numbers};
 ghost use Rattle.base_classes.specs.Witnesses.{pref_numbers, orig_numbers};
@@ -20,8 +20,8 @@ use alg_model::{Amount, Label, Tree, Value};
 use meta_base::{List, NoMemory};
 use std::alloc::Global;
 
-/// Values at which facts of a label on numbers fail, where they do. Further, 0 has an image, and that is
-/// preferred where the label isn't monotone.
+/// Values at which facts of a label on numbers fail, where they do. Further, 0 has an image unless the
+/// label is dead, and that is preferred unless the label is monotone.
 #[derive(Clone, Copy, Debug)]
 pub(crate) struct Numbers {
     /// Is sent to none.
@@ -45,7 +45,7 @@ pub(crate) fn examples(
     requires ranges { MeetsRanges (expression_of tree.now) }
     requires label { IsLabel (expression_of tree.now) (pure_label label.now) }
     requires profile { profile.now ≡ base_profile_of (expression_of tree.now) (pure_label label.now) }
-    ensures { IfOk result (λ x. AreExamples x profile.now (base_witness_of (expression_of tree.now) (pure_label label.now))) }
+    ensures { IfOk result (AreExamplesOf (expression_of tree.now) (pure_label label.now) profile.now) }
 {
     let n = number_in(label);
     match tree {
@@ -246,7 +246,7 @@ fn guard_examples(count: u64, label: &Label, profile: &Profile) -> Examples
     requires canc { profile.now.canc ≡ true }
     requires cond { profile.now.cond ≡ true }
     requires narrow { profile.now.narrow ≡ true }
-    ensures { AreExamples result profile.now (guard_witness (asks (pure_label label.now)) (number_in (pure_label label.now))) }
+    ensures { AreExamples result profile.now (guard_witness (pure_label label.now)) }
 {
     match label {
         Label::Need(k) => set_examples(profile, 0, 1 << *k),

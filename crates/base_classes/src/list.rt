@@ -5,7 +5,7 @@ ghost use Rattle.base_classes.specs.Kinds.{IsBase};
 ghost use Rattle.base_classes.specs.Lists.{candidate, candidate_number, HasBefore};
 
 use crate::class::base_class;
-use crate::profile::rule;
+use crate::profile::base_profile;
 use alg_classes::ClassList;
 use alg_model::{Alg, Label, Tree, label_in};
 use meta_base::NoMemory;
@@ -34,10 +34,10 @@ pub fn base_class_list(alloc: Global, alg: &Alg) -> Result<ClassList, NoMemory>
 // Adds the class of the label, if it is the algebra's and has a new profile.
 fn add_class(alloc: Global, alg: &Alg, label: &Label, list: &mut ClassList) -> Result<(), NoMemory>
     requires { IsBase alg.now.expression }
-    ensures { (place : ℕ) → pure_label label.now ≡ candidate alg.now.expression place → HasBefore alg.now place list.old →
-        OnOk result (HasBefore alg.now (place + 1) list.new) }
+    ensures { (place : ℕ) → pure_label label.now ≡ candidate alg.now.expression place →
+        HasBefore alg.now place list.old → OnOk result (HasBefore alg.now (place + 1) list.new) }
 {
-    if !label_in(alg, label) || list.has(&rule(alg.tree(), label)) {
+    if !label_in(alg, label) || list.has(&base_profile(alg, label)) {
         return Ok(());
     }
     list.add(base_class(alloc, alg, label)?)

@@ -4,7 +4,7 @@ ghost use Rattle.alg_model.specs.Views.{expression_of, pure_label};
 ghost use Rattle.alg_model.specs.Application.{IsLabel};
 ghost use Rattle.alg_model.specs.Formation.{MeetsRanges};
 ghost use Rattle.alg_classes.specs.Profiles.{ProfileOf};
-ghost use Rattle.base_classes.specs.Kinds.{IsBase, number_in, asks};
+ghost use Rattle.base_classes.specs.Kinds.{IsBase, number_in, is_allow};
 ghost use Rattle.base_classes.specs.Profiles.{base_profile_of, add_profile, cap_profile, worst_profile, width_profile};
 ghost use Rattle.base_classes.specs.Profiles.{pref_profile, keep_profile, dead_profile, seq_profile, simseq_profile};
 ghost use Rattle.base_classes.specs.Profiles.{guard_profile};
@@ -50,7 +50,7 @@ pub(crate) fn rule(tree: &Tree, label: &Label) -> Profile
         Tree::SimSeq { symbols } => simseq_rule(*symbols),
         Tree::Tags { .. } => keep_rule(true),
         Tree::Guard { .. } => guard_rule(),
-        Tree::Gate if asks(label) => keep_rule(true),
+        Tree::Gate if is_allow(label) => keep_rule(true),
         Tree::Gate => dead_rule(),
         Tree::Table(_)
         | Tree::Lex(_, _)
@@ -74,12 +74,13 @@ pub(crate) fn number_in(label: &Label) -> u64
     }
 }
 
-// Whether the label asks for a number, or lets all pass.
-pub(crate) fn asks(label: &Label) -> bool
-    ensures { result ≡ asks (pure_label label.now) }
+fn is_allow(label: &Label) -> bool
+    ensures { result ≡ is_allow (pure_label label.now) }
 {
-    matches!(label, Label::Need(_) | Label::Allow)
+    matches!(label, Label::Allow)
 }
+
+// In what follows, a fact that a rule doesn't name is that of a label that keeps each value.
 
 fn add_rule(n: u64) -> Profile
     ensures { result ≡ add_profile n }
