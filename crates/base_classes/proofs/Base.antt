@@ -1,5 +1,5 @@
 -- The facts of the labels of base algebras, all kinds together.
-use Rattle.std.proofs.Common.{◌≡◌, ℕ, ◌≤◌, refl, arith}
+use Rattle.std.proofs.Common.{arith}
 use Rattle.alg_model.specs.Expressions.{Expression, add, cap, worst, width, pref, orig, seq, simseq, tags, guard, gate}
 use Rattle.alg_model.specs.Expressions.{PureLabel, number_label, keep, symbol_label, need, bar, allow, deny}
 use Rattle.alg_model.specs.Carriers.{carrier_of}

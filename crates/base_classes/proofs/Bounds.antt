@@ -1,6 +1,6 @@
 -- The numbers of labels of base algebras and of the examples of their facts are bounded, and so what the
 -- table tells and its witnesses make a class.
-use Rattle.std.proofs.Common.{◌≡◌, ℕ, ◌+◌, ◌≤◌, ◌<◌, ◌-◌, ◌==◌, refl, sym, subst, [], ◌∷◌, Bool, true, false, Option, Some, None, arith}
+use Rattle.std.proofs.Common.{◌≡◌, ℕ, ◌≤◌, ◌<◌, ◌==◌, sym, subst, Bool, true, false, Some, arith}
 use Rattle.std.specs.Prelude.{if◌then◌else◌}
 use Rattle.alg_model.specs.declared.alg.TheConstants.{MAX_INSTANCE_NUMBER}
 use Rattle.alg_model.specs.Expressions.{Expression, PureAlg, add, cap, worst, width, pref, orig, seq, simseq, tags, guard, gate}
@@ -12,8 +12,7 @@ use Rattle.alg_model.specs.Bounds.{ExpressionAtMost, LabelAtMost, greatest_numbe
 use Rattle.alg_model.specs.BoundLaws.{greatest_is_bounded}
 use Rattle.alg_model.specs.Formation.{IsAlg}
 use Rattle.alg_classes.specs.declared.class.Class.{Class}
-use Rattle.alg_classes.specs.declared.profile.Profile.{Profile}
-use Rattle.alg_classes.specs.Facts.{Fact, total, dead, mono, strict, iso, canc, cond, narrow, PureExample, at, between}
+use Rattle.alg_classes.specs.Facts.{Fact, PureExample}
 use Rattle.alg_classes.specs.Profiles.{bit}
 use Rattle.alg_classes.specs.ClassLaws.{on_all}
 use Rattle.alg_classes.specs.Classes.{Settles, ExampleAtMost, ClassOf, pure_examples}

@@ -1,12 +1,12 @@
 -- Labels that keep each value, and labels that send each to none.
-use Rattle.std.proofs.Common.{◌≡◌, refl, sym, subst, ◌∙◌, Bool, true, false, Option, Some, None}
+use Rattle.std.proofs.Common.{◌≡◌, refl, sym, subst, ◌∙◌, Bool, true, false, Some, None}
 use Rattle.std.specs.Ordering.{ordering_reverse}
 use Rattle.std.specs.declared.cmp.Ordering.{Ordering}
 use Rattle.std.specs.declared.cmp.Ordering.TheVariants.{Less, Equal, Greater}
 use Rattle.alg_model.specs.Expressions.{PureCarrier, PureValue}
 use Rattle.alg_model.specs.Carriers.{In, Order, IsPreferred, AreEquivalent}
 use Rattle.alg_model.specs.PreferenceLaws.{total_preorder}
-use Rattle.alg_classes.specs.Facts.{Action, Fact, total, dead, mono, strict, iso, canc, cond, narrow, Holds, PureExample, at, between, Refutes}
+use Rattle.alg_classes.specs.Facts.{Action, total, dead, strict, cond, narrow, at, between, Refutes}
 use Rattle.alg_classes.specs.Profiles.{bit}
 use Rattle.alg_classes.specs.ClassLaws.{on_all}
 use Rattle.base_classes.specs.Profiles.{keep_profile, dead_profile}

@@ -1,11 +1,11 @@
 -- Each profile of a label is that of a candidate; and what adding a candidate's class makes of a list.
-use Rattle.std.proofs.Common.{◌≡◌, ℕ, ◌+◌, ◌<◌, ◌≤◌, ◌==◌, refl, sym, subst, ◌∙◌, ◌⊎◌, inl, inr, ⊎_elim, List, [], ◌∷◌, ◌++◌, Bool, true, false, Result, Ok, Err, OnOk, arith}
+use Rattle.std.proofs.Common.{◌≡◌, ℕ, ◌+◌, ◌<◌, ◌≤◌, ◌==◌, refl, sym, subst, ◌∙◌, inl, inr, ⊎_elim, List, [], ◌∷◌, ◌++◌, Bool, true, false, Result, Ok, Err, OnOk, arith}
 use Rattle.std.proofs.lemmas.Bool.{cases_lt}
 use Rattle.std.proofs.lemmas.Bool.Decides.{nat_tests}
-use Rattle.std.specs.Prelude.{nat_le, nat_lt, if◌then◌else◌}
+use Rattle.std.specs.Prelude.{nat_le, nat_lt}
 use Rattle.std.specs.List.{AllByRecursion}
 use Rattle.alg_model.specs.Expressions.{Expression, PureAlg, PureCarrier, add, cap, worst, width, pref, orig, seq, simseq, tags, guard, gate}
-use Rattle.alg_model.specs.Expressions.{PureLabel, number_label, keep, symbol_label, mark, unmark, need, bar, allow, deny}
+use Rattle.alg_model.specs.Expressions.{PureLabel, number_label, keep, symbol_label, allow, deny}
 use Rattle.alg_model.specs.Views.{pure_label}
 use Rattle.alg_model.specs.Carriers.{carrier_of}
 use Rattle.alg_model.specs.Application.{IsLabel, App}
@@ -16,11 +16,10 @@ use Rattle.alg_classes.specs.Facts.{Action, Fact, total, dead, mono, strict, iso
 use Rattle.alg_classes.specs.Profiles.{bit, IsProfile}
 use Rattle.alg_classes.specs.ClassLaws.{class_profile}
 use Rattle.alg_classes.specs.Classes.{HasProfile, AreDistinct, IsGrownBy, ClassOf, IsCovered, Covers}
-use Rattle.base_classes.specs.Kinds.{IsBase, number_in}
+use Rattle.base_classes.specs.Kinds.{IsBase}
 use Rattle.base_classes.specs.Profiles.{base_profile_of, add_profile, cap_profile, worst_profile, width_profile, pref_profile}
 use Rattle.base_classes.specs.Lists.{candidate_number, candidate, HasBefore}
 use Rattle.base_classes.proofs.Base.{base_is_profile}
-use Rattle.base_classes.proofs.Compare.{tests_at_most, tests_above, tests_same, tests_other}
 
 -- two numbers compare alike with 0 and the top
 abbrev Alike : ℕ → ℕ → ℕ → Type 0

@@ -1,16 +1,15 @@
 -- The facts of labels on numbers.
 use Rattle.std.proofs.Common.{◌≡◌, ℕ, ◌+◌, ◌-◌, ◌<◌, ◌≤◌, ◌==◌, refl, sym, subst, Bool, true, false, Option, Some, None, arith}
-use Rattle.std.specs.Prelude.{max, min, nat_le, nat_lt, if◌then◌else◌}
-use Rattle.std.specs.Ordering.{nat_cmp}
-use Rattle.std.specs.declared.cmp.Ordering.TheVariants.{Less, Equal, Greater}
-use Rattle.alg_model.specs.Expressions.{PureCarrier, PureValue, PureLabel, number_label, keep, number, whole, up_to, down_from, add, cap, worst, width, pref, orig}
-use Rattle.alg_model.specs.Carriers.{In, Order, IsPreferred, AreEquivalent}
+use Rattle.std.specs.Prelude.{max, min, nat_le, if◌then◌else◌}
+use Rattle.std.specs.declared.cmp.Ordering.TheVariants.{Equal}
+use Rattle.alg_model.specs.Expressions.{PureCarrier, PureValue, number_label, keep, number, whole, up_to, down_from, add, cap, worst, width, pref, orig}
+use Rattle.alg_model.specs.Carriers.{Order, IsPreferred, AreEquivalent}
 use Rattle.alg_model.specs.Application.{App}
-use Rattle.alg_classes.specs.Facts.{Action, Fact, total, dead, mono, strict, iso, canc, cond, narrow, Holds, PureExample, at, between, Refutes}
+use Rattle.alg_classes.specs.Facts.{Action}
 use Rattle.alg_classes.specs.Profiles.{bit}
 use Rattle.alg_classes.specs.ClassLaws.{on_all}
 use Rattle.base_classes.specs.Profiles.{add_profile, cap_profile, worst_profile, width_profile, pref_profile, keep_profile}
-use Rattle.base_classes.specs.Witnesses.{Witness, number_witness, add_numbers, cap_numbers, worst_numbers, width_numbers, pref_numbers, orig_numbers}
+use Rattle.base_classes.specs.Witnesses.{number_witness, add_numbers, cap_numbers, worst_numbers, width_numbers, pref_numbers, orig_numbers}
 use Rattle.base_classes.proofs.Compare.{less, alike, when_less, when_alike, not_less_itself, same, is_zero, not_zero, positive, not_below, above, is_less, at_least, is_at_most, is_above, tests_at_most, tests_above}
 use Rattle.base_classes.proofs.Told.{Tells, Told, always, never, on_whole, on_up, on_down, on_two_whole, on_two_up, on_two_down}
 use Rattle.base_classes.proofs.Kept.{kept_told}

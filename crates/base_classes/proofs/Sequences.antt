@@ -1,14 +1,13 @@
 -- The facts of labels that append a symbol.
-use Rattle.std.proofs.Common.{◌≡◌, ℕ, ◌+◌, ◌<◌, ◌≤◌, ◌==◌, refl, sym, subst, List, [], ◌∷◌, ◌++◌, length, length-append, Bool, true, false, ◌||◌, Option, Some, None, arith}
+use Rattle.std.proofs.Common.{◌≡◌, ℕ, ◌+◌, ◌<◌, ◌≤◌, ◌==◌, refl, sym, subst, List, [], ◌∷◌, ◌++◌, length, length-append, Bool, true, false, Option, Some, None, arith}
 use Rattle.std.specs.Prelude.{if◌then◌else◌}
 use Rattle.std.specs.List.{AllByRecursion, list_any}
-use Rattle.std.specs.Ordering.{nat_cmp}
-use Rattle.std.specs.declared.cmp.Ordering.TheVariants.{Less, Equal, Greater}
-use Rattle.alg_model.specs.Expressions.{PureCarrier, seqs, simseqs, PureValue, symbols, seq, simseq}
-use Rattle.alg_model.specs.Expressions.{PureLabel, symbol_label}
-use Rattle.alg_model.specs.Carriers.{In, Order, IsPreferred, AreEquivalent, distinct}
+use Rattle.std.specs.declared.cmp.Ordering.TheVariants.{Equal}
+use Rattle.alg_model.specs.Expressions.{seqs, simseqs, PureValue, symbols, seq, simseq}
+use Rattle.alg_model.specs.Expressions.{symbol_label}
+use Rattle.alg_model.specs.Carriers.{In, Order, IsPreferred, AreEquivalent}
 use Rattle.alg_model.specs.Application.{App}
-use Rattle.alg_classes.specs.Facts.{Action, Fact, total, dead, mono, strict, iso, canc, cond, narrow, Holds, PureExample, at, between, Refutes}
+use Rattle.alg_classes.specs.Facts.{Action}
 use Rattle.alg_classes.specs.Profiles.{bit}
 use Rattle.alg_classes.specs.ClassLaws.{on_all}
 use Rattle.base_classes.specs.Profiles.{seq_profile, simseq_profile}

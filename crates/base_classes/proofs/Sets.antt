@@ -1,19 +1,18 @@
 -- The facts of labels on sets, all of which are equivalent, and of a gate's labels.
-use Rattle.std.proofs.Common.{◌≡◌, ℕ, ◌^◌, ◌-◌, ◌<◌, ◌==◌, refl, sym, subst, ap, ◌∙◌, ⊎_elim, Bool, true, false, Option, Some, None, arith}
+use Rattle.std.proofs.Common.{◌≡◌, ℕ, ◌^◌, ◌-◌, ◌<◌, refl, sym, subst, true, false, Option, Some, None}
 use Rattle.std.proofs.lemmas.Nat.{pow_pos, pow_below}
 use Rattle.std.proofs.lemmas.Nat.Bits.{bit_at-pow_same, bit_at-zero}
-use Rattle.std.specs.Prelude.{bit_or, bit_and, if◌then◌else◌}
-use Rattle.std.specs.declared.cmp.Ordering.TheVariants.{Less, Equal, Greater}
-use Rattle.alg_model.specs.Expressions.{PureCarrier, sets, one, PureValue, marks, unit, tags, guard, gate}
+use Rattle.std.specs.Prelude.{bit_or, bit_and}
+use Rattle.std.specs.declared.cmp.Ordering.TheVariants.{Less, Equal}
+use Rattle.alg_model.specs.Expressions.{sets, one, PureValue, marks, unit, tags, guard, gate}
 use Rattle.alg_model.specs.Expressions.{PureLabel, keep, mark, unmark, need, bar, allow, deny}
-use Rattle.alg_model.specs.Carriers.{In, Order, IsPreferred, AreEquivalent}
+use Rattle.alg_model.specs.Carriers.{In, IsPreferred, AreEquivalent}
 use Rattle.alg_model.specs.Application.{IsLabel, App, has_mark}
-use Rattle.alg_classes.specs.Facts.{Action, Fact, total, dead, mono, strict, iso, canc, cond, narrow, Holds, PureExample, at, between, Refutes}
-use Rattle.alg_classes.specs.FactLaws.{none_or_some}
+use Rattle.alg_classes.specs.Facts.{Action}
 use Rattle.alg_classes.specs.Profiles.{bit}
 use Rattle.alg_classes.specs.ClassLaws.{on_all}
 use Rattle.base_classes.specs.Profiles.{keep_profile, dead_profile, guard_profile}
-use Rattle.base_classes.specs.Witnesses.{Witness, set_witness, guard_witness, unit_witness}
+use Rattle.base_classes.specs.Witnesses.{set_witness, guard_witness, unit_witness}
 use Rattle.base_classes.proofs.Told.{Tells, Told, always, never}
 use Rattle.base_classes.proofs.Kept.{kept_told, dead_told}
 

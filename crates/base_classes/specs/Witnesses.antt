@@ -4,7 +4,7 @@ use Rattle.alg_model.specs.Expressions.{Expression, add, cap, worst, width, pref
 use Rattle.alg_model.specs.Expressions.{PureLabel, need, bar, number, symbols, marks, unit}
 use Rattle.alg_classes.specs.declared.profile.Profile.{Profile}
 use Rattle.alg_classes.specs.declared.class.Examples.{Examples}
-use Rattle.alg_classes.specs.Facts.{Fact, total, dead, mono, strict, iso, canc, cond, narrow, PureExample, at, between}
+use Rattle.alg_classes.specs.Facts.{Fact, total, strict, iso, canc, cond, narrow, PureExample, at, between}
 use Rattle.alg_classes.specs.Profiles.{bit}
 use Rattle.alg_classes.specs.Classes.{PureExamples, pure_examples}
 use Rattle.base_classes.specs.declared.examples.Numbers.{Numbers}

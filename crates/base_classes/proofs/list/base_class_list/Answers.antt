@@ -1,4 +1,4 @@
-use Rattle.std.proofs.Common.{◌≡◌, ℕ, subst, arith}
+use Rattle.std.proofs.Common.{◌≡◌, subst, arith}
 use Rattle.base_classes.specs.Lists.{HasBefore}
 use Rattle.base_classes.proofs.Lists.{covers}
 use Rattle.base_classes.proofs.list.base_class_list.Goals as goal
