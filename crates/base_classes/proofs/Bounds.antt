@@ -1,0 +1,130 @@
+-- The numbers of labels of base algebras and of the examples of their facts are bounded, and so what the
+-- table tells and its witnesses make a class.
+use Rattle.std.proofs.Common.{◌≡◌, ℕ, ◌≤◌, ◌<◌, ◌==◌, sym, subst, Bool, true, false, Some, arith}
+use Rattle.std.specs.Prelude.{if◌then◌else◌}
+use Rattle.alg_model.specs.declared.alg.TheConstants.{MAX_INSTANCE_NUMBER}
+use Rattle.alg_model.specs.Expressions.{Expression, PureAlg, add, cap, worst, width, pref, orig, seq, simseq, tags, guard, gate}
+use Rattle.alg_model.specs.Expressions.{PureLabel, number_label, keep, symbol_label, mark, unmark, need, bar, allow, deny}
+use Rattle.alg_model.specs.Views.{pure_label}
+use Rattle.alg_model.specs.Carriers.{carrier_of}
+use Rattle.alg_model.specs.Application.{IsLabel, App}
+use Rattle.alg_model.specs.Bounds.{ExpressionAtMost, LabelAtMost, greatest_number}
+use Rattle.alg_model.specs.BoundLaws.{greatest_is_bounded}
+use Rattle.alg_model.specs.Formation.{IsAlg}
+use Rattle.alg_classes.specs.declared.class.Class.{Class}
+use Rattle.alg_classes.specs.Facts.{Fact, PureExample}
+use Rattle.alg_classes.specs.Profiles.{bit}
+use Rattle.alg_classes.specs.ClassLaws.{on_all}
+use Rattle.alg_classes.specs.Classes.{Settles, ExampleAtMost, ClassOf, pure_examples}
+use Rattle.base_classes.specs.declared.examples.Numbers.{Numbers}
+use Rattle.base_classes.specs.Kinds.{IsBase, number_in}
+use Rattle.base_classes.specs.Profiles.{base_profile_of}
+use Rattle.base_classes.specs.Witnesses.{Witness, AreExamples, unless, failing, base_witness_of, number_witness, set_witness, guard_witness, sequence_witness, unit_witness, other_symbol}
+use Rattle.base_classes.specs.Witnesses.{add_numbers, cap_numbers, worst_numbers, width_numbers, pref_numbers, orig_numbers}
+use Rattle.base_classes.proofs.Base.{base_settled}
+
+-- the numbers of a label aren't above those of its algebra
+label_bounded : (n : ℕ) (a : Expression) (l : PureLabel) → IsBase a → ExpressionAtMost n a → IsLabel a l → LabelAtMost n l
+label_bounded n (add low high) (number_label m) b e i = omega (arith, e.1, i.1)
+label_bounded n (cap top low high) (number_label m) b e i = omega (arith, e.2, i.1)
+label_bounded n (worst top low high) (number_label m) b e i = omega (arith, e.2, i.1)
+label_bounded n (width top low high) (number_label m) b e i = omega (arith, e.2, i.1)
+label_bounded n (pref top) (number_label m) b e i = omega (arith, e, i)
+label_bounded n (orig top) keep b e i = tt
+label_bounded n (seq k) (symbol_label m) b e i = omega (arith, e, i)
+label_bounded n (simseq k) (symbol_label m) b e i = omega (arith, e, i)
+label_bounded n (tags k) keep b e i = tt
+label_bounded n (tags k) (mark j) b e i = tt
+label_bounded n (tags k) (unmark j) b e i = tt
+label_bounded n (guard k) (need j) b e i = tt
+label_bounded n (guard k) (bar j) b e i = tt
+label_bounded n gate allow b e i = tt
+label_bounded n gate deny b e i = tt
+label_bounded n (add low high) l b e i = absurd i
+label_bounded n (cap top low high) l b e i = absurd i
+label_bounded n (worst top low high) l b e i = absurd i
+label_bounded n (width top low high) l b e i = absurd i
+label_bounded n (pref top) l b e i = absurd i
+label_bounded n (orig top) l b e i = absurd i
+label_bounded n (seq k) l b e i = absurd i
+label_bounded n (simseq k) l b e i = absurd i
+label_bounded n (tags k) l b e i = absurd i
+label_bounded n (guard k) l b e i = absurd i
+label_bounded n gate l b e i = absurd i
+label_bounded n a l b e i = absurd b
+
+abbrev Bounded : Witness → Type 0
+Bounded w = (k : Fact) → ExampleAtMost MAX_INSTANCE_NUMBER (Some (w k))
+
+numbers_bounded : (n : Numbers) → n.outside ≤ MAX_INSTANCE_NUMBER → n.kept ≤ MAX_INSTANCE_NUMBER
+    → n.merged.0 ≤ MAX_INSTANCE_NUMBER → n.merged.1 ≤ MAX_INSTANCE_NUMBER → n.apart.0 ≤ MAX_INSTANCE_NUMBER → n.apart.1 ≤ MAX_INSTANCE_NUMBER
+    → Bounded (number_witness n)
+numbers_bounded n a b c d e f = on_all (λ k. ExampleAtMost MAX_INSTANCE_NUMBER (Some (number_witness n k)))
+    a (omega arith) (omega arith) b (omega arith) (c, d) (e, f) (e, f)
+
+sets_bounded : (o s : ℕ) → Bounded (set_witness o s)
+sets_bounded o s = on_all (λ k. ExampleAtMost MAX_INSTANCE_NUMBER (Some (set_witness o s k))) tt tt tt tt (tt, tt) tt tt tt
+
+guards_bounded : (l : PureLabel) → Bounded (guard_witness l)
+guards_bounded (need k) = sets_bounded _ _
+guards_bounded (bar k) = sets_bounded _ _
+guards_bounded _ = sets_bounded 0 0
+
+sequences_bounded : (own other : ℕ) → own ≤ MAX_INSTANCE_NUMBER → other ≤ MAX_INSTANCE_NUMBER → Bounded (sequence_witness own other)
+sequences_bounded own other a b = on_all (λ k. ExampleAtMost MAX_INSTANCE_NUMBER (Some (sequence_witness own other k)))
+    (a, tt) tt tt tt ((a, tt), (b, tt)) tt (tt, (b, tt)) (tt, (b, tt))
+
+units_bounded : Bounded unit_witness
+units_bounded = on_all (λ k. ExampleAtMost MAX_INSTANCE_NUMBER (Some (unit_witness k))) tt tt tt tt tt tt (tt, tt) (tt, tt)
+
+small_symbol : (b : Bool) → (if b then 1 else 0) ≤ MAX_INSTANCE_NUMBER
+small_symbol true = omega arith
+small_symbol false = omega arith
+
+witness_bounded : (n : ℕ) (a : Expression) (l : PureLabel) → n < MAX_INSTANCE_NUMBER → IsBase a → ExpressionAtMost n a → LabelAtMost n l → IsLabel a l → Bounded (base_witness_of a l)
+witness_bounded n (add low high) l h b e m i = numbers_bounded add_numbers (omega arith) (omega arith) (omega arith) (omega arith) (omega arith) (omega arith)
+witness_bounded n (cap top low high) l h b e m i = numbers_bounded (cap_numbers top (number_in l)) (omega (arith, e.0)) (omega arith) (omega arith) (omega arith) (omega arith) (omega arith)
+witness_bounded n (worst top low high) (number_label j) h b e m i = numbers_bounded (worst_numbers top j) (omega arith) (omega (arith, e.0)) (omega arith) (omega (arith, m)) (omega arith) (omega (arith, e.0))
+witness_bounded n (width top low high) (number_label j) h b e m i = numbers_bounded (width_numbers top j) (omega arith) (omega arith) (omega (arith, e.0)) (omega (arith, m)) (omega (arith, e.0)) (omega arith)
+witness_bounded n (pref top) (number_label j) h b e m i = numbers_bounded (pref_numbers top j) (omega arith) (omega (arith, m)) (omega (arith, e)) (omega arith) (omega (arith, e)) (omega arith)
+witness_bounded n (orig top) l h b e m i = numbers_bounded (orig_numbers top) (omega arith) (omega arith) (omega arith) (omega (arith, e)) (omega arith) (omega (arith, e))
+witness_bounded n (seq k) (symbol_label j) h b e m i = sequences_bounded j j (omega (arith, m)) (omega (arith, m))
+witness_bounded n (simseq k) (symbol_label j) h b e m i = sequences_bounded j (other_symbol j) (omega (arith, m)) (small_symbol (j == 0))
+witness_bounded n (tags k) l h b e m i = sets_bounded 0 0
+witness_bounded n (guard k) l h b e m i = guards_bounded l
+witness_bounded n gate l h b e m i = units_bounded
+witness_bounded n (worst top low high) l h b e m i = absurd i
+witness_bounded n (width top low high) l h b e m i = absurd i
+witness_bounded n (pref top) l h b e m i = absurd i
+witness_bounded n (seq k) l h b e m i = absurd i
+witness_bounded n (simseq k) l h b e m i = absurd i
+witness_bounded n a l h b e m i = absurd b
+
+failing_bounded : (n : ℕ) (b : Bool) (e : PureExample) → ExampleAtMost n (Some e) → ExampleAtMost n (unless b e)
+failing_bounded n true e h = tt
+failing_bounded n false e h = h
+
+-- an edition's greatest number is below the bound
+edition_bounded : (a : PureAlg) → greatest_number a.edition < MAX_INSTANCE_NUMBER
+edition_bounded a = omega (arith, greatest_is_bounded a.edition)
+
+-- a copy of the label, what the table tells of it, and the examples by its witnesses make a class of it
+pub class_is : (a : PureAlg) (class : Class) (l : PureLabel) (x y : Expression) → IsAlg a → IsBase a.expression → IsLabel a.expression l
+    → x ≡ a.expression → y ≡ a.expression → pure_label class.label ≡ l → class.profile ≡ base_profile_of x l
+    → AreExamples class.examples class.profile (base_witness_of y l) → ClassOf a class
+class_is a class l x y is base i ex ey copied told examples =
+    let p : class.profile ≡ base_profile_of a.expression l = subst (λ z. class.profile ≡ base_profile_of z l) ex told in
+    let w : Witness = base_witness_of a.expression l in
+    let e : AreExamples class.examples class.profile w = subst (λ z. AreExamples class.examples class.profile (base_witness_of z l)) ey examples in
+    let small : LabelAtMost (greatest_number a.edition) l = label_bounded (greatest_number a.edition) a.expression l base is.bound i in
+    record {
+      label = subst (IsLabel a.expression) (sym copied) i;
+      label_bound = subst (LabelAtMost (greatest_number a.edition)) (sym copied) small;
+      settled = λ k.
+          subst (λ m. Settles (carrier_of a.expression) (App a.expression m) k (bit class.profile k) (pure_examples class.examples k)) (sym copied)
+          (subst (λ o. Settles (carrier_of a.expression) (App a.expression l) k (bit class.profile k) o) (sym (e k))
+          (subst (λ q. Settles (carrier_of a.expression) (App a.expression l) k (bit q k) (failing q w k)) (sym p)
+          (base_settled a.expression l base is.formed.ranges i k)));
+      bound = λ k. subst (ExampleAtMost MAX_INSTANCE_NUMBER) (sym (e k)) (failing_bounded MAX_INSTANCE_NUMBER (bit class.profile k) (w k)
+          (witness_bounded (greatest_number a.edition) a.expression l (edition_bounded a) base is.bound small i k));
+    }

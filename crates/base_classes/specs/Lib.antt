@@ -1,0 +1,4 @@
+pub mod Kinds
+pub mod Profiles
+pub mod Witnesses
+pub mod Lists

@@ -1,0 +1,195 @@
+// The facts of labels, by the table of rules.
+ghost use Rattle.std.specs.Prelude.{◌≡◌};
+ghost use Rattle.alg_model.specs.Views.{expression_of, pure_label};
+ghost use Rattle.alg_model.specs.Application.{IsLabel};
+ghost use Rattle.alg_model.specs.Formation.{MeetsRanges};
+ghost use Rattle.alg_classes.specs.Profiles.{ProfileOf};
+ghost use Rattle.base_classes.specs.Kinds.{IsBase, number_in, is_allow};
+ghost use Rattle.base_classes.specs.Profiles.{base_profile_of, add_profile, cap_profile, worst_profile, width_profile};
+ghost use Rattle.base_classes.specs.Profiles.{pref_profile, keep_profile, dead_profile, seq_profile, simseq_profile};
+ghost use Rattle.base_classes.specs.Profiles.{guard_profile};
+
+use alg_classes::Profile;
+use alg_model::{Alg, Label, Tree};
+
+/// Which facts the label of a base algebra has. It takes no memory.
+///
+/// The algebra's root is a base algebra other than a table, and the label is the algebra's.
+pub fn base_profile(alg: &Alg, label: &Label) -> Profile
+    requires base { IsBase alg.now.expression }
+    requires label { IsLabel alg.now.expression (pure_label label.now) }
+    ensures { ProfileOf alg.now.expression (pure_label label.now) result }
+{
+    base_tree_profile(alg.tree(), label)
+}
+
+/// The same of a tree that meets the formation rule on ranges.
+#[tactic(auto, using(crate::proofs::Base::base_is_profile))]
+pub fn base_tree_profile(tree: &Tree, label: &Label) -> Profile
+    requires base { IsBase (expression_of tree.now) }
+    requires ranges { MeetsRanges (expression_of tree.now) }
+    requires label { IsLabel (expression_of tree.now) (pure_label label.now) }
+    ensures { ProfileOf (expression_of tree.now) (pure_label label.now) result }
+{
+    rule(tree, label)
+}
+
+// What the table says of the label.
+pub(crate) fn rule(tree: &Tree, label: &Label) -> Profile
+    requires { IsBase (expression_of tree.now) }
+    ensures { result ≡ base_profile_of (expression_of tree.now) (pure_label label.now) }
+{
+    match tree {
+        Tree::Add { .. } => add_rule(number_in(label)),
+        Tree::Cap { top, .. } => cap_rule(*top, number_in(label)),
+        Tree::Worst { top, .. } => worst_rule(*top, number_in(label)),
+        Tree::Width { top, .. } => width_rule(*top, number_in(label)),
+        Tree::Pref { top } => pref_rule(*top, number_in(label)),
+        Tree::Orig { top } => keep_rule(*top == 0),
+        Tree::Seq { .. } => seq_rule(),
+        Tree::SimSeq { symbols } => simseq_rule(*symbols),
+        Tree::Tags { .. } => keep_rule(true),
+        Tree::Guard { .. } => guard_rule(),
+        Tree::Gate if is_allow(label) => keep_rule(true),
+        Tree::Gate => dead_rule(),
+        Tree::Table(_)
+        | Tree::Lex(_, _)
+        | Tree::Scoped(_, _)
+        | Tree::Union(_, _)
+        | Tree::Sum(_, _)
+        | Tree::Plus(_, _)
+        | Tree::Left(_)
+        | Tree::Right(_) => unreachable!(),
+    }
+}
+
+// The number that the label holds, or 0.
+pub(crate) fn number_in(label: &Label) -> u64
+    ensures { result ≡ number_in (pure_label label.now) }
+{
+    match label {
+        Label::Number(n) | Label::Symbol(n) => *n,
+        Label::Mark(k) | Label::Unmark(k) | Label::Need(k) | Label::Bar(k) => u64::from(*k),
+        _ => 0,
+    }
+}
+
+fn is_allow(label: &Label) -> bool
+    ensures { result ≡ is_allow (pure_label label.now) }
+{
+    matches!(label, Label::Allow)
+}
+
+// In what follows, a fact that a rule doesn't name is that of a label that keeps each value.
+
+fn add_rule(n: u64) -> Profile
+    ensures { result ≡ add_profile n }
+{
+    Profile {
+        strict: n != 0,
+        ..keep_rule(false)
+    }
+}
+
+fn cap_rule(top: u64, n: u64) -> Profile
+    ensures { result ≡ cap_profile top n }
+{
+    Profile {
+        total: n == 0,
+        dead: n > top,
+        strict: n != 0,
+        ..keep_rule(n >= top)
+    }
+}
+
+fn worst_rule(top: u64, n: u64) -> Profile
+    ensures { result ≡ worst_profile top n }
+{
+    Profile {
+        canc: n == 0,
+        cond: n == top,
+        ..keep_rule(top == 0)
+    }
+}
+
+fn width_rule(top: u64, n: u64) -> Profile
+    ensures { result ≡ width_profile top n }
+{
+    Profile {
+        canc: n == top,
+        cond: n == 0,
+        ..keep_rule(top == 0)
+    }
+}
+
+fn pref_rule(top: u64, n: u64) -> Profile
+    ensures { result ≡ pref_profile top n }
+{
+    Profile {
+        mono: n == 0,
+        canc: top == 0,
+        cond: true,
+        ..keep_rule(top == 0)
+    }
+}
+
+fn seq_rule() -> Profile
+    ensures { result ≡ seq_profile }
+{
+    Profile {
+        strict: true,
+        ..keep_rule(false)
+    }
+}
+
+fn simseq_rule(symbols: u64) -> Profile
+    ensures { result ≡ simseq_profile symbols }
+{
+    Profile {
+        total: false,
+        strict: true,
+        iso: symbols == 1,
+        ..keep_rule(symbols == 1)
+    }
+}
+
+fn guard_rule() -> Profile
+    ensures { result ≡ guard_profile }
+{
+    Profile {
+        total: false,
+        iso: false,
+        ..keep_rule(true)
+    }
+}
+
+// A label that keeps each value, or makes a set of each set.
+fn keep_rule(flat: bool) -> Profile
+    ensures { result ≡ keep_profile flat }
+{
+    Profile {
+        total: true,
+        dead: false,
+        mono: true,
+        strict: false,
+        iso: true,
+        canc: true,
+        cond: flat,
+        narrow: flat,
+    }
+}
+
+fn dead_rule() -> Profile
+    ensures { result ≡ dead_profile }
+{
+    Profile {
+        total: false,
+        dead: true,
+        mono: true,
+        strict: true,
+        iso: true,
+        canc: true,
+        cond: true,
+        narrow: true,
+    }
+}
