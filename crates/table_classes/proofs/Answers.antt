@@ -1,5 +1,5 @@
 -- What answers to each fact make of a profile and of a class.
-use Rattle.std.proofs.Common.{◌≡◌, refl, sym, subst, ℕ, Option, Some, None}
+use Rattle.std.proofs.Common.{◌≡◌, sym, subst, ℕ, Option, Some, None}
 use Rattle.std.specs.Option.{is_none}
 use Rattle.alg_model.specs.declared.alg.TheConstants.{MAX_INSTANCE_NUMBER}
 use Rattle.alg_model.specs.declared.tree.Label.{Label}
@@ -13,7 +13,7 @@ use Rattle.alg_classes.specs.Profiles.{bit, ProfileOf}
 use Rattle.alg_classes.specs.Classes.{pure_examples, Settles, IsSettledBy, ExampleAtMost, ExamplesAtMost, ClassOf}
 use Rattle.alg_classes.specs.ClassLaws.{on_all, settled_profile}
 use Rattle.table_classes.specs.declared.found.Found.{Found}
-use Rattle.table_classes.specs.Rows.{IsTable, PureRow, IsRowOf, row_carrier, row_action}
+use Rattle.table_classes.specs.Rows.{IsTable, PureRow, IsRowOf, row_carrier}
 use Rattle.table_classes.specs.Found.{value_example, pair_example, found_examples, found_profile, found_class, IsAnswer, IsAnswerOf, AreAnswers, AreAnswersOf}
 
 pub all_answered : (row : PureRow) (x : Found) → IsAnswerOf row total (value_example x.outside) → IsAnswerOf row dead (value_example x.inside)

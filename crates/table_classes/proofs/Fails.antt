@@ -1,5 +1,5 @@
 -- Facts that fail at values with an image.
-use Rattle.std.proofs.Common.{◌≡◌, refl, sym, ap, subst, ◌∙◌, ℕ, Bool, true, false, not, Option, Some, None, option_map}
+use Rattle.std.proofs.Common.{◌≡◌, refl, sym, ap, subst, ℕ, Bool, true, false, not, Option, Some, None, option_map}
 use Rattle.std.specs.Option.{is_some}
 use Rattle.alg_model.specs.Expressions.{PureValue, name}
 use Rattle.alg_model.specs.Carriers.{IsPreferred}

@@ -1,5 +1,5 @@
 -- A list of classes that gains the class of a row.
-use Rattle.std.proofs.Common.{◌≡◌, refl, sym, subst, ℕ, ◌<◌, List, [], ◌∷◌, ◌++◌, ◌⊎◌, inl, inr, ⊎_elim, Result, Ok, Err, OnOk}
+use Rattle.std.proofs.Common.{◌≡◌, refl, sym, subst, ℕ, List, [], ◌∷◌, ◌++◌, inl, inr, ⊎_elim, Result, Ok, Err, OnOk}
 use Rattle.std.specs.List.{AllByRecursion}
 use Rattle.alg_model.specs.declared.tree.Label.{Row}
 use Rattle.alg_model.specs.Expressions.{Expression, table, PureAlg, PureLabel, row_label}

@@ -1,5 +1,5 @@
 -- What a search over the values of a row finds.
-use Rattle.std.specs.Prelude.{◌≡◌, ℕ, Option, Some, None, option_map}
+use Rattle.std.specs.Prelude.{ℕ, Option, Some, None, option_map}
 use Rattle.std.specs.Option.{is_none}
 use Rattle.alg_model.specs.Expressions.{PureCarrier, name}
 use Rattle.alg_model.specs.declared.tree.Value.{Value, Name}

@@ -1,6 +1,6 @@
 -- Rows of a table: the values that they act on, and what they do to them.
 use Rattle.std.specs.Prelude.{◌≡◌, ℕ, ◌<◌, ◌≤◌, List, length, Option, Some, None, option_map, option_and_then, slice_get}
-use Rattle.alg_model.specs.Expressions.{Expression, table, PureCarrier, named, PureValue, name, PureLabel}
+use Rattle.alg_model.specs.Expressions.{Expression, table, PureCarrier, named, name, PureLabel}
 use Rattle.alg_model.specs.Carriers.{carrier_of}
 use Rattle.alg_model.specs.Application.{App}
 use Rattle.alg_model.specs.declared.alg.TheConstants.{MAX_TABLE_NAMES}

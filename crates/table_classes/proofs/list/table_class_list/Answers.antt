@@ -1,4 +1,4 @@
-use Rattle.std.proofs.Common.{ℕ, ◌<◌, arith, sym, subst}
+use Rattle.std.proofs.Common.{arith, sym, subst}
 use borrow.Author.Count.{below_more}
 use Rattle.alg_model.specs.Expressions.{row_label}
 use Rattle.alg_model.specs.Application.{IsLabel}

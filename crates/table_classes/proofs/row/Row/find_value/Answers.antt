@@ -1,4 +1,4 @@
-use Rattle.std.proofs.Common.{◌<◌, ℕ, length, arith}
+use Rattle.std.proofs.Common.{arith}
 use Rattle.table_classes.specs.Rows.{value_fact}
 use Rattle.table_classes.specs.Found.{FailsAtPlace}
 use Rattle.table_classes.proofs.Searches.{passed, holds_of_values}

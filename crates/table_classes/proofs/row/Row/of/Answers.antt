@@ -1,9 +1,5 @@
-use Rattle.std.proofs.Common.{◌≡◌, ◌<◌, true, length, sym, subst, ◌∙◌, get_or}
-use Rattle.alg_model.specs.Expressions.{row_label}
-use Rattle.alg_model.specs.Views.{expression_of, pure_label}
-use Rattle.alg_model.specs.Application.{IsLabel}
-use Rattle.alg_model.specs.Formation.{MeetsRanges, is_table}
-use Rattle.alg_model.specs.declared.tree.TableRow.{TableRow}
+use Rattle.std.proofs.Common.{◌≡◌, true}
+use Rattle.alg_model.specs.Formation.{is_table}
 use Rattle.table_classes.proofs.Tables.{row_is, row_is_of, within_rows, found_row}
 use Rattle.table_classes.proofs.row.Row.of.Goals as goal
 
