@@ -1,7 +1,6 @@
 -- Which algebra a text means, and which fault refuses it.
 use Rattle.std.specs.Prelude.{◌≡◌, ◌⊎◌, List, ℕ, [], ◌∷◌, ◌++◌, false, Option, Some, None, if◌then◌else◌, codes}
 use Rattle.std.specs.Str.{bytes_eq}
-use Rattle.raml_lex.specs.declared.token.LexKind.TheVariants as lex
 use Rattle.raml_lex.specs.Gaps.{gap_of}
 use Rattle.raml_lex.specs.Places.{place_after}
 use Rattle.raml_lex.specs.Tokens.{Tok, word, number, semicolon, Step, end, bad, token, step_of}
@@ -9,7 +8,8 @@ use Rattle.alg_model.specs.Bounds.{greatest_number}
 use Rattle.alg_model.specs.Expressions.{PureAlg}
 use Rattle.raml_syntax.specs.declared.faults.ExprFault.{ExprFault}
 use Rattle.raml_syntax.specs.declared.faults.ExprKind.{ExprKind}
-use Rattle.raml_syntax.specs.declared.faults.ExprKind.TheVariants.{BadByte, NumberTooLarge, TrailingText}
+use Rattle.raml_syntax.specs.declared.faults.ExprKind.TheVariants.{TrailingText}
+use Rattle.raml_syntax.specs.Faults.{kind_of}
 use Rattle.raml_syntax.specs.Meaning.{edition_of}
 use Rattle.raml_syntax.specs.Trees.{File}
 use Rattle.raml_syntax.specs.Productions.{clean, FaultAt}
@@ -47,8 +47,7 @@ pub record ExprText (text : List ℕ) (a : PureAlg) : Type 0 where
 -- what comes behind a whole file is at fault
 abbrev pub Trails : Step → ExprKind → Type 0
 Trails end k = ⊥
-Trails (bad lex.BadByte) k = k ≡ BadByte
-Trails (bad lex.NumberTooLarge) k = k ≡ NumberTooLarge
+Trails (bad fault) k = k ≡ kind_of fault
 Trails (token t rest) k = k ≡ TrailingText
 
 -- the tokens at the front are a file without a fault

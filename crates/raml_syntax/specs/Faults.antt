@@ -1,5 +1,7 @@
--- The numbers of faults.
+-- Faults: their numbers, and what those of the lexer come to.
 use Rattle.std.specs.Prelude.{ℕ}
+use Rattle.raml_lex.specs.declared.token.LexKind.{LexKind}
+use Rattle.raml_lex.specs.declared.token.LexKind.TheVariants as lex
 use Rattle.raml_syntax.specs.declared.faults.ExprKind.{ExprKind}
 use Rattle.raml_syntax.specs.declared.faults.ExprKind.TheVariants.{BadByte, Unexpected, EndOfText, NumberTooLarge, UnknownName, NameTwice, BadRange, CarriersDiffer, TooLarge, BadTable, TrailingText, UnknownProfile}
 
@@ -17,3 +19,8 @@ fault_number TooLarge = 9
 fault_number BadTable = 10
 fault_number TrailingText = 11
 fault_number UnknownProfile = 12
+
+-- the fault of bytes that are no token, where a number may stand
+abbrev pub kind_of : LexKind → ExprKind
+kind_of lex.BadByte = BadByte
+kind_of lex.NumberTooLarge = NumberTooLarge

@@ -7,9 +7,10 @@ use Rattle.raml_lex.specs.declared.token.TokenKind.TheVariants as kind
 use Rattle.raml_lex.specs.Tokens.{Tok, word, number, Step, end, bad, token, step_of}
 use Rattle.raml_lex.specs.Lexers.{Lexer, next_place}
 use Rattle.raml_syntax.specs.declared.faults.ExprKind.{ExprKind}
-use Rattle.raml_syntax.specs.declared.faults.ExprKind.TheVariants.{BadByte, Unexpected, EndOfText, NumberTooLarge}
+use Rattle.raml_syntax.specs.declared.faults.ExprKind.TheVariants.{BadByte, Unexpected, EndOfText}
 use Rattle.raml_syntax.specs.declared.faults.AlgError.{AlgError}
 use Rattle.raml_syntax.specs.declared.faults.AlgError.TheVariants.{Bad, NoMemory}
+use Rattle.raml_syntax.specs.Faults.{kind_of}
 use Rattle.raml_syntax.specs.Reading.{TakesOne}
 
 -- a reader of tokens that has met no fault
@@ -38,8 +39,7 @@ Lacks wanted (token t rest) k = (k ≡ Unexpected) × (wanted t → ⊥)
 -- the same where a number is wanted
 abbrev pub LacksNumber : Step → ExprKind → Type 0
 LacksNumber end k = k ≡ EndOfText
-LacksNumber (bad lex.BadByte) k = k ≡ BadByte
-LacksNumber (bad lex.NumberTooLarge) k = k ≡ NumberTooLarge
+LacksNumber (bad fault) k = k ≡ kind_of fault
 LacksNumber (token t rest) k = (k ≡ Unexpected) × ((n : ℕ) → t ≡ number n → ⊥)
 
 -- the error says what stands next and where

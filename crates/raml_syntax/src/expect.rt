@@ -4,6 +4,7 @@ ghost use Rattle.raml_lex.specs.Tokens.{word};
 ghost use Rattle.raml_lex.specs.Tokens as tok;
 ghost use Rattle.raml_lex.specs.Lexers.{next_place};
 ghost use Rattle.raml_lex.specs.Views.{tok_of};
+ghost use Rattle.raml_syntax.specs.Faults.{kind_of};
 ghost use Rattle.raml_syntax.specs.Leaves.{IsReady, TakesAt, EndsWith, Lacks, LacksNumber, IsRefusal, IsTok, IsWord, IsMark};
 ghost use Rattle.raml_syntax.specs.Reading.{TakesOne};
 ghost use Rattle.raml_syntax.specs.declared.faults.AlgError.TheVariants.{Bad};
@@ -17,6 +18,16 @@ pub fn refused(kind: ExprKind, place: Place) -> AlgError
     ensures { result ≡ Bad (record { kind = kind; place = place }) }
 {
     AlgError::Bad(ExprFault { kind, place })
+}
+
+/// The fault of bytes that are no token, where a number may stand.
+pub fn kind_of(kind: LexKind) -> ExprKind
+    ensures { result ≡ kind_of kind }
+{
+    match kind {
+        LexKind::BadByte => ExprKind::BadByte,
+        LexKind::NumberTooLarge => ExprKind::NumberTooLarge,
+    }
 }
 
 /// The next token, whatever it is.
@@ -94,13 +105,7 @@ pub fn take_number(tokens: &mut Tokens<'_>) -> Result<(u64, Place), AlgError>
             TokenKind::Number(number) => Ok((number, token.place)),
             _ => Err(refused(ExprKind::Unexpected, token.place)),
         },
-        Some(Err(fault)) => Err(refused(
-            match fault.kind {
-                LexKind::BadByte => ExprKind::BadByte,
-                LexKind::NumberTooLarge => ExprKind::NumberTooLarge,
-            },
-            fault.place,
-        )),
+        Some(Err(fault)) => Err(refused(kind_of(fault.kind), fault.place)),
         None => Err(refused(ExprKind::EndOfText, tokens.place())),
     }
 }

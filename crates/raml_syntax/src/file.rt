@@ -16,13 +16,13 @@ ghost use Rattle.raml_syntax.specs.Headers.{is_opening, opening_word, alg_read, 
 ghost use Rattle.raml_syntax.specs.Plain.{IsPlainAdd};
 
 use crate::definitions::Definitions;
-use crate::expect::{refused, take_mark, take_number, take_word};
+use crate::expect::{kind_of, refused, take_mark, take_number, take_word};
 use crate::expression::read_expression;
 use crate::forest::TreeId;
 use crate::heads::head_of;
 use crate::{AlgError, ExprKind};
 use alg_model::{Alg, Edition, Tree};
-use raml_lex::{LexKind, TokenKind, Tokens};
+use raml_lex::{TokenKind, Tokens};
 use std::alloc::Global;
 
 // The word that a statement begins with.
@@ -243,13 +243,7 @@ fn expect_end(tokens: &mut Tokens<'_>) -> Result<(), AlgError>
     match tokens.next() {
         None => Ok(()),
         Some(Ok(token)) => Err(refused(ExprKind::TrailingText, token.place)),
-        Some(Err(fault)) => Err(refused(
-            match fault.kind {
-                LexKind::BadByte => ExprKind::BadByte,
-                LexKind::NumberTooLarge => ExprKind::NumberTooLarge,
-            },
-            fault.place,
-        )),
+        Some(Err(fault)) => Err(refused(kind_of(fault.kind), fault.place)),
     }
 }
 

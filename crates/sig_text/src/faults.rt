@@ -1,11 +1,11 @@
-ghost use Rattle.std.specs.Prelude.{◌≡◌};
+ghost use Rattle.std.specs.Prelude.{◌≡◌, IfOk};
 ghost use Rattle.sig_text.specs.Faults.{lit_fault_number};
-ghost use Rattle.sig_text.specs.Literals.{both_of};
+ghost use Rattle.sig_text.specs.Literals.{both_of, one_of};
 ghost use Rattle.sig_text.specs.declared.faults.LitError.TheVariants as error;
 ghost use Rattle.sig_text.specs.declared.faults.Stop.TheVariants as stop;
 
 use meta_base::NoMemory;
-use std::alloc::{AllocError, AllocFailed};
+use std::alloc::{AllocError, AllocFailed, Global};
 use thiserror::Error;
 
 /// What is wrong with the text of a label or a value.
@@ -75,6 +75,19 @@ pub(crate) fn both<A: Drop, B: Drop>(
     ensures { result ≡ both_of (λ a b. (a, b)) first second }
 {
     Ok((first?, second?))
+}
+
+/// The same in a box, where it is there.
+pub(crate) fn boxed<T: Drop>(
+    alloc: Global,
+    part: Result<T, LitFault>,
+) -> Result<Result<Box<T>, LitFault>, NoMemory>
+    ensures { IfOk result (λ boxed. one_of (λ b. b.value) boxed ≡ part) }
+{
+    match part {
+        Ok(part) => Ok(Ok(Box::new(alloc, part)?)),
+        Err(fault) => Ok(Err(fault)),
+    }
 }
 
 /// Why a reader stopped before the end of a shape.

@@ -12,7 +12,7 @@ ghost use Rattle.sig_text.specs.declared.bytes.TheConstants.{MAX_LITERAL_NUMBER}
 ghost use Rattle.sig_text.specs.Reading.{take_word, keep_at, gate_at, row_of, row_at, ranged_at, symbol_at, tag_at, guard_at};
 
 use crate::LitFault;
-use crate::faults::{Stop, both};
+use crate::faults::{Stop, both, boxed};
 use crate::parts::{
     Next, Scope, Side, mark_at, marked_at, next_part, number_at, scope_at, side_at, word_at,
 };
@@ -381,10 +381,7 @@ fn pair_of(
 ) -> Result<Result<Label, LitFault>, NoMemory>
     ensures { IfOk result (λ l. label_outcome l ≡ both_of pair_label (label_outcome first) (label_outcome second)) }
 {
-    match both(first, second) {
-        Ok((l, m)) => Ok(Ok(Label::Pair(Box::new(alloc, l)?, Box::new(alloc, m)?))),
-        Err(fault) => Ok(Err(fault)),
-    }
+    Ok(both(boxed(alloc, first)?, boxed(alloc, second)?).map(|(l, m)| Label::Pair(l, m)))
 }
 
 fn both_of(
@@ -394,10 +391,7 @@ fn both_of(
 ) -> Result<Result<Label, LitFault>, NoMemory>
     ensures { IfOk result (λ l. label_outcome l ≡ both_of both_label (label_outcome first) (label_outcome second)) }
 {
-    match both(first, second) {
-        Ok((l, m)) => Ok(Ok(Label::Both(Box::new(alloc, l)?, Box::new(alloc, m)?))),
-        Err(fault) => Ok(Err(fault)),
-    }
+    Ok(both(boxed(alloc, first)?, boxed(alloc, second)?).map(|(l, m)| Label::Both(l, m)))
 }
 
 fn outer_of(
@@ -407,10 +401,7 @@ fn outer_of(
 ) -> Result<Result<Label, LitFault>, NoMemory>
     ensures { IfOk result (λ out. label_outcome out ≡ both_of outer (label_outcome label) (value_outcome value)) }
 {
-    match both(label, value) {
-        Ok((l, v)) => Ok(Ok(Label::Outer(Box::new(alloc, l)?, v))),
-        Err(fault) => Ok(Err(fault)),
-    }
+    Ok(both(boxed(alloc, label)?, value).map(|(l, v)| Label::Outer(l, v)))
 }
 
 fn inner_of(
@@ -419,10 +410,7 @@ fn inner_of(
 ) -> Result<Result<Label, LitFault>, NoMemory>
     ensures { IfOk result (λ inside. label_outcome inside ≡ one_of inner (label_outcome label)) }
 {
-    match label {
-        Ok(m) => Ok(Ok(Label::Inner(Box::new(alloc, m)?))),
-        Err(fault) => Ok(Err(fault)),
-    }
+    Ok(boxed(alloc, label)?.map(Label::Inner))
 }
 
 fn first_of(
@@ -431,10 +419,7 @@ fn first_of(
 ) -> Result<Result<Label, LitFault>, NoMemory>
     ensures { IfOk result (λ side. label_outcome side ≡ one_of first_label (label_outcome label)) }
 {
-    match label {
-        Ok(l) => Ok(Ok(Label::First(Box::new(alloc, l)?))),
-        Err(fault) => Ok(Err(fault)),
-    }
+    Ok(boxed(alloc, label)?.map(Label::First))
 }
 
 fn second_of(
@@ -443,10 +428,7 @@ fn second_of(
 ) -> Result<Result<Label, LitFault>, NoMemory>
     ensures { IfOk result (λ side. label_outcome side ≡ one_of second_label (label_outcome label)) }
 {
-    match label {
-        Ok(m) => Ok(Ok(Label::Second(Box::new(alloc, m)?))),
-        Err(fault) => Ok(Err(fault)),
-    }
+    Ok(boxed(alloc, label)?.map(Label::Second))
 }
 
 fn const_of(value: Result<Value, LitFault>) -> Result<Label, LitFault>

@@ -211,7 +211,7 @@ fn push_numbers(out: &mut String, ns: &[u64]) -> Result<(), NoMemory>
 
 // Appends a number that stands alone, or follows others.
 fn push_next(out: &mut String, follows: bool, n: u64) -> Result<(), NoMemory>
-    ensures { OnOk result (Gains out.old (separator follows ++ decimal n) out.new) }
+    ensures { OnOk result (string_bytes out.new ≡ (string_bytes out.old ++ separator follows) ++ decimal n) }
 {
     out.push_str(separator(follows))?;
     push_number(out, u128::from(n))

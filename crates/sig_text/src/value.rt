@@ -16,7 +16,7 @@ ghost use Rattle.sig_text.specs.declared.bytes.TheConstants.{MAX_LITERAL_NUMBER}
 ghost use Rattle.sig_text.specs.Reading.{take_word, set_from, unit_at, place_of, name_at};
 
 use crate::LitFault;
-use crate::faults::{Stop, both};
+use crate::faults::{Stop, both, boxed};
 use crate::parts::{Side, list_at, mark_at, number_at, side_at, word_at};
 use alg_model::{Amount, MAX_MARKS, MAX_TABLE_NAMES, Tree, Value};
 use meta_base::{List, NoMemory, Text};
@@ -321,10 +321,7 @@ fn pair_of(
 ) -> Result<Result<Value, LitFault>, NoMemory>
     ensures { IfOk result (λ both. value_outcome both ≡ both_of pair (value_outcome first) (value_outcome second)) }
 {
-    match both(first, second) {
-        Ok((u, v)) => Ok(Ok(Value::Pair(Box::new(alloc, u)?, Box::new(alloc, v)?))),
-        Err(fault) => Ok(Err(fault)),
-    }
+    Ok(both(boxed(alloc, first)?, boxed(alloc, second)?).map(|(u, v)| Value::Pair(u, v)))
 }
 
 fn first_of(
@@ -333,10 +330,7 @@ fn first_of(
 ) -> Result<Result<Value, LitFault>, NoMemory>
     ensures { IfOk result (λ side. value_outcome side ≡ one_of first (value_outcome value)) }
 {
-    match value {
-        Ok(u) => Ok(Ok(Value::First(Box::new(alloc, u)?))),
-        Err(fault) => Ok(Err(fault)),
-    }
+    Ok(boxed(alloc, value)?.map(Value::First))
 }
 
 fn second_of(
@@ -345,8 +339,5 @@ fn second_of(
 ) -> Result<Result<Value, LitFault>, NoMemory>
     ensures { IfOk result (λ side. value_outcome side ≡ one_of second (value_outcome value)) }
 {
-    match value {
-        Ok(v) => Ok(Ok(Value::Second(Box::new(alloc, v)?))),
-        Err(fault) => Ok(Err(fault)),
-    }
+    Ok(boxed(alloc, value)?.map(Value::Second))
 }
