@@ -4,3 +4,7 @@ pub mod Classes
 pub mod Instances
 pub mod FactLaws
 pub mod ClassLaws
+pub mod Inhabited
+pub mod RuleLaws
+pub mod Pairs
+pub mod PairLaws
