@@ -8,3 +8,5 @@ pub mod Inhabited
 pub mod RuleLaws
 pub mod Pairs
 pub mod PairLaws
+pub mod Growth
+pub mod GrowthLaws

@@ -1,13 +1,18 @@
 -- How a rule settles the facts of a composed label, for the proofs of rules: it tells when a fact holds, it has an
 -- example where it tells that it doesn't, and its examples refute.
-use Rattle.std.proofs.Common.{◌≡◌, refl, Bool, true, false, Option, Some, None}
+use Rattle.std.proofs.Common.{◌≡◌, refl, sym, subst, Bool, true, false, Option, Some, None}
 use Rattle.std.specs.Option.{option_or}
-use Rattle.alg_model.specs.Expressions.{PureCarrier, PureValue}
-use Rattle.alg_model.specs.Carriers.{In}
+use Rattle.alg_model.specs.declared.alg.TheConstants.{MAX_INSTANCE_NUMBER}
+use Rattle.alg_model.specs.Expressions.{PureAlg, PureCarrier, PureValue, PureLabel}
+use Rattle.alg_model.specs.Views.{pure_label}
+use Rattle.alg_model.specs.Carriers.{carrier_of, In}
+use Rattle.alg_model.specs.Application.{IsLabel, App}
+use Rattle.alg_model.specs.Bounds.{LabelAtMost, greatest_number}
 use Rattle.alg_classes.specs.declared.profile.Profile.{Profile}
+use Rattle.alg_classes.specs.declared.class.Class.{Class}
 use Rattle.alg_classes.specs.Facts.{Action, Fact, Holds, PureExample, at, between, Refutes}
 use Rattle.alg_classes.specs.Profiles.{bit}
-use Rattle.alg_classes.specs.Classes.{PureExamples, Settles, IsSettledBy}
+use Rattle.alg_classes.specs.Classes.{PureExamples, pure_examples, Settles, IsSettledBy, ExampleAtMost, ExamplesAtMost, ClassOf}
 use Rattle.alg_classes.specs.FactLaws.{Keeps, example_refutes}
 
 -- what is known of a part of a composed label
@@ -78,3 +83,18 @@ there_left (Some e) y h = (e, refl)
 pub there_right : (x y : Option PureExample) → IsThere y → IsThere (option_or x y)
 there_right None y h = h
 there_right (Some e) y h = (e, refl)
+
+-- A class whose label, profile and examples are known is the algebra's where these are.
+pub class_from : (a : PureAlg) (class : Class) (l : PureLabel) (p : Profile) (x : PureExamples)
+    → pure_label class.label ≡ l → class.profile ≡ p → ((k : Fact) → pure_examples class.examples k ≡ x k)
+    → IsLabel a.expression l → LabelAtMost (greatest_number a.edition) l → IsSettledBy (carrier_of a.expression) (App a.expression l) p x
+    → ExamplesAtMost MAX_INSTANCE_NUMBER x → ClassOf a class
+class_from a class l p x label_is profile_is examples_are label label_bound settled bound = record {
+  label = subst (IsLabel a.expression) (sym label_is) label;
+  label_bound = subst (LabelAtMost (greatest_number a.edition)) (sym label_is) label_bound;
+  settled = λ k.
+      subst (λ o. Settles (carrier_of a.expression) (App a.expression (pure_label class.label)) k (bit class.profile k) o) (sym (examples_are k))
+      (subst (λ q. Settles (carrier_of a.expression) (App a.expression (pure_label class.label)) k (bit q k) (x k)) (sym profile_is)
+      (subst (λ m. Settles (carrier_of a.expression) (App a.expression m) k (bit p k) (x k)) (sym label_is) (settled k)));
+  bound = λ k. subst (ExampleAtMost MAX_INSTANCE_NUMBER) (sym (examples_are k)) (bound k);
+}

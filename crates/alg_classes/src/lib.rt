@@ -7,11 +7,13 @@
 mod class;
 mod laws;
 mod list;
+mod pairs;
 mod profile;
 mod property;
 
 pub use class::{Class, Examples};
 pub use laws::{classes_have_their_profiles, examples_refute};
 pub use list::ClassList;
+pub use pairs::{pair_examples, pair_profile};
 pub use profile::Profile;
 pub use property::{Instance, Property};
