@@ -1,7 +1,7 @@
 -- Laws of lists of classes that are grown by a rule, for the proofs of loops; a list that is grown over lists that
 -- cover the parts covers the whole.
-use Rattle.std.proofs.Common.{◌≡◌, refl, sym, ap, subst, ◌∙◌, ℕ, ◌+◌, ◌<◌, List, [], ◌∷◌, ◌++◌, length, get_or, take, ◌⊎◌, inl, inr, ⊎_elim}
-use Rattle.std.proofs.lemmas.List.{take_more}
+use Rattle.std.proofs.Common.{◌≡◌, refl, sym, ap, subst, ◌∙◌, ℕ, ◌+◌, ◌<◌, List, [], ◌∷◌, ◌++◌, length, get_or, take, ◌⊎◌, inl, inr, ⊎_elim, arith}
+use Rattle.std.proofs.lemmas.List.{take_more, take_all}
 use Rattle.std.specs.List.{AllByRecursion}
 use Rattle.alg_model.specs.Expressions.{PureAlg, PureLabel}
 use Rattle.alg_model.specs.Application.{IsLabel}
@@ -96,6 +96,28 @@ grown_along A B C rule xs ws ys old mid new g h = record {
   made = λ p q i j. ⊎_elim (λ k. h.kept (rule p q) (g.made p q k j)) (λ k. h.made p q k j) (profile_of_two xs ws p i);
   each = λ s i j k. h.each s (all_right (A s) xs ws i) j (g.each s (all_left (A s) xs ws i) j k);
 }
+
+-- the step of a loop over the second list, or over the first
+pub grown_next : {S : Type 0} (A B C : S → Class → Type 0) (rule : Profile → Profile → Profile) (xs ys : List Class) (i : ℕ) (y : Class) (old mid new : List Class)
+    → i < length ys → y ≡ get_or ys i y → HasGrown A B C rule xs (take i ys) old mid → HasGrown A B C rule xs (y ∷ []) mid new
+    → HasGrown A B C rule xs (take (i + 1) ys) old new
+grown_next A B C rule xs ys i y old mid new h e g k =
+    subst (λ zs. HasGrown A B C rule xs zs old new) (sym (take_next ys i y h e)) (grown_on A B C rule xs (take i ys) (y ∷ []) old mid new g k)
+
+pub grown_next_first : {S : Type 0} (A B C : S → Class → Type 0) (rule : Profile → Profile → Profile) (xs ys : List Class) (i : ℕ) (x : Class) (old mid new : List Class)
+    → i < length xs → x ≡ get_or xs i x → HasGrown A B C rule (take i xs) ys old mid → HasGrown A B C rule (x ∷ []) ys mid new
+    → HasGrown A B C rule (take (i + 1) xs) ys old new
+grown_next_first A B C rule xs ys i x old mid new h e g k =
+    subst (λ zs. HasGrown A B C rule zs ys old new) (sym (take_next xs i x h e)) (grown_along A B C rule (take i xs) (x ∷ []) ys old mid new g k)
+
+-- its end
+pub grown_all : {S : Type 0} (A B C : S → Class → Type 0) (rule : Profile → Profile → Profile) (xs ys : List Class) (n : ℕ) (old new : List Class)
+    → n ≡ length ys → HasGrown A B C rule xs (take n ys) old new → HasGrown A B C rule xs ys old new
+grown_all A B C rule xs ys n old new e = subst (λ zs. HasGrown A B C rule xs zs old new) (take_all n ys (omega arith))
+
+pub grown_all_first : {S : Type 0} (A B C : S → Class → Type 0) (rule : Profile → Profile → Profile) (xs ys : List Class) (n : ℕ) (old new : List Class)
+    → n ≡ length xs → HasGrown A B C rule (take n xs) ys old new → HasGrown A B C rule xs ys old new
+grown_all_first A B C rule xs ys n old new e = subst (λ zs. HasGrown A B C rule zs ys old new) (take_all n xs (omega arith))
 
 -- the label is made of a label of each part, and its profile of theirs
 abbrev pub IsMade : PureAlg → PureAlg → PureAlg → (Profile → Profile → Profile) → PureLabel → Type 0

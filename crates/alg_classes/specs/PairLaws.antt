@@ -13,7 +13,7 @@ use Rattle.alg_model.specs.Laws.{total_preorder, formed_lex}
 use Rattle.alg_model.specs.PreferenceLaws.{each_pair}
 use Rattle.alg_classes.specs.declared.profile.Profile.{Profile}
 use Rattle.alg_classes.specs.Facts.{Action, Fact, total, dead, mono, strict, iso, canc, cond, narrow, Holds, PureExample, at, between, Refutes}
-use Rattle.alg_classes.specs.Profiles.{bit, ProfileOf}
+use Rattle.alg_classes.specs.Profiles.{bit, IsProfile, ProfileOf}
 use Rattle.alg_classes.specs.Classes.{PureExamples, Settles, IsSettledBy, ExampleAtMost, ExamplesAtMost}
 use Rattle.alg_classes.specs.FactLaws.{Keeps}
 use Rattle.alg_classes.specs.ClassLaws.{images_kept, composed_profile_of_two}
@@ -684,9 +684,26 @@ pair_bound n x y h i canc = bound_either n x y h i canc dead dead canc
 pair_bound n x y h i cond = bound_either n x y h i cond dead dead cond
 pair_bound n x y h i narrow = bound_either n x y h i narrow dead dead narrow
 
+-- Labels whose profiles are known.
+
+paired_kept : (c d : PureCarrier) (f g : Action) → Keeps c f → Keeps d g → Keeps (pairs c d) (paired f g)
+paired_kept c d f g h k = λ v w i. each_pair c d (λ v. paired f g v ≡ Some w → In (pairs c d) w) (λ a b ia ib e.
+    let m = both_parts (f a) (g b) w e in
+    subst (In (pairs c d)) (sym m.4) (h a m.0 ia m.2, k b m.1 ib m.3)) v i
+
+-- the rule's profile is exact
+pub pair_profile_is : (c d : PureCarrier) (f g : Action) (p q : Profile) → Keeps c f → Keeps d g → ((v : PureValue) × In c v) → ((v : PureValue) × In d v)
+    → IsProfile c f p → IsProfile d g q → IsProfile (pairs c d) (paired f g) (pair_profile p q)
+pair_profile_is c d f g p q h k u v =
+    composed_profile_of_two c d (pairs c d) f g (paired f g) h k (paired_kept c d f g h k) p q (pair_profile p q) (λ x y s t.
+    let a : IsKnown c f p x = record { kept = h; inhabited = u; settled = s } in
+    let b : IsKnown d g q y = record { kept = k; inhabited = v; settled = t } in
+    (pair_examples x y, pair_settled c d f g p q x y a b))
+
 -- A lexical label acts as its two parts do.
 
-same_actions : (f g : Action) → ((v : PureValue) → f v ≡ g v) → f ≡ g
+-- actions that make the same of each value
+pub same_actions : (f g : Action) → ((v : PureValue) → f v ≡ g v) → f ≡ g
 same_actions f g h = λ i. λ v. h v i
 
 lex_acts : (a b : Expression) (l m : PureLabel) (v : PureValue) → paired (App a l) (App b m) v ≡ App (lex a b) (pair_label l m) v
@@ -708,8 +725,9 @@ lex_settled a b l m p q x y formed il im s t =
 -- its profile is made of theirs
 pub lex_profile_is : (a b : Expression) (l m : PureLabel) (p q : Profile) → IsFormed (lex a b) → IsLabel a l → IsLabel b m
     → ProfileOf a l p → ProfileOf b m q → ProfileOf (lex a b) (pair_label l m) (pair_profile p q)
-lex_profile_is a b l m p q formed il im =
+lex_profile_is a b l m p q formed il im h k =
     let parts = formed_lex a b formed in
-    composed_profile_of_two (carrier_of a) (carrier_of b) (pairs (carrier_of a) (carrier_of b)) (App a l) (App b m) (App (lex a b) (pair_label l m))
-    (images_kept a l parts.0 il) (images_kept b m parts.1 im) (images_kept (lex a b) (pair_label l m) formed (il, im)) p q (pair_profile p q)
-    (λ x y s t. (pair_examples x y, lex_settled a b l m p q x y formed il im s t))
+    subst (λ f. IsProfile (pairs (carrier_of a) (carrier_of b)) f (pair_profile p q))
+        (same_actions (paired (App a l) (App b m)) (App (lex a b) (pair_label l m)) (lex_acts a b l m))
+        (pair_profile_is (carrier_of a) (carrier_of b) (App a l) (App b m) p q (images_kept a l parts.0 il) (images_kept b m parts.1 im)
+            (carrier_inhabited a parts.0) (carrier_inhabited b parts.1) h k)

@@ -1,5 +1,5 @@
 -- The laws of lexical classes, for the proofs of their calls.
-use Rattle.std.proofs.Common.{◌≡◌, List, []}
+use Rattle.std.proofs.Common.{◌≡◌, List, [], ◌∷◌, Result, Ok, Err, OnOk}
 use Rattle.alg_model.specs.declared.alg.TheConstants.{MAX_INSTANCE_NUMBER}
 use Rattle.alg_model.specs.Expressions.{Expression, lex, PureLabel, pair_label}
 use Rattle.alg_model.specs.Views.{pure_label}
@@ -8,11 +8,11 @@ use Rattle.alg_model.specs.Formation.{IsFormed}
 use Rattle.alg_classes.specs.declared.profile.Profile.{Profile}
 use Rattle.alg_classes.specs.declared.class.Class.{Class}
 use Rattle.alg_classes.specs.Facts.{Fact}
-use Rattle.alg_classes.specs.Classes.{pure_examples, alg_in, AreDistinct}
+use Rattle.alg_classes.specs.Classes.{pure_examples, alg_in, AreDistinct, IsGrownBy}
 use Rattle.alg_classes.specs.Pairs.{pair_profile, pair_examples}
 use Rattle.alg_classes.specs.PairLaws.{lex_settled, lex_profile_is, pair_bound}
 use Rattle.alg_classes.specs.RuleLaws.{class_from}
-use Rattle.alg_classes.specs.GrowthLaws.{IsMade, grown_covers}
+use Rattle.alg_classes.specs.GrowthLaws.{IsMade, grown_by_one, grown_covers}
 use Rattle.lex_classes.specs.Lexical.{Setting, OfFirst, OfSecond, OfProduct, IsLexProfile, IsLexClass, IsLexList, HasLexGrown}
 
 -- the rule's profile is the product's
@@ -42,3 +42,9 @@ pub grown_list : (xs ys zs : List Class) → HasLexGrown xs ys [] zs → AreDist
 grown_list xs ys zs grown distinct = λ s.
     grown_covers OfFirst OfSecond OfProduct pair_profile (alg_in s.first s.edition) (alg_in s.second s.edition) (alg_in (lex s.first s.second) s.edition)
     s xs ys zs (λ class h. h) (λ class h. h) (λ class h. h) (lex_made s) grown distinct
+
+-- a class is added to a list
+pub pair_added : {A E : Type 0} (r : Result A E) (x y z : Class) (old new : List Class) → z.profile ≡ pair_profile x.profile y.profile → IsLexClass x y z
+    → OnOk r (IsGrownBy old z new) → OnOk r (HasLexGrown (x ∷ []) (y ∷ []) old new)
+pair_added (Ok a) x y z old new profile_is class h = grown_by_one OfFirst OfSecond OfProduct pair_profile x y z old new profile_is class h
+pair_added (Err e) x y z old new profile_is class h = tt

@@ -1,4 +1,6 @@
 ghost use Rattle.std.specs.Prelude.{◌≡◌, IfOk};
+ghost use Rattle.alg_model.specs.Expressions as pure;
+ghost use Rattle.alg_model.specs.Views.{pure_label};
 ghost use Rattle.alg_classes.specs.Pairs as rule;
 ghost use Rattle.lex_classes.specs.Lexical.{IsLexProfile, IsLexClass};
 
@@ -23,10 +25,16 @@ pub fn lex_class(alloc: Global, x: &Class, y: &Class) -> Result<Class, NoMemory>
 {
     Ok(Class {
         profile: lex_profile(&x.profile, &y.profile),
-        label: Label::Pair(
-            Box::new(alloc, x.label.copy(alloc)?)?,
-            Box::new(alloc, y.label.copy(alloc)?)?,
-        ),
+        label: pair_label(alloc, &x.label, &y.label)?,
         examples: pair_examples(alloc, &x.examples, &y.examples)?,
     })
+}
+
+fn pair_label(alloc: Global, l: &Label, m: &Label) -> Result<Label, NoMemory>
+    ensures { IfOk result (λ k. pure_label k ≡ pure.pair_label (pure_label l.now) (pure_label m.now)) }
+{
+    Ok(Label::Pair(
+        Box::new(alloc, l.copy(alloc)?)?,
+        Box::new(alloc, m.copy(alloc)?)?,
+    ))
 }
