@@ -1,6 +1,6 @@
 -- Laws of lists of classes that are grown by a rule, for the proofs of loops; a list that is grown over lists that
 -- cover the parts covers the whole.
-use Rattle.std.proofs.Common.{◌≡◌, refl, sym, ap, subst, ◌∙◌, ℕ, ◌+◌, ◌<◌, List, [], ◌∷◌, ◌++◌, length, get_or, take, ◌⊎◌, inl, inr, ⊎_elim, arith}
+use Rattle.std.proofs.Common.{◌≡◌, sym, ap, subst, ◌∙◌, ℕ, ◌+◌, ◌<◌, List, [], ◌∷◌, ◌++◌, length, get_or, take, ◌⊎◌, inl, inr, ⊎_elim, arith}
 use Rattle.std.proofs.lemmas.List.{take_more, take_all}
 use Rattle.std.specs.List.{AllByRecursion}
 use Rattle.alg_model.specs.Expressions.{PureAlg, PureLabel}
@@ -8,7 +8,7 @@ use Rattle.alg_model.specs.Application.{IsLabel}
 use Rattle.alg_classes.specs.declared.profile.Profile.{Profile}
 use Rattle.alg_classes.specs.declared.class.Class.{Class}
 use Rattle.alg_classes.specs.Profiles.{ProfileOf}
-use Rattle.alg_classes.specs.Classes.{HasProfile, AreDistinct, IsGrownBy, IsCovered, ClassOf, Covers}
+use Rattle.alg_classes.specs.Classes.{HasProfile, AreDistinct, IsGrownBy, ClassOf, Covers}
 use Rattle.alg_classes.specs.Growth.{HasGrown}
 
 -- the profiles of two lists in a row

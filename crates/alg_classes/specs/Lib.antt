@@ -7,6 +7,9 @@ pub mod ClassLaws
 pub mod Inhabited
 pub mod RuleLaws
 pub mod Pairs
+pub mod PairOrders
+pub mod PairExamples
+pub mod PairFacts
 pub mod PairLaws
 pub mod Growth
 pub mod GrowthLaws

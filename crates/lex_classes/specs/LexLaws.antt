@@ -1,10 +1,9 @@
 -- The laws of lexical classes, for the proofs of their calls.
 use Rattle.std.proofs.Common.{◌≡◌, List, [], ◌∷◌, Result, Ok, Err, OnOk}
 use Rattle.alg_model.specs.declared.alg.TheConstants.{MAX_INSTANCE_NUMBER}
-use Rattle.alg_model.specs.Expressions.{Expression, lex, PureLabel, pair_label}
+use Rattle.alg_model.specs.Expressions.{lex, PureLabel, pair_label}
 use Rattle.alg_model.specs.Views.{pure_label}
 use Rattle.alg_model.specs.Application.{IsLabel}
-use Rattle.alg_model.specs.Formation.{IsFormed}
 use Rattle.alg_classes.specs.declared.profile.Profile.{Profile}
 use Rattle.alg_classes.specs.declared.class.Class.{Class}
 use Rattle.alg_classes.specs.Facts.{Fact}

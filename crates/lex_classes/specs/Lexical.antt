@@ -1,5 +1,5 @@
 -- What the calls on lexical products promise, for all algebras that the parts may be of.
-use Rattle.std.specs.Prelude.{List, IfOk, Result}
+use Rattle.std.specs.Prelude.{List}
 use Rattle.alg_model.specs.declared.edition.Edition.{Edition}
 use Rattle.alg_model.specs.Expressions.{Expression, lex, PureLabel, pair_label}
 use Rattle.alg_model.specs.Application.{IsLabel}
