@@ -37,34 +37,49 @@ any_with_total c d f g (at u) (between v w) r s = absurd s.1
 any_with_total c d f g (between u v) i r s = absurd r
 
 pub mono_with_dead : (c d : PureCarrier) (f g : Action) → Joins c d f g (Refutes c f mono) (Refutes d g dead) mono
-mono_with_dead c d f g (at u) (at v) r s = ((r.0, s.0), subst (λ o. IsPreferred (pairs c d) (both (f u) o) (Some (pair u v))) (sym s.1.1)
-    (preferred_by_first c d (f u) (Some u) (Some v) s.1.0 r.1))
+mono_with_dead c d f g (at u) (at v) r s = (
+  (r.0, s.0),
+  subst (λ o. IsPreferred (pairs c d) (both (f u) o) (Some (pair u v))) (sym s.1.1)
+      (preferred_by_first c d (f u) (Some u) (Some v) s.1.0 r.1),
+)
 mono_with_dead c d f g (at u) (between v w) r s = absurd s.1
 mono_with_dead c d f g (between u v) i r s = absurd r.1
 
 pub strict_with_mono : (c d : PureCarrier) (f g : Action) → Keeps c f → Joins c d f g (Refutes c f strict) (Refutes d g mono) mono
 strict_with_mono c d f g kept (at u) (at v) r s =
-    let w = r.1.0 in
-    ((r.0, s.0), subst (λ o. IsPreferred (pairs c d) (both o (g v)) (Some (pair u v))) (sym r.1.1) (⊎_elim
-    (λ e. let t = preferred_value d (g v) v s.1 in
-    subst (λ o. IsPreferred (pairs c d) (both (Some w) o) (Some (pair u v))) (sym t.1) (by_first (Order c w u) (Order d t.0 v) e))
-    (λ e. preferred_by_second c d w u (g v) (Some v) e s.1)
-    (not_after c w u (kept u w r.0 r.1.1) r.0 r.1.2)))
+    let w = r.1.0 in (
+      (r.0, s.0),
+      subst (λ o. IsPreferred (pairs c d) (both o (g v)) (Some (pair u v))) (sym r.1.1) (⊎_elim
+          (λ e. let t = preferred_value d (g v) v s.1 in
+          subst (λ o. IsPreferred (pairs c d) (both (Some w) o) (Some (pair u v))) (sym t.1) (by_first (Order c w u) (Order d t.0 v) e))
+          (λ e. preferred_by_second c d w u (g v) (Some v) e s.1)
+          (not_after c w u (kept u w r.0 r.1.1) r.0 r.1.2)),
+    )
 strict_with_mono c d f g kept (at u) (between v w) r s = absurd s.1
 strict_with_mono c d f g kept (between u v) i r s = absurd r.1
 
 pub mono_with_dead_strict : (c d : PureCarrier) (f g : Action) → Keeps c f → Joins c d f g (Refutes c f mono) (Refutes d g dead) strict
 mono_with_dead_strict c d f g kept (at u) (at v) r s =
-    let w = preferred_value c (f u) u r.1 in
-    ((r.0, s.0), (pair w.0 s.1.0, both_some (f u) (g v) w.0 s.1.0 w.1 s.1.1,
-    less_after_less (Order c w.0 u) (Order c u w.0) (Order d v s.1.0) w.2 ((total_preorder c).flip w.0 u (kept u w.0 r.0 w.1) r.0)))
+    let w = preferred_value c (f u) u r.1 in (
+      (r.0, s.0),
+      (
+        pair w.0 s.1.0,
+        both_some (f u) (g v) w.0 s.1.0 w.1 s.1.1,
+        less_after_less (Order c w.0 u) (Order c u w.0) (Order d v s.1.0) w.2 ((total_preorder c).flip w.0 u (kept u w.0 r.0 w.1) r.0),
+      ),
+    )
 mono_with_dead_strict c d f g kept (at u) (between v w) r s = absurd s.1
 mono_with_dead_strict c d f g kept (between u v) i r s = absurd r.1
 
 pub strict_with_strict : (c d : PureCarrier) (f g : Action) → Joins c d f g (Refutes c f strict) (Refutes d g strict) strict
-strict_with_strict c d f g (at u) (at v) r s =
-    ((r.0, s.0), (pair r.1.0 s.1.0, both_some (f u) (g v) r.1.0 s.1.0 r.1.1 s.1.1,
-    λ h. ⊎_elim r.1.2 (λ a. s.1.2 a.1) (then_less (Order c u r.1.0) (Order d v s.1.0) h)))
+strict_with_strict c d f g (at u) (at v) r s = (
+  (r.0, s.0),
+  (
+    pair r.1.0 s.1.0,
+    both_some (f u) (g v) r.1.0 s.1.0 r.1.1 s.1.1,
+    λ h. ⊎_elim r.1.2 (λ a. s.1.2 a.1) (then_less (Order c u r.1.0) (Order d v s.1.0) h),
+  ),
+)
 strict_with_strict c d f g (at u) (between v w) r s = absurd s.1
 strict_with_strict c d f g (between u v) i r s = absurd r.1
 
@@ -73,19 +88,25 @@ pub not_same : (c : PureCarrier) (u : PureValue) → In c u → ¬ (Order c u u 
 not_same c u i h = let e = same c u i in absurd (cc)
 
 pub iso_with_dead : (c d : PureCarrier) (f g : Action) → Joins c d f g (Refutes c f iso) (Refutes d g dead) iso
-iso_with_dead c d f g (between u v) (at t) r s =
-    (((r.0.0, s.0), (r.0.1, s.0)),
-    (λ h. ⊎_elim r.1.0 (λ a. not_same d t s.0 a.1) (then_less (Order c v u) (Order d t t) h),
-    subst (λ o. IsPreferred (pairs c d) (both (f v) o) (both (f u) (g t))) (sym s.1.1) (preferred_by_first c d (f v) (f u) (g t) s.1.0 r.1.1)))
+iso_with_dead c d f g (between u v) (at t) r s = (
+  ((r.0.0, s.0), (r.0.1, s.0)),
+  (
+    λ h. ⊎_elim r.1.0 (λ a. not_same d t s.0 a.1) (then_less (Order c v u) (Order d t t) h),
+    subst (λ o. IsPreferred (pairs c d) (both (f v) o) (both (f u) (g t))) (sym s.1.1) (preferred_by_first c d (f v) (f u) (g t) s.1.0 r.1.1),
+  ),
+)
 iso_with_dead c d f g (between u v) (between t w) r s = absurd s.1
 iso_with_dead c d f g (at u) i r s = absurd r.1
 
 pub dead_with_iso : (c d : PureCarrier) (f g : Action) → Keeps c f → Joins c d f g (Refutes c f dead) (Refutes d g iso) iso
-dead_with_iso c d f g kept (at t) (between u v) r s =
-    (((r.0, s.0.0), (r.0, s.0.1)),
-    (λ h. ⊎_elim (not_same c t r.0) (λ a. s.1.0 a.1) (then_less (Order c t t) (Order d v u) h),
+dead_with_iso c d f g kept (at t) (between u v) r s = (
+  ((r.0, s.0.0), (r.0, s.0.1)),
+  (
+    λ h. ⊎_elim (not_same c t r.0) (λ a. s.1.0 a.1) (then_less (Order c t t) (Order d v u) h),
     subst (λ o. IsPreferred (pairs c d) (both o (g v)) (both o (g u))) (sym r.1.1)
-    (preferred_by_second c d r.1.0 r.1.0 (g v) (g u) (same c r.1.0 (kept t r.1.0 r.0 r.1.1)) s.1.1)))
+        (preferred_by_second c d r.1.0 r.1.0 (g v) (g u) (same c r.1.0 (kept t r.1.0 r.0 r.1.1)) s.1.1),
+  ),
+)
 dead_with_iso c d f g kept (at t) (at u) r s = absurd s.1
 dead_with_iso c d f g kept (between u v) i r s = absurd r.1
 
@@ -102,23 +123,29 @@ splits d g (Some (between u v)) z r s = absurd r.1
 splits d g None z r s = tt
 
 pub narrow_with_split : (c d : PureCarrier) (f g : Action) → Joins c d f g (Refutes c f narrow) (Splits d g) iso
-narrow_with_split c d f g (between a z) (between b t) r s =
-    (((r.0.0, s.0.1), (r.0.1, s.0.0)),
-    (less_after_less (Order c a z) (Order c z a) (Order d b t) r.1.4 ((total_preorder c).flip a z r.0.0 r.0.1),
+narrow_with_split c d f g (between a z) (between b t) r s = (
+  ((r.0.0, s.0.1), (r.0.1, s.0.0)),
+  (
+    less_after_less (Order c a z) (Order c z a) (Order d b t) r.1.4 ((total_preorder c).flip a z r.0.0 r.0.1),
     subst (λ o. IsPreferred (pairs c d) o (both (f a) (g t))) (sym (both_some (f z) (g b) r.1.1 s.1.0 r.1.3 s.1.1))
-    (subst (λ o. IsPreferred (pairs c d) (Some (pair r.1.1 s.1.0)) o) (sym (second_none (f a) (g t) s.2)) refl)))
+        (subst (λ o. IsPreferred (pairs c d) (Some (pair r.1.1 s.1.0)) o) (sym (second_none (f a) (g t) s.2)) refl),
+  ),
+)
 narrow_with_split c d f g (between a z) (at b) r s = absurd s
 narrow_with_split c d f g (at a) i r s = absurd r.1
 
 pub canc_with_cond : (c d : PureCarrier) (f g : Action) → Keeps c f → Joins c d f g (Refutes c f canc) (Refutes d g cond) iso
 canc_with_cond c d f g kept (between a z) (between b t) r s =
-    let w = equivalent_values c (f a) (f z) r.1.0 in
-    (((r.0.0, s.0.1), (r.0.1, s.0.0)),
-    (less_after_less (Order c a z) (Order c z a) (Order d b t) r.1.1 ((total_preorder c).flip a z r.0.0 r.0.1),
-    subst (λ o. IsPreferred (pairs c d) o (both (f a) (g t))) (sym (both_some (f z) (g b) w.1 s.1.0 w.3 s.1.2))
-    (subst (λ o. IsPreferred (pairs c d) (Some (pair w.1 s.1.0)) o) (sym (both_some (f a) (g t) w.0 s.1.1 w.2 s.1.3))
-    (by_second (Order c w.1 w.0) (Order d s.1.0 s.1.1) Less
-    (equal_flips c w.0 w.1 (kept a w.0 r.0.0 w.2) (kept z w.1 r.0.1 w.3) w.4) s.1.4))))
+    let w = equivalent_values c (f a) (f z) r.1.0 in (
+      ((r.0.0, s.0.1), (r.0.1, s.0.0)),
+      (
+        less_after_less (Order c a z) (Order c z a) (Order d b t) r.1.1 ((total_preorder c).flip a z r.0.0 r.0.1),
+        subst (λ o. IsPreferred (pairs c d) o (both (f a) (g t))) (sym (both_some (f z) (g b) w.1 s.1.0 w.3 s.1.2))
+            (subst (λ o. IsPreferred (pairs c d) (Some (pair w.1 s.1.0)) o) (sym (both_some (f a) (g t) w.0 s.1.1 w.2 s.1.3))
+            (by_second (Order c w.1 w.0) (Order d s.1.0 s.1.1) Less
+            (equal_flips c w.0 w.1 (kept a w.0 r.0.0 w.2) (kept z w.1 r.0.1 w.3) w.4) s.1.4)),
+      ),
+    )
 canc_with_cond c d f g kept (between a z) (at b) r s = absurd s.1
 canc_with_cond c d f g kept (at a) i r s = absurd r.1
 
@@ -127,47 +154,73 @@ pub same_image : (d : PureCarrier) (g : Action) → Keeps d g → (t : PureValue
 same_image d g kept t s = values_equivalent d (g t) (g t) s.1.0 s.1.0 s.1.1 s.1.1 (same d s.1.0 (kept t s.1.0 s.0 s.1.1))
 
 pub canc_with_dead : (c d : PureCarrier) (f g : Action) → Keeps d g → Joins c d f g (Refutes c f canc) (Refutes d g dead) canc
-canc_with_dead c d f g kept (between u v) (at t) r s =
-    (((r.0.0, s.0), (r.0.1, s.0)),
-    (equivalent_pairs c d (f u) (g t) (f v) (g t) r.1.0 (same_image d g kept t s), by_first (Order c u v) (Order d t t) r.1.1))
+canc_with_dead c d f g kept (between u v) (at t) r s = (
+  ((r.0.0, s.0), (r.0.1, s.0)),
+  (equivalent_pairs c d (f u) (g t) (f v) (g t) r.1.0 (same_image d g kept t s), by_first (Order c u v) (Order d t t) r.1.1),
+)
 canc_with_dead c d f g kept (between u v) (between t w) r s = absurd s.1
 canc_with_dead c d f g kept (at u) i r s = absurd r.1
 
 pub dead_with_canc : (c d : PureCarrier) (f g : Action) → Keeps c f → Joins c d f g (Refutes c f dead) (Refutes d g canc) canc
-dead_with_canc c d f g kept (at t) (between u v) r s =
-    (((r.0, s.0.0), (r.0, s.0.1)),
-    (equivalent_pairs c d (f t) (g u) (f t) (g v) (same_image c f kept t r) s.1.0, by_second (Order c t t) (Order d u v) Less (same c t r.0) s.1.1))
+dead_with_canc c d f g kept (at t) (between u v) r s = (
+  ((r.0, s.0.0), (r.0, s.0.1)),
+  (equivalent_pairs c d (f t) (g u) (f t) (g v) (same_image c f kept t r) s.1.0, by_second (Order c t t) (Order d u v) Less (same c t r.0) s.1.1),
+)
 dead_with_canc c d f g kept (at t) (at u) r s = absurd s.1
 dead_with_canc c d f g kept (between u v) i r s = absurd r.1
 
 pub cond_with_dead : (c d : PureCarrier) (f g : Action) → Joins c d f g (Refutes c f cond) (Refutes d g dead) cond
-cond_with_dead c d f g (between u v) (at t) r s =
-    (((r.0.0, s.0), (r.0.1, s.0)),
-    (pair r.1.0 s.1.0, pair r.1.1 s.1.0, both_some (f u) (g t) r.1.0 s.1.0 r.1.2 s.1.1, both_some (f v) (g t) r.1.1 s.1.0 r.1.3 s.1.1,
-    by_first (Order c r.1.0 r.1.1) (Order d s.1.0 s.1.0) r.1.4))
+cond_with_dead c d f g (between u v) (at t) r s = (
+  ((r.0.0, s.0), (r.0.1, s.0)),
+  (
+    pair r.1.0 s.1.0,
+    pair r.1.1 s.1.0,
+    both_some (f u) (g t) r.1.0 s.1.0 r.1.2 s.1.1,
+    both_some (f v) (g t) r.1.1 s.1.0 r.1.3 s.1.1,
+    by_first (Order c r.1.0 r.1.1) (Order d s.1.0 s.1.0) r.1.4,
+  ),
+)
 cond_with_dead c d f g (between u v) (between t w) r s = absurd s.1
 cond_with_dead c d f g (at u) i r s = absurd r.1
 
 pub dead_with_cond : (c d : PureCarrier) (f g : Action) → Keeps c f → Joins c d f g (Refutes c f dead) (Refutes d g cond) cond
-dead_with_cond c d f g kept (at t) (between u v) r s =
-    (((r.0, s.0.0), (r.0, s.0.1)),
-    (pair r.1.0 s.1.0, pair r.1.0 s.1.1, both_some (f t) (g u) r.1.0 s.1.0 r.1.1 s.1.2, both_some (f t) (g v) r.1.0 s.1.1 r.1.1 s.1.3,
-    by_second (Order c r.1.0 r.1.0) (Order d s.1.0 s.1.1) Less (same c r.1.0 (kept t r.1.0 r.0 r.1.1)) s.1.4))
+dead_with_cond c d f g kept (at t) (between u v) r s = (
+  ((r.0, s.0.0), (r.0, s.0.1)),
+  (
+    pair r.1.0 s.1.0,
+    pair r.1.0 s.1.1,
+    both_some (f t) (g u) r.1.0 s.1.0 r.1.1 s.1.2,
+    both_some (f t) (g v) r.1.0 s.1.1 r.1.1 s.1.3,
+    by_second (Order c r.1.0 r.1.0) (Order d s.1.0 s.1.1) Less (same c r.1.0 (kept t r.1.0 r.0 r.1.1)) s.1.4,
+  ),
+)
 dead_with_cond c d f g kept (at t) (at u) r s = absurd s.1
 dead_with_cond c d f g kept (between u v) i r s = absurd r.1
 
 pub narrow_with_dead : (c d : PureCarrier) (f g : Action) → Joins c d f g (Refutes c f narrow) (Refutes d g dead) narrow
-narrow_with_dead c d f g (between u v) (at t) r s =
-    (((r.0.0, s.0), (r.0.1, s.0)),
-    (pair r.1.0 s.1.0, pair r.1.1 s.1.0, both_some (f u) (g t) r.1.0 s.1.0 r.1.2 s.1.1, both_some (f v) (g t) r.1.1 s.1.0 r.1.3 s.1.1,
-    by_first (Order c u v) (Order d t t) r.1.4))
+narrow_with_dead c d f g (between u v) (at t) r s = (
+  ((r.0.0, s.0), (r.0.1, s.0)),
+  (
+    pair r.1.0 s.1.0,
+    pair r.1.1 s.1.0,
+    both_some (f u) (g t) r.1.0 s.1.0 r.1.2 s.1.1,
+    both_some (f v) (g t) r.1.1 s.1.0 r.1.3 s.1.1,
+    by_first (Order c u v) (Order d t t) r.1.4,
+  ),
+)
 narrow_with_dead c d f g (between u v) (between t w) r s = absurd s.1
 narrow_with_dead c d f g (at u) i r s = absurd r.1
 
 pub dead_with_narrow : (c d : PureCarrier) (f g : Action) → Joins c d f g (Refutes c f dead) (Refutes d g narrow) narrow
-dead_with_narrow c d f g (at t) (between u v) r s =
-    (((r.0, s.0.0), (r.0, s.0.1)),
-    (pair r.1.0 s.1.0, pair r.1.0 s.1.1, both_some (f t) (g u) r.1.0 s.1.0 r.1.1 s.1.2, both_some (f t) (g v) r.1.0 s.1.1 r.1.1 s.1.3,
-    by_second (Order c t t) (Order d u v) Less (same c t r.0) s.1.4))
+dead_with_narrow c d f g (at t) (between u v) r s = (
+  ((r.0, s.0.0), (r.0, s.0.1)),
+  (
+    pair r.1.0 s.1.0,
+    pair r.1.0 s.1.1,
+    both_some (f t) (g u) r.1.0 s.1.0 r.1.1 s.1.2,
+    both_some (f t) (g v) r.1.0 s.1.1 r.1.1 s.1.3,
+    by_second (Order c t t) (Order d u v) Less (same c t r.0) s.1.4,
+  ),
+)
 dead_with_narrow c d f g (at t) (at u) r s = absurd s.1
 dead_with_narrow c d f g (between u v) i r s = absurd r.1

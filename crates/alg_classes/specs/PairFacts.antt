@@ -130,14 +130,14 @@ iso_of_pair c d f g kept h k tie a b x y ia ib ix iy n p =
     let not_first : ¬ (Order c x a ≡ Less) = λ e. n (by_first (Order c x a) (Order d y b) e) in
     let z = not_behind c (f x) (f a) w.0 w.2 (h a x ia ix not_first) in
     let q : IsPreferred (pairs c d) (both (Some w.0) (Some w.1)) (both (Some z.0) (g b)) =
-        subst (λ o. IsPreferred (pairs c d) (both o (Some w.1)) (both (Some z.0) (g b))) w.2
-        (subst (λ o. IsPreferred (pairs c d) (both (f x) o) (both (Some z.0) (g b))) w.3
-        (subst (λ o. IsPreferred (pairs c d) (both (f x) (g y)) (both o (g b))) z.1 p)) in
+    subst (λ o. IsPreferred (pairs c d) (both o (Some w.1)) (both (Some z.0) (g b))) w.2
+    (subst (λ o. IsPreferred (pairs c d) (both (f x) o) (both (Some z.0) (g b))) w.3
+    (subst (λ o. IsPreferred (pairs c d) (both (f x) (g y)) (both o (g b))) z.1 p)) in
     ⊎_elim
     (λ less. tied c d f g a b x y w.0 w.1 z.0 tie ia ix ib iy w.2 w.3 z.1 z.2
-        ((total_preorder c).flip w.0 z.0 (kept x w.0 ix w.2) (kept a z.0 ia z.1)) less q)
+    ((total_preorder c).flip w.0 z.0 (kept x w.0 ix w.2) (kept a z.0 ia z.1)) less q)
     (λ same. level d c g b y w.0 w.1 z.0 w.3 z.2
-        (k b y ib iy (λ e. n (by_second (Order c x a) (Order d y b) Less (equal_flips c a x ia ix same) e))) q)
+    (k b y ib iy (λ e. n (by_second (Order c x a) (Order d y b) Less (equal_flips c a x ia ix same) e))) q)
     (not_after c a x ia ix not_first)
 
 pub both_iso : (c d : PureCarrier) (f g : Action) → Keeps c f → Holds c f iso → Holds d g iso → IsTied c d f g → Holds (pairs c d) (paired f g) iso

@@ -60,9 +60,9 @@ true_or_false false = inr refl
 there_value : {c : PureCarrier} {f : Action} {p : Profile} {x : PureExamples} (a : IsKnown c f p x) → IsThere (some_value x)
 there_value {c} {f} {p} {x} a = ⊎_elim
     (λ is_dead. ⊎_elim
-        (λ is_total. absurd (let v = a.inhabited in let n = told a dead is_dead v.0 v.1 in let s = told a total is_total v.0 v.1 in let e = s.1 in cc))
-        (λ lacks. there_right (x dead) (x total) (there a total lacks))
-        (true_or_false p.total))
+    (λ is_total. absurd (let v = a.inhabited in let n = told a dead is_dead v.0 v.1 in let s = told a total is_total v.0 v.1 in let e = s.1 in cc))
+    (λ lacks. there_right (x dead) (x total) (there a total lacks))
+    (true_or_false p.total))
     (λ lacks. there_left (x dead) (x total) (there a dead lacks))
     (true_or_false p.dead)
 
@@ -75,12 +75,12 @@ settled_total : (c d : PureCarrier) (f g : Action) (p q : Profile) (x y : PureEx
 settled_total c d f g p q x y a b = settle (pairs c d) (paired f g) total (p.total && q.total) (pair_examples x y total)
     (λ e. let h = and_parts p.total q.total e in both_total c d f g (told a total h.0) (told b total h.1))
     (λ e. ⊎_elim
-        (λ lacks. there_left (beside (x total) (some_value y)) (beside (some_value x) (y total)) (there_beside (x total) (some_value y) (there a total lacks) (there_value b)))
-        (λ lacks. there_right (beside (x total) (some_value y)) (beside (some_value x) (y total)) (there_beside (some_value x) (y total) (there_value a) (there b total lacks)))
-        (and_cases p.total q.total e))
+    (λ lacks. there_left (beside (x total) (some_value y)) (beside (some_value x) (y total)) (there_beside (x total) (some_value y) (there a total lacks) (there_value b)))
+    (λ lacks. there_right (beside (x total) (some_value y)) (beside (some_value x) (y total)) (there_beside (some_value x) (y total) (there_value a) (there b total lacks)))
+    (and_cases p.total q.total e))
     (on_or (Refutes (pairs c d) (paired f g) total) (beside (x total) (some_value y)) (beside (some_value x) (y total))
-        (joined c d f g (Refutes c f total) (IsValue d) total (total_with_any c d f g) (x total) (some_value y) (shown a total) (is_value b))
-        (joined c d f g (IsValue c) (Refutes d g total) total (any_with_total c d f g) (some_value x) (y total) (is_value a) (shown b total)))
+    (joined c d f g (Refutes c f total) (IsValue d) total (total_with_any c d f g) (x total) (some_value y) (shown a total) (is_value b))
+    (joined c d f g (IsValue c) (Refutes d g total) total (any_with_total c d f g) (some_value x) (y total) (is_value a) (shown b total)))
 
 settled_dead : (c d : PureCarrier) (f g : Action) (p q : Profile) (x y : PureExamples) → IsKnown c f p x → IsKnown d g q y → Settled c d f g p q x y dead
 settled_dead c d f g p q x y a b = settle (pairs c d) (paired f g) dead (p.dead || q.dead) (pair_examples x y dead)
@@ -96,8 +96,8 @@ settled_alive : (c d : PureCarrier) (f g : Action) (p q : Profile) (x y : PureEx
     → Settles (pairs c d) (paired f g) k ((p.dead || q.dead) || test) o
 settled_alive c d f g p q x y a b k other test o holds lacks shows = settle (pairs c d) (paired f g) k ((p.dead || q.dead) || test) o
     (λ e. ⊎_elim
-        (λ h. dead_pair c d f g (⊎_elim (λ i. inl (told a dead i)) (λ i. inr (told b dead i)) (or_cases p.dead q.dead h)) k other)
-        holds (or_cases (p.dead || q.dead) test e))
+    (λ h. dead_pair c d f g (⊎_elim (λ i. inl (told a dead i)) (λ i. inr (told b dead i)) (or_cases p.dead q.dead h)) k other)
+    holds (or_cases (p.dead || q.dead) test e))
     (λ e. let h = or_parts (p.dead || q.dead) test e in let i = or_parts p.dead q.dead h.0 in lacks (there a dead i.0) (there b dead i.1) h.1)
     shows
 
@@ -107,16 +107,16 @@ settled_mono c d f g p q x y a b =
     let two = beside (x strict) (y mono) in
     settled_alive c d f g p q x y a b mono (λ e. absurd (cc)) (p.strict || (p.mono && q.mono)) (option_or one two)
     (λ e. ⊎_elim
-        (λ h. strict_is_mono c d f g a.kept (told a strict h))
-        (λ h. let i = and_parts p.mono q.mono h in both_mono c d f g (told a mono i.0) (told b mono i.1))
-        (or_cases p.strict (p.mono && q.mono) e))
+    (λ h. strict_is_mono c d f g a.kept (told a strict h))
+    (λ h. let i = and_parts p.mono q.mono h in both_mono c d f g (told a mono i.0) (told b mono i.1))
+    (or_cases p.strict (p.mono && q.mono) e))
     (λ s t e. let h = or_parts p.strict (p.mono && q.mono) e in ⊎_elim
-        (λ i. there_left one two (there_beside (x mono) (y dead) (there a mono i) t))
-        (λ i. there_right one two (there_beside (x strict) (y mono) (there a strict h.0) (there b mono i)))
-        (and_cases p.mono q.mono h.1))
+    (λ i. there_left one two (there_beside (x mono) (y dead) (there a mono i) t))
+    (λ i. there_right one two (there_beside (x strict) (y mono) (there a strict h.0) (there b mono i)))
+    (and_cases p.mono q.mono h.1))
     (on_or (Refutes (pairs c d) (paired f g) mono) one two
-        (joined c d f g (Refutes c f mono) (Refutes d g dead) mono (mono_with_dead c d f g) (x mono) (y dead) (shown a mono) (shown b dead))
-        (joined c d f g (Refutes c f strict) (Refutes d g mono) mono (strict_with_mono c d f g a.kept) (x strict) (y mono) (shown a strict) (shown b mono)))
+    (joined c d f g (Refutes c f mono) (Refutes d g dead) mono (mono_with_dead c d f g) (x mono) (y dead) (shown a mono) (shown b dead))
+    (joined c d f g (Refutes c f strict) (Refutes d g mono) mono (strict_with_mono c d f g a.kept) (x strict) (y mono) (shown a strict) (shown b mono)))
 
 settled_strict : (c d : PureCarrier) (f g : Action) (p q : Profile) (x y : PureExamples) → IsKnown c f p x → IsKnown d g q y → Settled c d f g p q x y strict
 settled_strict c d f g p q x y a b =
@@ -124,16 +124,16 @@ settled_strict c d f g p q x y a b =
     let two = beside (x strict) (y strict) in
     settled_alive c d f g p q x y a b strict (λ e. absurd (cc)) (p.strict || (p.mono && q.strict)) (option_or one two)
     (λ e. ⊎_elim
-        (λ h. strict_is_strict c d f g (told a strict h))
-        (λ h. let i = and_parts p.mono q.strict h in mono_and_strict c d f g a.kept (told a mono i.0) (told b strict i.1))
-        (or_cases p.strict (p.mono && q.strict) e))
+    (λ h. strict_is_strict c d f g (told a strict h))
+    (λ h. let i = and_parts p.mono q.strict h in mono_and_strict c d f g a.kept (told a mono i.0) (told b strict i.1))
+    (or_cases p.strict (p.mono && q.strict) e))
     (λ s t e. let h = or_parts p.strict (p.mono && q.strict) e in ⊎_elim
-        (λ i. there_left one two (there_beside (x mono) (y dead) (there a mono i) t))
-        (λ i. there_right one two (there_beside (x strict) (y strict) (there a strict h.0) (there b strict i)))
-        (and_cases p.mono q.strict h.1))
+    (λ i. there_left one two (there_beside (x mono) (y dead) (there a mono i) t))
+    (λ i. there_right one two (there_beside (x strict) (y strict) (there a strict h.0) (there b strict i)))
+    (and_cases p.mono q.strict h.1))
     (on_or (Refutes (pairs c d) (paired f g) strict) one two
-        (joined c d f g (Refutes c f mono) (Refutes d g dead) strict (mono_with_dead_strict c d f g a.kept) (x mono) (y dead) (shown a mono) (shown b dead))
-        (joined c d f g (Refutes c f strict) (Refutes d g strict) strict (strict_with_strict c d f g) (x strict) (y strict) (shown a strict) (shown b strict)))
+    (joined c d f g (Refutes c f mono) (Refutes d g dead) strict (mono_with_dead_strict c d f g a.kept) (x mono) (y dead) (shown a mono) (shown b dead))
+    (joined c d f g (Refutes c f strict) (Refutes d g strict) strict (strict_with_strict c d f g) (x strict) (y strict) (shown a strict) (shown b strict)))
 
 settled_iso : (c d : PureCarrier) (f g : Action) (p q : Profile) (x y : PureExamples) → IsKnown c f p x → IsKnown d g q y → Settled c d f g p q x y iso
 settled_iso c d f g p q x y a b =
@@ -144,33 +144,33 @@ settled_iso c d f g p q x y a b =
     let R = Refutes (pairs c d) (paired f g) iso in
     settled_alive c d f g p q x y a b iso (λ e. absurd (cc)) ((p.iso && q.iso) && (p.narrow || (q.total && (p.canc || q.cond)))) (option_or one (option_or two (option_or three four)))
     (λ e.
-        let h = and_parts (p.iso && q.iso) (p.narrow || (q.total && (p.canc || q.cond))) e in
-        let i = and_parts p.iso q.iso h.0 in
-        both_iso c d f g a.kept (told a iso i.0) (told b iso i.1) (⊎_elim
-            (λ j. inl (told a narrow j))
-            (λ j. let m = and_parts q.total (p.canc || q.cond) j in inr (told b total m.0, ⊎_elim (λ n. inl (told a canc n)) (λ n. inr (told b cond n)) (or_cases p.canc q.cond m.1)))
-            (or_cases p.narrow (q.total && (p.canc || q.cond)) h.1)))
+    let h = and_parts (p.iso && q.iso) (p.narrow || (q.total && (p.canc || q.cond))) e in
+    let i = and_parts p.iso q.iso h.0 in
+    both_iso c d f g a.kept (told a iso i.0) (told b iso i.1) (⊎_elim
+    (λ j. inl (told a narrow j))
+    (λ j. let m = and_parts q.total (p.canc || q.cond) j in inr (told b total m.0, ⊎_elim (λ n. inl (told a canc n)) (λ n. inr (told b cond n)) (or_cases p.canc q.cond m.1)))
+    (or_cases p.narrow (q.total && (p.canc || q.cond)) h.1)))
     (λ s t e. ⊎_elim
-        (λ h. ⊎_elim
-            (λ i. there_left one (option_or two (option_or three four)) (there_beside (x iso) (y dead) (there a iso i) t))
-            (λ i. there_right one (option_or two (option_or three four)) (there_left two (option_or three four) (there_beside (x dead) (y iso) s (there b iso i))))
-            (and_cases p.iso q.iso h))
-        (λ h.
-        let i = or_parts p.narrow (q.total && (p.canc || q.cond)) h in
-        there_right one (option_or two (option_or three four)) (there_right two (option_or three four) (⊎_elim
-            (λ j. there_left three four (there_beside (x narrow) (spanned (y dead) (y total)) (there a narrow i.0)
-                (there_spanned d g (y dead) (y total) (shown b dead) (shown b total) t (there b total j))))
-            (λ j. let m = or_parts p.canc q.cond j in there_right three four (there_beside (x canc) (y cond) (there a canc m.0) (there b cond m.1)))
-            (and_cases q.total (p.canc || q.cond) i.1))))
-        (and_cases (p.iso && q.iso) (p.narrow || (q.total && (p.canc || q.cond))) e))
+    (λ h. ⊎_elim
+    (λ i. there_left one (option_or two (option_or three four)) (there_beside (x iso) (y dead) (there a iso i) t))
+    (λ i. there_right one (option_or two (option_or three four)) (there_left two (option_or three four) (there_beside (x dead) (y iso) s (there b iso i))))
+    (and_cases p.iso q.iso h))
+    (λ h.
+    let i = or_parts p.narrow (q.total && (p.canc || q.cond)) h in
+    there_right one (option_or two (option_or three four)) (there_right two (option_or three four) (⊎_elim
+    (λ j. there_left three four (there_beside (x narrow) (spanned (y dead) (y total)) (there a narrow i.0)
+    (there_spanned d g (y dead) (y total) (shown b dead) (shown b total) t (there b total j))))
+    (λ j. let m = or_parts p.canc q.cond j in there_right three four (there_beside (x canc) (y cond) (there a canc m.0) (there b cond m.1)))
+    (and_cases q.total (p.canc || q.cond) i.1))))
+    (and_cases (p.iso && q.iso) (p.narrow || (q.total && (p.canc || q.cond))) e))
     (on_or R one (option_or two (option_or three four))
-        (joined c d f g (Refutes c f iso) (Refutes d g dead) iso (iso_with_dead c d f g) (x iso) (y dead) (shown a iso) (shown b dead))
-        (on_or R two (option_or three four)
-            (joined c d f g (Refutes c f dead) (Refutes d g iso) iso (dead_with_iso c d f g a.kept) (x dead) (y iso) (shown a dead) (shown b iso))
-            (on_or R three four
-                (joined c d f g (Refutes c f narrow) (Splits d g) iso (narrow_with_split c d f g) (x narrow) (spanned (y dead) (y total)) (shown a narrow)
-                    (splits d g (y dead) (y total) (shown b dead) (shown b total)))
-                (joined c d f g (Refutes c f canc) (Refutes d g cond) iso (canc_with_cond c d f g a.kept) (x canc) (y cond) (shown a canc) (shown b cond)))))
+    (joined c d f g (Refutes c f iso) (Refutes d g dead) iso (iso_with_dead c d f g) (x iso) (y dead) (shown a iso) (shown b dead))
+    (on_or R two (option_or three four)
+    (joined c d f g (Refutes c f dead) (Refutes d g iso) iso (dead_with_iso c d f g a.kept) (x dead) (y iso) (shown a dead) (shown b iso))
+    (on_or R three four
+    (joined c d f g (Refutes c f narrow) (Splits d g) iso (narrow_with_split c d f g) (x narrow) (spanned (y dead) (y total)) (shown a narrow)
+    (splits d g (y dead) (y total) (shown b dead) (shown b total)))
+    (joined c d f g (Refutes c f canc) (Refutes d g cond) iso (canc_with_cond c d f g a.kept) (x canc) (y cond) (shown a canc) (shown b cond)))))
 
 -- a fact that the pair has where both parts have it
 settled_both : (c d : PureCarrier) (f g : Action) (p q : Profile) (x y : PureExamples) → IsKnown c f p x → IsKnown d g q y
@@ -181,12 +181,12 @@ settled_both c d f g p q x y a b k other holds first_shows second_shows =
     settled_alive c d f g p q x y a b k other (bit p k && bit q k) (option_or (beside (x k) (y dead)) (beside (x dead) (y k)))
     (λ e. let h = and_parts (bit p k) (bit q k) e in holds (told a k h.0) (told b k h.1))
     (λ s t e. ⊎_elim
-        (λ h. there_left (beside (x k) (y dead)) (beside (x dead) (y k)) (there_beside (x k) (y dead) (there a k h) t))
-        (λ h. there_right (beside (x k) (y dead)) (beside (x dead) (y k)) (there_beside (x dead) (y k) s (there b k h)))
-        (and_cases (bit p k) (bit q k) e))
+    (λ h. there_left (beside (x k) (y dead)) (beside (x dead) (y k)) (there_beside (x k) (y dead) (there a k h) t))
+    (λ h. there_right (beside (x k) (y dead)) (beside (x dead) (y k)) (there_beside (x dead) (y k) s (there b k h)))
+    (and_cases (bit p k) (bit q k) e))
     (on_or (Refutes (pairs c d) (paired f g) k) (beside (x k) (y dead)) (beside (x dead) (y k))
-        (joined c d f g (Refutes c f k) (Refutes d g dead) k first_shows (x k) (y dead) (shown a k) (shown b dead))
-        (joined c d f g (Refutes c f dead) (Refutes d g k) k second_shows (x dead) (y k) (shown a dead) (shown b k)))
+    (joined c d f g (Refutes c f k) (Refutes d g dead) k first_shows (x k) (y dead) (shown a k) (shown b dead))
+    (joined c d f g (Refutes c f dead) (Refutes d g k) k second_shows (x dead) (y k) (shown a dead) (shown b k)))
 
 -- the rule: examples of the parts settle the pair
 pub pair_settled : (c d : PureCarrier) (f g : Action) (p q : Profile) (x y : PureExamples) → IsKnown c f p x → IsKnown d g q y
@@ -242,8 +242,8 @@ pair_bound n x y h i iso =
     bound_or n one (option_or two (option_or three four)) (bound_beside n (x iso) (y dead) (h iso) (i dead))
     (bound_or n two (option_or three four) (bound_beside n (x dead) (y iso) (h dead) (i iso))
     (bound_or n three four
-        (bound_beside n (x narrow) (spanned (y dead) (y total)) (h narrow) (bound_spanned n (y dead) (y total) (i dead) (i total)))
-        (bound_beside n (x canc) (y cond) (h canc) (i cond))))
+    (bound_beside n (x narrow) (spanned (y dead) (y total)) (h narrow) (bound_spanned n (y dead) (y total) (i dead) (i total)))
+    (bound_beside n (x canc) (y cond) (h canc) (i cond))))
 pair_bound n x y h i canc = bound_either n x y h i canc dead dead canc
 pair_bound n x y h i cond = bound_either n x y h i cond dead dead cond
 pair_bound n x y h i narrow = bound_either n x y h i narrow dead dead narrow
@@ -283,8 +283,8 @@ lex_settled a b l m p q x y formed il im s t =
     let known_a : IsKnown (carrier_of a) (App a l) p x = record { kept = images_kept a l parts.0 il; inhabited = carrier_inhabited a parts.0; settled = s } in
     let known_b : IsKnown (carrier_of b) (App b m) q y = record { kept = images_kept b m parts.1 im; inhabited = carrier_inhabited b parts.1; settled = t } in
     subst (λ f. IsSettledBy (pairs (carrier_of a) (carrier_of b)) f (pair_profile p q) (pair_examples x y))
-        (same_actions (paired (App a l) (App b m)) (App (lex a b) (pair_label l m)) (lex_acts a b l m))
-        (pair_settled (carrier_of a) (carrier_of b) (App a l) (App b m) p q x y known_a known_b)
+    (same_actions (paired (App a l) (App b m)) (App (lex a b) (pair_label l m)) (lex_acts a b l m))
+    (pair_settled (carrier_of a) (carrier_of b) (App a l) (App b m) p q x y known_a known_b)
 
 -- its profile is made of theirs
 pub lex_profile_is : (a b : Expression) (l m : PureLabel) (p q : Profile) → IsFormed (lex a b) → IsLabel a l → IsLabel b m
@@ -292,6 +292,6 @@ pub lex_profile_is : (a b : Expression) (l m : PureLabel) (p q : Profile) → Is
 lex_profile_is a b l m p q formed il im h k =
     let parts = formed_lex a b formed in
     subst (λ f. IsProfile (pairs (carrier_of a) (carrier_of b)) f (pair_profile p q))
-        (same_actions (paired (App a l) (App b m)) (App (lex a b) (pair_label l m)) (lex_acts a b l m))
-        (pair_profile_is (carrier_of a) (carrier_of b) (App a l) (App b m) p q (images_kept a l parts.0 il) (images_kept b m parts.1 im)
-            (carrier_inhabited a parts.0) (carrier_inhabited b parts.1) h k)
+    (same_actions (paired (App a l) (App b m)) (App (lex a b) (pair_label l m)) (lex_acts a b l m))
+    (pair_profile_is (carrier_of a) (carrier_of b) (App a l) (App b m) p q (images_kept a l parts.0 il) (images_kept b m parts.1 im)
+    (carrier_inhabited a parts.0) (carrier_inhabited b parts.1) h k)

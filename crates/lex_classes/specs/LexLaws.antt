@@ -27,7 +27,7 @@ made_class x y z profile_is label_is examples_are = λ s a b.
     (pair_examples (pure_examples x.examples) (pure_examples y.examples)) label_is profile_is examples_are
     (a.label, b.label) (a.label_bound, b.label_bound)
     (lex_settled s.first s.second (pure_label x.label) (pure_label y.label) x.profile y.profile (pure_examples x.examples) (pure_examples y.examples)
-        s.formed a.label b.label a.settled b.settled)
+    s.formed a.label b.label a.settled b.settled)
     (pair_bound MAX_INSTANCE_NUMBER (pure_examples x.examples) (pure_examples y.examples) a.bound b.bound)
 
 -- a label of the product is a pair of labels

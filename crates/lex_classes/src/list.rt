@@ -19,12 +19,7 @@ pub fn lex_class_list(alloc: Global, a: &ClassList, b: &ClassList) -> Result<Cla
 }
 
 // Adds the classes of all pairs that begin with this one.
-fn add_pairs(
-    alloc: Global,
-    list: &mut ClassList,
-    x: &Class,
-    ys: &[Class],
-) -> Result<(), NoMemory>
+fn add_pairs(alloc: Global, list: &mut ClassList, x: &Class, ys: &[Class]) -> Result<(), NoMemory>
     ensures { OnOk result (HasLexGrown (x.now ∷ []) ys.now list.old list.new) }
 {
     for y in ys {
