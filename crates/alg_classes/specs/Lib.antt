@@ -9,3 +9,12 @@ pub mod Flat
 pub mod FlatLaws
 pub mod CarrierLaws
 pub mod Constants
+pub mod Inhabited
+pub mod RuleLaws
+pub mod Pairs
+pub mod PairOrders
+pub mod PairExamples
+pub mod PairFacts
+pub mod PairLaws
+pub mod Growth
+pub mod GrowthLaws

@@ -10,6 +10,7 @@ mod constants;
 mod flat;
 mod laws;
 mod list;
+mod pairs;
 mod profile;
 mod property;
 mod shape;
@@ -20,6 +21,7 @@ pub use constants::{constant_examples, constant_profile, kept_examples, kept_pro
 pub use flat::{flat_carriers_are_found, has_worse, is_flat, worse_values_are_found};
 pub use laws::{classes_have_their_profiles, examples_refute};
 pub use list::ClassList;
+pub use pairs::{pair_examples, pair_profile};
 pub use profile::Profile;
 pub use property::{Instance, Property};
 pub use shape::{Form, Shaped};
