@@ -18,10 +18,10 @@ use Rattle.alg_classes.specs.declared.class.Examples.{Examples}
 use Rattle.alg_classes.specs.declared.class.Class.{Class}
 use Rattle.alg_classes.specs.Facts.{Action, Fact, total, dead, mono, strict, iso, canc, cond, narrow, PureExample, at, between}
 use Rattle.alg_classes.specs.Classes.{PureExamples, pure_examples, pure_at, Settles, IsSettledBy, ExampleAtMost, ExamplesAtMost, ClassOf, alg_in, IsCovered, Covers}
+use Rattle.alg_classes.specs.Growth.{Grown, Only, Over}
+use Rattle.alg_classes.specs.Inhabited.{carrier_inhabited, labels_inhabited}
 use Rattle.union_classes.specs.Sums.{of_either, across, or_else, beside_profile, first_profile, second_profile, beside_examples, denied_examples}
 use Rattle.union_classes.specs.Made.{AreExamples, IsSumOf, IsFirstOf, IsSecondOf, IsValueOf, SomeValueOf, either_value, shown_value}
-use Rattle.union_classes.specs.Growth.{Grown, Only, Over}
-use Rattle.union_classes.specs.Inhabited.{some_value, some_label}
 use Rattle.union_classes.proofs.LabelLaws.{sum_settled, union_first_settled, union_second_settled, plus_first_settled, plus_second_settled, sum_profile_of, first_profile_of, second_profile_of, plus_first_profile_of, plus_second_profile_of}
 
 each_example : (x : Examples) (w : PureExamples) → AreExamples x w → (k : Fact) → pure_examples x k ≡ w k
@@ -215,7 +215,7 @@ value_of_examples a f true b2 (Some v) o formed s t i j = absurd s
 value_of_examples a f b1 false None (Some v) formed s t i j = (t.0, j)
 value_of_examples a f b1 true None (Some v) formed s t i j = absurd t
 value_of_examples a f true true None None formed s t i j =
-    let v = some_value a.expression formed in
+    let v = carrier_inhabited a.expression formed in
     let e = s v.0 v.1 in
     let w = t v.0 v.1 in
     let g = w.1 in
@@ -225,7 +225,7 @@ value_of_examples a f false b2 None None formed s t i j = absurd s
 
 -- classes that cover a formed algebra show a value of it
 pub value_shown : (a : PureAlg) (classes : List Class) → IsFormed a.expression → Covers a classes → SomeValueOf a (option_map pure_value (shown_value classes))
-value_shown a [] formed covers = let l = some_label a.expression formed in absurd (covers.labels l.0 l.1).2
+value_shown a [] formed covers = let l = labels_inhabited a.expression formed in absurd (covers.labels l.0 l.1).2
 value_shown a (z ∷ zs) formed covers =
     let is = covers.each.0 in
     value_of_examples a (App a.expression (pure_label z.label)) z.profile.dead z.profile.total z.examples.inside z.examples.outside formed

@@ -2,8 +2,10 @@ use Rattle.std.proofs.Common.{subst, arith}
 use Rattle.std.proofs.lemmas.List.{take_all}
 use Rattle.alg_model.specs.Expressions.{sum}
 use Rattle.alg_classes.specs.Classes.{ClassOf, alg_in}
+use Rattle.alg_classes.specs.ListLaws.{one_of_all}
+use Rattle.alg_classes.specs.Growth.{Grown, Only, Over}
+use Rattle.alg_classes.specs.GrowthLaws.{grown_none, grown_more}
 use Rattle.union_classes.specs.Sums.{beside_profile}
-use Rattle.union_classes.specs.Growth.{Grown, Only, Over, grown_none, grown_more, one_of_all}
 use Rattle.union_classes.proofs.sums.add_sums.Goals as goal
 
 pub loop-y-init : goal.loop-y-init
