@@ -1,11 +1,12 @@
 -- The test of two profiles finds exactly equal ones.
-use Rattle.std.proofs.Common.{◌≡◌, refl, sym, subst, inl, inr, ⊎_elim, ◌++◌, Result, Ok, Err, OnOk, OnErr, ◌≤◌, ◌-◌, List, [], ◌∷◌, length, take, drop, get_or, arith, Bool, true, false, ◌&&◌}
+use Rattle.std.proofs.Common.{◌≡◌, refl, sym, subst, ◌++◌, Result, Ok, Err, OnOk, OnErr, ◌≤◌, ◌-◌, List, [], ◌∷◌, length, take, drop, get_or, arith, Bool, true, false, ◌&&◌}
 use Rattle.std.proofs.Math.Bool.{beq}
 use Rattle.std.proofs.lemmas.Bool.{and_parts}
 use Rattle.std.proofs.lemmas.List.{take_all}
 use Rattle.alg_classes.specs.declared.profile.Profile.{Profile}
 use Rattle.alg_classes.specs.declared.class.Class.{Class}
 use Rattle.alg_classes.specs.Classes.{HasProfile, AreDistinct}
+use Rattle.alg_classes.specs.ListLaws.{distinct_and_one}
 
 same_bit : (a b : Bool) → beq a b ≡ true → a ≡ b
 same_bit true true e = refl
@@ -72,17 +73,8 @@ taken_apart P (d ∷ ds) class some first h =
     let rest : take (length (d ∷ ds) - 1) ds ≡ ds = rw others (take_all (length ds) ds (omega arith)) in
     subst (λ x. P (x ∷ ds)) first (subst (λ r. P (class ∷ r)) rest h)
 
-other_profiles : (classes : List Class) (class : Class) (p : Profile) → ¬ HasProfile classes p → ¬ (class.profile ≡ p) → ¬ HasProfile (classes ++ class ∷ []) p
-other_profiles [] class p none other h = ⊎_elim other none h
-other_profiles (d ∷ ds) class p none other h = ⊎_elim (λ e. none (inl e)) (other_profiles ds class p (λ g. none (inr g)) other) h
-
-distinct_more : (classes : List Class) (class : Class) → AreDistinct classes → ¬ HasProfile classes class.profile → AreDistinct (classes ++ class ∷ [])
-distinct_more [] class d none = (λ h. h, tt)
-distinct_more (d ∷ ds) class a none =
-    (other_profiles ds class d.profile a.0 (λ e. none (inl (sym e))), distinct_more ds class a.1 (λ h. none (inr h)))
-
 -- a list stays distinct where a class of a new profile is pushed, or memory is refused
 pub distinct_after_push : {A E : Type 0} (r : Result A E) (old new : List Class) (class : Class) → AreDistinct old → ¬ HasProfile old class.profile
     → OnOk r (new ≡ old ++ class ∷ []) → OnErr r (new ≡ old) → AreDistinct new
-distinct_after_push (Ok x) old new class d none ok err = subst AreDistinct (sym ok) (distinct_more old class d none)
+distinct_after_push (Ok x) old new class d none ok err = subst AreDistinct (sym ok) (distinct_and_one old class d none)
 distinct_after_push (Err e) old new class d none ok err = subst AreDistinct (sym err) d

@@ -1,11 +1,13 @@
--- Each algebra has a value.
+-- Each formed algebra has a value, and a label.
 use Rattle.std.proofs.Common.{◌≡◌, refl, ◌<◌, [], length, true, arith}
 use Rattle.std.proofs.lemmas.Bool.Decides.{nat_tests}
 use Rattle.std.proofs.lemmas.Nat.{pow_pos}
 use Rattle.alg_model.specs.declared.tree.TableSpec.{TableSpec}
 use Rattle.alg_model.specs.Expressions.{Expression, add, cap, worst, width, pref, orig, seq, simseq, tags, guard, gate, table, lex, scoped, union, sum, plus, left, right}
 use Rattle.alg_model.specs.Expressions.{PureValue, number, symbols, marks, unit, name, pair, first}
+use Rattle.alg_model.specs.Expressions.{PureLabel, number_label, keep, symbol_label, need, allow, row_label, pair_label, both_label, first_label, const_label, inner}
 use Rattle.alg_model.specs.Carriers.{carrier_of, In}
+use Rattle.alg_model.specs.Application.{IsLabel}
 use Rattle.alg_model.specs.Formation.{IsFormed, MeetsRanges, is_table}
 
 named_value : (t : TableSpec) → is_table t ≡ true → 0 < length t.names
@@ -35,3 +37,31 @@ value_of (right a) m = value_of a m
 -- a formed expression has a value
 pub carrier_inhabited : (a : Expression) → IsFormed a → (v : PureValue) × In (carrier_of a) v
 carrier_inhabited a formed = value_of a formed.ranges
+
+first_row : (t : TableSpec) → is_table t ≡ true → 0 < length t.rows
+first_row t e = grind (arith, nat_tests)
+
+label_of : (a : Expression) → MeetsRanges a → (l : PureLabel) × IsLabel a l
+label_of (add low high) m = (number_label low, (omega arith, omega (arith, m)))
+label_of (cap top low high) m = (number_label low, (omega arith, omega (arith, m)))
+label_of (worst top low high) m = (number_label low, (omega arith, omega (arith, m.0)))
+label_of (width top low high) m = (number_label low, (omega arith, omega (arith, m.0)))
+label_of (pref top) m = (number_label 0, omega arith)
+label_of (orig top) m = (keep, tt)
+label_of (seq k) m = (symbol_label 0, omega (arith, m))
+label_of (simseq k) m = (symbol_label 0, omega (arith, m.0))
+label_of (tags k) m = (keep, tt)
+label_of (guard k) m = (need 0, omega (arith, m.0))
+label_of gate m = (allow, tt)
+label_of (table t) m = (row_label 0, first_row t m)
+label_of (lex a b) m = let l = label_of a m.0 in let k = label_of b m.1 in (pair_label l.0 k.0, (l.1, k.1))
+label_of (scoped a b) m = let k = label_of b m.1 in (inner k.0, k.1)
+label_of (union a b) m = let l = label_of a m.0 in (first_label l.0, l.1)
+label_of (sum a b) m = let l = label_of a m.0 in let k = label_of b m.1 in (both_label l.0 k.0, (l.1, k.1))
+label_of (plus a b) m = let l = label_of a m.0 in (first_label l.0, l.1)
+label_of (left a) m = let v = value_of a m in (const_label v.0, v.1)
+label_of (right a) m = (keep, tt)
+
+-- and a label
+pub labels_inhabited : (a : Expression) → IsFormed a → (l : PureLabel) × IsLabel a l
+labels_inhabited a formed = label_of a formed.ranges

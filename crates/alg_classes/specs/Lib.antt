@@ -16,5 +16,6 @@ pub mod PairOrders
 pub mod PairExamples
 pub mod PairFacts
 pub mod PairLaws
+pub mod ListLaws
 pub mod Growth
 pub mod GrowthLaws

@@ -1,9 +1,8 @@
 -- Each profile of a label is that of a candidate; and what adding a candidate's class makes of a list.
-use Rattle.std.proofs.Common.{◌≡◌, ℕ, ◌+◌, ◌<◌, ◌≤◌, ◌==◌, refl, sym, subst, ◌∙◌, inl, inr, ⊎_elim, List, [], ◌∷◌, ◌++◌, Bool, true, false, Result, Ok, Err, OnOk, arith}
+use Rattle.std.proofs.Common.{◌≡◌, ℕ, ◌+◌, ◌<◌, ◌≤◌, ◌==◌, refl, sym, subst, ◌∙◌, ⊎_elim, List, Bool, true, false, Result, Ok, Err, OnOk, arith}
 use Rattle.std.proofs.lemmas.Bool.{cases_lt}
 use Rattle.std.proofs.lemmas.Bool.Decides.{nat_tests}
 use Rattle.std.specs.Prelude.{nat_le, nat_lt}
-use Rattle.std.specs.List.{AllByRecursion}
 use Rattle.alg_model.specs.Expressions.{Expression, PureAlg, PureCarrier, add, cap, worst, width, pref, orig, seq, simseq, tags, guard, gate}
 use Rattle.alg_model.specs.Expressions.{PureLabel, number_label, keep, symbol_label, allow, deny}
 use Rattle.alg_model.specs.Views.{pure_label}
@@ -15,7 +14,8 @@ use Rattle.alg_classes.specs.declared.class.Class.{Class}
 use Rattle.alg_classes.specs.Facts.{Action, Fact, total, dead, mono, strict, iso, canc, cond, narrow, Holds}
 use Rattle.alg_classes.specs.Profiles.{bit, IsProfile}
 use Rattle.alg_classes.specs.ClassLaws.{class_profile}
-use Rattle.alg_classes.specs.Classes.{HasProfile, AreDistinct, IsGrownBy, ClassOf, IsCovered, Covers}
+use Rattle.alg_classes.specs.Classes.{HasProfile, IsGrownBy, ClassOf, IsCovered, Covers}
+use Rattle.alg_classes.specs.GrowthLaws.{grown_by_one}
 use Rattle.base_classes.specs.Kinds.{IsBase}
 use Rattle.base_classes.specs.Profiles.{base_profile_of, add_profile, cap_profile, worst_profile, width_profile, pref_profile}
 use Rattle.base_classes.specs.Lists.{candidate_number, candidate, HasBefore}
@@ -155,27 +155,6 @@ one_more a place classes h has = record {
       (cases_lt p place);
 }
 
-all_and_last : (P : Class → Type 0) (classes : List Class) (class : Class) → AllByRecursion P classes → P class → AllByRecursion P (classes ++ class ∷ [])
-all_and_last P [] class a h = (h, tt)
-all_and_last P (d ∷ ds) class a h = (a.0, all_and_last P ds class a.1 h)
-
-still_has : (classes : List Class) (class : Class) (p : Profile) → HasProfile classes p → HasProfile (classes ++ class ∷ []) p
-still_has [] class p h = absurd h
-still_has (d ∷ ds) class p h = ⊎_elim inl (λ g. inr (still_has ds class p g)) h
-
-has_last : (classes : List Class) (class : Class) → HasProfile (classes ++ class ∷ []) class.profile
-has_last [] class = inl refl
-has_last (d ∷ ds) class = inr (has_last ds class)
-
-other_profiles : (classes : List Class) (class : Class) (p : Profile) → ¬ HasProfile classes p → ¬ (class.profile ≡ p) → ¬ HasProfile (classes ++ class ∷ []) p
-other_profiles [] class p none other h = ⊎_elim other none h
-other_profiles (d ∷ ds) class p none other h = ⊎_elim (λ e. none (inl e)) (other_profiles ds class p (λ g. none (inr g)) other) h
-
-distinct_more : (classes : List Class) (class : Class) → AreDistinct classes → ¬ HasProfile classes class.profile → AreDistinct (classes ++ class ∷ [])
-distinct_more [] class d none = (λ h. h, tt)
-distinct_more (d ∷ ds) class a none =
-    (other_profiles ds class d.profile a.0 (λ e. none (inl (sym e))), distinct_more ds class a.1 (λ h. none (inr h)))
-
 -- so too where the label is none of the algebra's, or its profile is there
 pub none_added : (a : PureAlg) (place : ℕ) (classes : List Class) (l : PureLabel) → l ≡ candidate a.expression place → HasBefore a place classes
     → (IsLabel a.expression l → IsCovered a classes l) → HasBefore a (place + 1) classes
@@ -185,15 +164,12 @@ none_added a place classes l e h has = one_more a place classes h (subst (λ m. 
 class_added : (a : PureAlg) (place : ℕ) (old new : List Class) (class : Class) → HasBefore a place old → ClassOf a class
     → IsGrownBy old class new → pure_label class.label ≡ candidate a.expression place → HasBefore a (place + 1) new
 class_added a place old new class h is grown e =
-    let profile = class_profile a class is in
-    ⊎_elim
-    (λ g. subst (HasBefore a (place + 1)) (sym g.1) (none_added a place old (pure_label class.label) e h (λ i. (class.profile, profile, g.0))))
-    (λ g. subst (HasBefore a (place + 1)) (sym g.1) (none_added a place (old ++ class ∷ []) (pure_label class.label) e (record {
-      distinct = distinct_more old class h.distinct g.0;
-      each = all_and_last (ClassOf a) old class h.each is;
-      before = λ p k i. let c = h.before p k i in (c.0, c.1, still_has old class c.0 c.2);
-    }) (λ i. (class.profile, profile, has_last old class))))
-    grown
+    let g = grown_by_one (ClassOf a) class.profile old new class refl is grown in
+    none_added a place new (pure_label class.label) e (record {
+      distinct = g.distinct h.distinct;
+      each = g.each h.each;
+      before = λ p k i. let c = h.before p k i in (c.0, c.1, g.kept c.0 c.2);
+    }) (λ i. (class.profile, class_profile a class is, g.reached class.profile refl))
 
 -- unless memory is refused
 pub one_added : {A E : Type 0} (a : PureAlg) (r : Result A E) (old new : List Class) (class : Class) (l : PureLabel) (place : ℕ) → ClassOf a class

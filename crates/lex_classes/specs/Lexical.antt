@@ -9,7 +9,7 @@ use Rattle.alg_classes.specs.declared.class.Class.{Class}
 use Rattle.alg_classes.specs.Profiles.{ProfileOf}
 use Rattle.alg_classes.specs.Classes.{alg_in, ClassOf, Covers}
 use Rattle.alg_classes.specs.Pairs.{pair_profile}
-use Rattle.alg_classes.specs.Growth.{HasGrown}
+use Rattle.alg_classes.specs.Growth.{Only, Over}
 
 -- two algebras in an edition, whose lexical product breaks no rule
 pub record Setting : Type 0 where
@@ -42,6 +42,9 @@ abbrev pub IsLexList : List Class → List Class → List Class → Type 0
 IsLexList xs ys zs = (s : Setting) → Covers (alg_in s.first s.edition) xs → Covers (alg_in s.second s.edition) ys
     → Covers (alg_in (lex s.first s.second) s.edition) zs
 
--- the list has grown by the classes of all pairs
-abbrev pub HasLexGrown : List Class → List Class → List Class → List Class → Type 0
-HasLexGrown = HasGrown OfFirst OfSecond OfProduct pair_profile
+-- the profiles of the pairs that begin with a label of the profile, and of those that begin with one of the list
+abbrev pub WithEach : List Class → Profile → Profile → Type 0
+WithEach ys p = Over (λ q. Only (pair_profile p q)) ys
+
+abbrev pub OfAllPairs : List Class → List Class → Profile → Type 0
+OfAllPairs xs ys = Over (WithEach ys) xs

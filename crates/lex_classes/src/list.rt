@@ -1,5 +1,8 @@
-ghost use Rattle.std.specs.Prelude.{[], ◌∷◌, IfOk, OnOk};
-ghost use Rattle.lex_classes.specs.Lexical.{IsLexList, HasLexGrown};
+ghost use Rattle.std.specs.Prelude.{IfOk, OnOk};
+ghost use Rattle.std.specs.List.{AllByRecursion};
+ghost use Rattle.alg_classes.specs.Growth.{Grown, Only};
+ghost use Rattle.alg_classes.specs.Pairs as rule;
+ghost use Rattle.lex_classes.specs.Lexical.{Setting, OfFirst, OfSecond, OfProduct, IsLexList, WithEach};
 
 use crate::{lex_class, lex_profile};
 use alg_classes::{Class, ClassList};
@@ -20,7 +23,8 @@ pub fn lex_class_list(alloc: Global, a: &ClassList, b: &ClassList) -> Result<Cla
 
 // Adds the classes of all pairs that begin with this one.
 fn add_pairs(alloc: Global, list: &mut ClassList, x: &Class, ys: &[Class]) -> Result<(), NoMemory>
-    ensures { OnOk result (HasLexGrown (x.now ∷ []) ys.now list.old list.new) }
+    ensures { (s : Setting) → OfFirst s x.now → AllByRecursion (OfSecond s) ys.now → OnOk result
+        (Grown (OfProduct s) (WithEach ys.now x.now.profile) list.old list.new) }
 {
     for y in ys {
         add_pair(alloc, list, x, y)?;
@@ -30,7 +34,8 @@ fn add_pairs(alloc: Global, list: &mut ClassList, x: &Class, ys: &[Class]) -> Re
 
 // Adds the class of the pair, unless its profile is there: then it isn't made.
 fn add_pair(alloc: Global, list: &mut ClassList, x: &Class, y: &Class) -> Result<(), NoMemory>
-    ensures { OnOk result (HasLexGrown (x.now ∷ []) (y.now ∷ []) list.old list.new) }
+    ensures { (s : Setting) → OfFirst s x.now → OfSecond s y.now → OnOk result
+        (Grown (OfProduct s) (Only (rule.pair_profile x.now.profile y.now.profile)) list.old list.new) }
 {
     if list.has(&lex_profile(&x.profile, &y.profile)) {
         return Ok(());

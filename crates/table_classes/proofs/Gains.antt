@@ -1,6 +1,5 @@
 -- A list of classes that gains the class of a row.
-use Rattle.std.proofs.Common.{◌≡◌, refl, sym, subst, ℕ, List, [], ◌∷◌, ◌++◌, inl, inr, ⊎_elim, Result, Ok, Err, OnOk}
-use Rattle.std.specs.List.{AllByRecursion}
+use Rattle.std.proofs.Common.{◌≡◌, refl, sym, subst, ℕ, List}
 use Rattle.alg_model.specs.declared.tree.Label.{Row}
 use Rattle.alg_model.specs.Expressions.{Expression, table, PureAlg, PureLabel, row_label}
 use Rattle.alg_model.specs.Application.{IsLabel}
@@ -8,23 +7,12 @@ use Rattle.alg_classes.specs.declared.class.Class.{Class}
 use Rattle.alg_classes.specs.declared.profile.Profile.{Profile}
 use Rattle.alg_classes.specs.Profiles.{ProfileOf}
 use Rattle.alg_classes.specs.Classes.{ClassOf, HasProfile, IsGrownBy, IsCovered}
+use Rattle.alg_classes.specs.GrowthLaws.{grown_by_one}
 use Rattle.table_classes.specs.declared.found.Found.{Found}
 use Rattle.table_classes.specs.Rows.{IsTable, PureRow, IsRowOf}
 use Rattle.table_classes.specs.Found.{found_class, AreAnswersOf}
 use Rattle.table_classes.specs.Lists.{GainsRow}
 use Rattle.table_classes.proofs.Answers.{profile_of_row, class_of_row}
-
-has_more : (classes : List Class) (class : Class) (p : Profile) → HasProfile classes p → HasProfile (classes ++ class ∷ []) p
-has_more [] class p h = absurd h
-has_more (c ∷ classes) class p h = ⊎_elim (λ e. inl e) (λ g. inr (has_more classes class p g)) h
-
-has_last : (classes : List Class) (class : Class) → HasProfile (classes ++ class ∷ []) class.profile
-has_last [] class = inl refl
-has_last (c ∷ classes) class = inr (has_last classes class)
-
-all_and_last : (P : Class → Type 0) (classes : List Class) (class : Class) → P class → AllByRecursion P classes → AllByRecursion P (classes ++ class ∷ [])
-all_and_last P [] class p all = (p, tt)
-all_and_last P (c ∷ classes) class p all = (all.0, all_and_last P classes class p all.1)
 
 -- a list that has the row's profile
 pub gains_none : (a : PureAlg) (place : ℕ) (list : List Class) (p : Profile) → ProfileOf a.expression (row_label place) p → HasProfile list p
@@ -35,21 +23,16 @@ gains_none a place list p is has = record {
   covered = (p, is, has);
 }
 
-gains_last : (a : PureAlg) (place : ℕ) (list : List Class) (class : Class) → ProfileOf a.expression (row_label place) class.profile
-    → ClassOf a class → GainsRow a place list (list ++ class ∷ [])
-gains_last a place list class is one = record {
-  keeps = has_more list class;
-  each = all_and_last (ClassOf a) list class one;
-  covered = (class.profile, is, has_last list class);
-}
-
 -- a list to which the row's class was added
 gains_one : (a : PureAlg) (place : ℕ) (old new : List Class) (class : Class) → ProfileOf a.expression (row_label place) class.profile
     → ClassOf a class → IsGrownBy old class new → GainsRow a place old new
-gains_one a place old new class is one grown = ⊎_elim
-    (λ h. subst (GainsRow a place old) (sym h.1) (gains_none a place old class.profile is h.0))
-    (λ h. subst (GainsRow a place old) (sym h.1) (gains_last a place old class is one))
-    grown
+gains_one a place old new class is one grown =
+    let g = grown_by_one (ClassOf a) class.profile old new class refl one grown in
+    record {
+      keeps = g.kept;
+      each = g.each;
+      covered = (class.profile, is, g.reached class.profile refl);
+    }
 
 -- a list to which the class of what was found in the row was added
 pub gains_found : (a : PureAlg) (place : ℕ) (old new : List Class) (class : Class) (row : PureRow) (x : Found)
@@ -58,10 +41,6 @@ pub gains_found : (a : PureAlg) (place : ℕ) (old new : List Class) (class : Cl
 gains_found a place old new class row x t i is answers e = gains_one a place old new class
     (subst (λ d. ProfileOf a.expression (row_label place) d.profile) (sym e) (profile_of_row a.expression (row_label place) row x is answers))
     (subst (ClassOf a) (sym e) (class_of_row a (row_label place) (Row place) row x t i is answers refl))
-
-pub on_ok : {A E : Type 0} (P Q : Type 0) (r : Result A E) → (P → Q) → OnOk r P → OnOk r Q
-on_ok P Q (Ok x) f h = f h
-on_ok P Q (Err e) f h = h
 
 pub still_covered : (a : PureAlg) (place : ℕ) (old new : List Class) (l : PureLabel) → GainsRow a place old new → IsCovered a old l → IsCovered a new l
 still_covered a place old new l gains is = (is.0, is.1, gains.keeps is.0 is.2)

@@ -1,7 +1,6 @@
 -- Classes of the labels of sums, unions and pluses, and lists of them that cover.
-use Rattle.std.proofs.Common.{◌≡◌, refl, sym, subst, ℕ, List, [], ◌∷◌, Bool, true, false, Option, Some, None}
+use Rattle.std.proofs.Common.{◌≡◌, refl, subst, ℕ, List, [], ◌∷◌, Bool, true, false, Option, Some, None}
 use Rattle.std.specs.Prelude.{option_map}
-use Rattle.std.proofs.Math.Path.{fun_ext}
 use Rattle.alg_model.specs.declared.alg.TheConstants.{MAX_INSTANCE_NUMBER}
 use Rattle.alg_model.specs.declared.edition.Edition.{Edition}
 use Rattle.alg_model.specs.declared.tree.Value.{Value}
@@ -18,10 +17,11 @@ use Rattle.alg_classes.specs.declared.class.Examples.{Examples}
 use Rattle.alg_classes.specs.declared.class.Class.{Class}
 use Rattle.alg_classes.specs.Facts.{Action, Fact, total, dead, mono, strict, iso, canc, cond, narrow, PureExample, at, between}
 use Rattle.alg_classes.specs.Classes.{PureExamples, pure_examples, pure_at, Settles, IsSettledBy, ExampleAtMost, ExamplesAtMost, ClassOf, alg_in, IsCovered, Covers}
+use Rattle.alg_classes.specs.Growth.{Grown, Only, Over}
+use Rattle.alg_classes.specs.RuleLaws.{class_from}
+use Rattle.alg_classes.specs.Inhabited.{carrier_inhabited, labels_inhabited}
 use Rattle.union_classes.specs.Sums.{of_either, across, or_else, beside_profile, first_profile, second_profile, beside_examples, denied_examples}
 use Rattle.union_classes.specs.Made.{AreExamples, IsSumOf, IsFirstOf, IsSecondOf, IsValueOf, SomeValueOf, either_value, shown_value}
-use Rattle.union_classes.specs.Growth.{Grown, Only, Over}
-use Rattle.union_classes.specs.Inhabited.{some_value, some_label}
 use Rattle.union_classes.proofs.LabelLaws.{sum_settled, union_first_settled, union_second_settled, plus_first_settled, plus_second_settled, sum_profile_of, first_profile_of, second_profile_of, plus_first_profile_of, plus_second_profile_of}
 
 each_example : (x : Examples) (w : PureExamples) → AreExamples x w → (k : Fact) → pure_examples x k ≡ w k
@@ -33,9 +33,6 @@ each_example x w are iso = are.not_iso
 each_example x w are canc = are.not_canc
 each_example x w are cond = are.not_cond
 each_example x w are narrow = are.not_narrow
-
-pub examples_are : (x : Examples) (w : PureExamples) → AreExamples x w → pure_examples x ≡ w
-examples_are x w are = fun_ext (each_example x w are)
 
 -- bounds on the examples of composed labels
 either_at_most : (n : ℕ) (o p : Option PureExample) → ExampleAtMost n o → ExampleAtMost n p → ExampleAtMost n (of_either o p)
@@ -79,21 +76,12 @@ denied_at_most v a is canc = tt
 denied_at_most v a is cond = tt
 denied_at_most v a is narrow = tt
 
--- a class of a label, a profile and examples that settle each other
-class_from : (a : PureAlg) (z : Class) (l : PureLabel) (p : Profile) (w : PureExamples)
+-- a class that the program makes of a label, a profile and examples that settle each other
+class_made : (a : PureAlg) (z : Class) (l : PureLabel) (p : Profile) (w : PureExamples)
     → pure_label z.label ≡ l → z.profile ≡ p → AreExamples z.examples w
     → IsLabel a.expression l → LabelAtMost (greatest_number a.edition) l
     → IsSettledBy (carrier_of a.expression) (App a.expression l) p w → ExamplesAtMost MAX_INSTANCE_NUMBER w → ClassOf a z
-class_from a z l p w label profile examples is below settled bound =
-    let same = examples_are z.examples w examples in
-    record {
-      label = subst (IsLabel a.expression) (sym label) is;
-      label_bound = subst (LabelAtMost (greatest_number a.edition)) (sym label) below;
-      settled = subst (λ m. IsSettledBy (carrier_of a.expression) (App a.expression m) z.profile (pure_examples z.examples)) (sym label)
-          (subst (λ q. IsSettledBy (carrier_of a.expression) (App a.expression l) q (pure_examples z.examples)) (sym profile)
-          (subst (IsSettledBy (carrier_of a.expression) (App a.expression l) p) (sym same) settled));
-      bound = subst (ExamplesAtMost MAX_INSTANCE_NUMBER) (sym same) bound;
-    }
+class_made a z l p w label profile examples = class_from a z l p w label profile (each_example z.examples w examples)
 
 pub sum_class_of : (a b : Expression) (e : Edition) (x y z : Class) → ClassOf (alg_in a e) x → ClassOf (alg_in b e) y
     → IsSumOf x y z → ClassOf (alg_in (sum a b) e) z
@@ -102,7 +90,7 @@ sum_class_of a b e x y z cx cy made =
     let m = pure_label y.label in
     let ex = pure_examples x.examples in
     let ey = pure_examples y.examples in
-    class_from (alg_in (sum a b) e) z (both_label l m) (beside_profile x.profile y.profile) (beside_examples ex ey)
+    class_made (alg_in (sum a b) e) z (both_label l m) (beside_profile x.profile y.profile) (beside_examples ex ey)
     made.label made.profile made.examples (cx.label, cy.label) (cx.label_bound, cy.label_bound)
     (sum_settled a b l m x.profile y.profile ex ey cx.settled cy.settled) (beside_at_most MAX_INSTANCE_NUMBER ex ey cx.bound cy.bound)
 
@@ -111,7 +99,7 @@ pub first_class_of : (a b : Expression) (e : Edition) (x : Class) (v : PureValue
 first_class_of a b e x v z is cx made =
     let l = pure_label x.label in
     let ex = pure_examples x.examples in
-    class_from (alg_in (union a b) e) z (first_label l) (first_profile x.profile) (beside_examples ex (denied_examples v))
+    class_made (alg_in (union a b) e) z (first_label l) (first_profile x.profile) (beside_examples ex (denied_examples v))
     made.label made.profile made.examples cx.label cx.label_bound
     (union_first_settled a b l x.profile ex v is.0 cx.settled)
     (beside_at_most MAX_INSTANCE_NUMBER ex (denied_examples v) cx.bound (denied_at_most v (alg_in b e) is))
@@ -121,7 +109,7 @@ pub second_class_of : (a b : Expression) (e : Edition) (y : Class) (u : PureValu
 second_class_of a b e y u z is cy made =
     let m = pure_label y.label in
     let ey = pure_examples y.examples in
-    class_from (alg_in (union a b) e) z (second_label m) (second_profile y.profile) (beside_examples (denied_examples u) ey)
+    class_made (alg_in (union a b) e) z (second_label m) (second_profile y.profile) (beside_examples (denied_examples u) ey)
     made.label made.profile made.examples cy.label cy.label_bound
     (union_second_settled a b m y.profile ey u is.0 cy.settled)
     (beside_at_most MAX_INSTANCE_NUMBER (denied_examples u) ey (denied_at_most u (alg_in a e) is) cy.bound)
@@ -131,7 +119,7 @@ pub plus_first_class_of : (a b : Expression) (e : Edition) (x z : Class) → Cla
     → ClassOf (alg_in (plus a b) e) z
 plus_first_class_of a b e x z cx profile label examples =
     let l = pure_label x.label in
-    class_from (alg_in (plus a b) e) z (first_label l) x.profile (pure_examples x.examples)
+    class_made (alg_in (plus a b) e) z (first_label l) x.profile (pure_examples x.examples)
     label profile examples cx.label cx.label_bound (plus_first_settled a b l x.profile (pure_examples x.examples) cx.settled) cx.bound
 
 pub plus_second_class_of : (a b : Expression) (e : Edition) (y z : Class) → IsFormed (plus a b) → ClassOf (alg_in b e) y
@@ -139,7 +127,7 @@ pub plus_second_class_of : (a b : Expression) (e : Edition) (y z : Class) → Is
     → ClassOf (alg_in (plus a b) e) z
 plus_second_class_of a b e y z formed cy profile label examples =
     let m = pure_label y.label in
-    class_from (alg_in (plus a b) e) z (second_label m) y.profile (pure_examples y.examples)
+    class_made (alg_in (plus a b) e) z (second_label m) y.profile (pure_examples y.examples)
     label profile examples cy.label cy.label_bound
     (plus_second_settled a b m y.profile (pure_examples y.examples) (formed_plus a b formed).2 cy.settled) cy.bound
 
@@ -215,7 +203,7 @@ value_of_examples a f true b2 (Some v) o formed s t i j = absurd s
 value_of_examples a f b1 false None (Some v) formed s t i j = (t.0, j)
 value_of_examples a f b1 true None (Some v) formed s t i j = absurd t
 value_of_examples a f true true None None formed s t i j =
-    let v = some_value a.expression formed in
+    let v = carrier_inhabited a.expression formed in
     let e = s v.0 v.1 in
     let w = t v.0 v.1 in
     let g = w.1 in
@@ -225,7 +213,7 @@ value_of_examples a f false b2 None None formed s t i j = absurd s
 
 -- classes that cover a formed algebra show a value of it
 pub value_shown : (a : PureAlg) (classes : List Class) → IsFormed a.expression → Covers a classes → SomeValueOf a (option_map pure_value (shown_value classes))
-value_shown a [] formed covers = let l = some_label a.expression formed in absurd (covers.labels l.0 l.1).2
+value_shown a [] formed covers = let l = labels_inhabited a.expression formed in absurd (covers.labels l.0 l.1).2
 value_shown a (z ∷ zs) formed covers =
     let is = covers.each.0 in
     value_of_examples a (App a.expression (pure_label z.label)) z.profile.dead z.profile.total z.examples.inside z.examples.outside formed

@@ -12,9 +12,9 @@ use Rattle.alg_classes.specs.declared.profile.Profile.{Profile}
 use Rattle.alg_classes.specs.Profiles.{IsProfile, ProfileOf}
 use Rattle.alg_classes.specs.Classes.{PureExamples, IsSettledBy}
 use Rattle.alg_classes.specs.ClassLaws.{images_kept, composed_profile, composed_profile_of_two}
+use Rattle.alg_classes.specs.Inhabited.{carrier_inhabited}
 use Rattle.union_classes.specs.Sums.{beside, denied, beside_profile, first_profile, second_profile, beside_examples, denied_examples}
 use Rattle.union_classes.specs.SumLaws.{beside_settled, first_settled, second_settled}
-use Rattle.union_classes.specs.Inhabited.{some_value}
 
 sum_acts : (a b : Expression) (l m : PureLabel) (v : PureValue) → App (sum a b) (both_label l m) v ≡ beside (App a l) (App b m) v
 sum_acts a b l m (number n) = refl
@@ -99,7 +99,7 @@ pub first_profile_of : (a b : Expression) (l : PureLabel) (p : Profile) → IsFo
     → ProfileOf a l p → ProfileOf (union a b) (first_label l) (first_profile p)
 first_profile_of a b l p formed is_l is_p =
     let parts = formed_union a b formed in
-    let v = some_value b parts.1 in
+    let v = carrier_inhabited b parts.1 in
     composed_profile (carrier_of a) (carrier_of (union a b)) (App a l) (App (union a b) (first_label l))
     (images_kept a l parts.0 is_l) (images_kept (union a b) (first_label l) formed is_l)
     p (first_profile p) (λ x s. (beside_examples x (denied_examples v.0), union_first_settled a b l p x v.0 v.1 s)) is_p
@@ -108,7 +108,7 @@ pub second_profile_of : (a b : Expression) (m : PureLabel) (q : Profile) → IsF
     → ProfileOf b m q → ProfileOf (union a b) (second_label m) (second_profile q)
 second_profile_of a b m q formed is_m is_q =
     let parts = formed_union a b formed in
-    let u = some_value a parts.0 in
+    let u = carrier_inhabited a parts.0 in
     composed_profile (carrier_of b) (carrier_of (union a b)) (App b m) (App (union a b) (second_label m))
     (images_kept b m parts.1 is_m) (images_kept (union a b) (second_label m) formed is_m)
     q (second_profile q) (λ y t. (beside_examples (denied_examples u.0) y, union_second_settled a b m q y u.0 u.1 t)) is_q

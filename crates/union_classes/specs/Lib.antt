@@ -1,6 +1,4 @@
 pub mod Sums
 pub mod Made
-pub mod Growth
 pub mod SideLaws
 pub mod SumLaws
-pub mod Inhabited

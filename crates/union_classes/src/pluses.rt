@@ -4,7 +4,7 @@ ghost use Rattle.alg_model.specs.Expressions.{Expression, plus};
 ghost use Rattle.alg_model.specs.Formation.{IsFormed};
 ghost use Rattle.alg_model.specs.declared.edition.Edition.{Edition};
 ghost use Rattle.alg_classes.specs.Classes.{ClassOf, Covers, alg_in};
-ghost use Rattle.union_classes.specs.Growth.{Grown, Only, Over};
+ghost use Rattle.alg_classes.specs.Growth.{Grown, Only, Over};
 
 use crate::copying::copy_examples;
 use crate::labels::{first_label, second_label};

@@ -4,7 +4,7 @@ ghost use Rattle.alg_model.specs.Expressions.{Expression, sum};
 ghost use Rattle.alg_model.specs.Formation.{IsFormed};
 ghost use Rattle.alg_model.specs.declared.edition.Edition.{Edition};
 ghost use Rattle.alg_classes.specs.Classes.{ClassOf, Covers, alg_in};
-ghost use Rattle.union_classes.specs.Growth.{Grown, Only, Over};
+ghost use Rattle.alg_classes.specs.Growth.{Grown, Only, Over};
 ghost use Rattle.union_classes.specs.Made.{IsSumOf};
 ghost use Rattle.union_classes.specs.Sums.{beside_profile};
 

@@ -6,7 +6,7 @@ ghost use Rattle.alg_model.specs.Formation.{IsFormed, IsCarrier};
 ghost use Rattle.alg_model.specs.Views.{pure_carrier, pure_value};
 ghost use Rattle.alg_model.specs.declared.edition.Edition.{Edition};
 ghost use Rattle.alg_classes.specs.Classes.{ClassOf, Covers, alg_in};
-ghost use Rattle.union_classes.specs.Growth.{Grown, Only, Over};
+ghost use Rattle.alg_classes.specs.Growth.{Grown, Only, Over};
 ghost use Rattle.union_classes.specs.Made.{IsFirstOf, IsSecondOf, IsValueOf, shown_value};
 ghost use Rattle.union_classes.specs.Sums as rule;
 

@@ -1,7 +1,7 @@
 use Rattle.std.proofs.lemmas.Result.{on_ok_weaker}
 use Rattle.alg_model.specs.Expressions.{plus}
 use Rattle.alg_classes.specs.Classes.{ClassOf, alg_in}
-use Rattle.union_classes.specs.Growth.{grown_by_one}
+use Rattle.alg_classes.specs.GrowthLaws.{grown_by_one}
 use Rattle.union_classes.proofs.pluses.add_first.Goals as goal
 
 pub returns : goal.returns

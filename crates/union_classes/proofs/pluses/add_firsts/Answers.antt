@@ -1,7 +1,9 @@
 use Rattle.std.proofs.Common.{arith}
 use Rattle.alg_model.specs.Expressions.{plus}
 use Rattle.alg_classes.specs.Classes.{ClassOf, alg_in}
-use Rattle.union_classes.specs.Growth.{Only, grown_none, grown_more, one_of_all}
+use Rattle.alg_classes.specs.ListLaws.{one_of_all}
+use Rattle.alg_classes.specs.Growth.{Only}
+use Rattle.alg_classes.specs.GrowthLaws.{grown_none, grown_more}
 use Rattle.union_classes.proofs.pluses.add_firsts.Goals as goal
 
 pub loop-x-init : goal.loop-x-init

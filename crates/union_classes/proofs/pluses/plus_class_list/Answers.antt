@@ -1,7 +1,7 @@
 use Rattle.std.proofs.Common.{sym, subst}
 use Rattle.alg_model.specs.Expressions.{plus}
 use Rattle.alg_classes.specs.Classes.{ClassOf, Covers, alg_in}
-use Rattle.union_classes.specs.Growth.{Grown, Only, Over}
+use Rattle.alg_classes.specs.Growth.{Grown, Only, Over}
 use Rattle.union_classes.proofs.CoverLaws.{pluses_cover}
 use Rattle.union_classes.proofs.pluses.plus_class_list.Goals as goal
 

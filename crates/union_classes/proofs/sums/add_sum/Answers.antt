@@ -1,8 +1,8 @@
 use Rattle.std.proofs.lemmas.Result.{on_ok_weaker}
 use Rattle.alg_model.specs.Expressions.{sum}
 use Rattle.alg_classes.specs.Classes.{ClassOf, alg_in}
+use Rattle.alg_classes.specs.GrowthLaws.{grown_by_one}
 use Rattle.union_classes.specs.Sums.{beside_profile}
-use Rattle.union_classes.specs.Growth.{grown_by_one}
 use Rattle.union_classes.proofs.sums.add_sum.Goals as goal
 
 pub returns : goal.returns

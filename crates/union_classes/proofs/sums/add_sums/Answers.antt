@@ -1,9 +1,10 @@
-use Rattle.std.proofs.Common.{subst, arith}
-use Rattle.std.proofs.lemmas.List.{take_all}
+use Rattle.std.proofs.Common.{arith}
 use Rattle.alg_model.specs.Expressions.{sum}
 use Rattle.alg_classes.specs.Classes.{ClassOf, alg_in}
+use Rattle.alg_classes.specs.ListLaws.{one_of_all}
+use Rattle.alg_classes.specs.Growth.{Only}
+use Rattle.alg_classes.specs.GrowthLaws.{grown_none, grown_more, grown_all}
 use Rattle.union_classes.specs.Sums.{beside_profile}
-use Rattle.union_classes.specs.Growth.{Grown, Only, Over, grown_none, grown_more, one_of_all}
 use Rattle.union_classes.proofs.sums.add_sums.Goals as goal
 
 pub loop-y-init : goal.loop-y-init
@@ -19,5 +20,5 @@ loop-y-preserved c = λ a b e formed is_x are.
 
 pub returns : goal.returns
 returns c = λ a b e formed is_x are.
-    subst (λ ys. Grown (ClassOf (alg_in (sum a b) e)) (Over (λ q. Only (beside_profile c.args.x.now.profile q)) ys) c.args.sums.now c.loop-y.sums)
-    (take_all c.loop-y.y-index c.args.ys.now (omega arith)) (c.loop-y.invariant a b e formed is_x are)
+    grown_all (ClassOf (alg_in (sum a b) e)) (λ q. Only (beside_profile c.args.x.now.profile q)) c.args.ys.now c.loop-y.y-index
+    c.args.sums.now c.loop-y.sums (omega arith) (c.loop-y.invariant a b e formed is_x are)

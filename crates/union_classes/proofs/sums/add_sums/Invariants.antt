@@ -4,7 +4,7 @@ use Rattle.alg_model.specs.Expressions.{Expression, sum}
 use Rattle.alg_model.specs.Formation.{IsFormed}
 use Rattle.alg_model.specs.declared.edition.Edition.{Edition}
 use Rattle.alg_classes.specs.Classes.{ClassOf, alg_in}
-use Rattle.union_classes.specs.Growth.{Grown, Only, Over}
+use Rattle.alg_classes.specs.Growth.{Grown, Only, Over}
 use Rattle.union_classes.specs.Sums.{beside_profile}
 use Rattle.union_classes.proofs.sums.add_sums.Given as goal
 

@@ -1,9 +1,10 @@
 use Rattle.std.proofs.Common.{sym, subst, [], arith}
-use Rattle.std.proofs.lemmas.List.{take_all}
 use Rattle.alg_model.specs.Expressions.{sum}
 use Rattle.alg_classes.specs.Classes.{ClassOf, Covers, alg_in}
+use Rattle.alg_classes.specs.ListLaws.{one_of_all}
+use Rattle.alg_classes.specs.Growth.{Grown, Only, Over}
+use Rattle.alg_classes.specs.GrowthLaws.{grown_none, grown_more, grown_all}
 use Rattle.union_classes.specs.Sums.{beside_profile}
-use Rattle.union_classes.specs.Growth.{Grown, Only, Over, grown_none, grown_more, one_of_all}
 use Rattle.union_classes.proofs.CoverLaws.{sums_cover}
 use Rattle.union_classes.proofs.sums.sum_class_list.Goals as goal
 
@@ -27,5 +28,5 @@ returns c = λ a b e formed covers_a covers_b.
     let all_a : Covers (alg_in a e) xs = subst (Covers (alg_in a e)) (sym c.classes-x-items.ensures.classes) covers_a in
     let all_b : Covers (alg_in b e) ys = subst (Covers (alg_in b e)) (sym c.classes-ys.ensures.classes) covers_b in
     sums_cover a b e xs ys c.loop-x.sums formed all_a all_b
-    (subst (λ zs. Grown (ClassOf (alg_in (sum a b) e)) (Over (λ p. Over (λ q. Only (beside_profile p q)) ys) zs) [] c.loop-x.sums)
-    (take_all c.loop-x.x-index xs (omega arith)) (c.loop-x.invariant a b e formed all_a.each all_b.each))
+    (grown_all (ClassOf (alg_in (sum a b) e)) (λ p. Over (λ q. Only (beside_profile p q)) ys) xs c.loop-x.x-index
+    [] c.loop-x.sums (omega arith) (c.loop-x.invariant a b e formed all_a.each all_b.each))

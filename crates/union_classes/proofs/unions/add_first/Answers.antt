@@ -2,8 +2,8 @@ use Rattle.std.proofs.lemmas.Result.{on_ok_weaker}
 use Rattle.alg_model.specs.Expressions.{union}
 use Rattle.alg_model.specs.Views.{pure_value}
 use Rattle.alg_classes.specs.Classes.{ClassOf, alg_in}
+use Rattle.alg_classes.specs.GrowthLaws.{grown_by_one}
 use Rattle.union_classes.specs.Sums.{first_profile}
-use Rattle.union_classes.specs.Growth.{grown_by_one}
 use Rattle.union_classes.proofs.CoverLaws.{first_class_of}
 use Rattle.union_classes.proofs.unions.add_first.Goals as goal
 

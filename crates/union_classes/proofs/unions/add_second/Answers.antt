@@ -2,8 +2,8 @@ use Rattle.std.proofs.lemmas.Result.{on_ok_weaker}
 use Rattle.alg_model.specs.Expressions.{union}
 use Rattle.alg_model.specs.Views.{pure_value}
 use Rattle.alg_classes.specs.Classes.{ClassOf, alg_in}
+use Rattle.alg_classes.specs.GrowthLaws.{grown_by_one}
 use Rattle.union_classes.specs.Sums.{second_profile}
-use Rattle.union_classes.specs.Growth.{grown_by_one}
 use Rattle.union_classes.proofs.CoverLaws.{second_class_of}
 use Rattle.union_classes.proofs.unions.add_second.Goals as goal
 

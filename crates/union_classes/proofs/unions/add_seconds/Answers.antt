@@ -1,8 +1,10 @@
 use Rattle.std.proofs.Common.{arith}
 use Rattle.alg_model.specs.Expressions.{union}
 use Rattle.alg_classes.specs.Classes.{ClassOf, alg_in}
+use Rattle.alg_classes.specs.ListLaws.{one_of_all}
+use Rattle.alg_classes.specs.Growth.{Only}
+use Rattle.alg_classes.specs.GrowthLaws.{grown_none, grown_more}
 use Rattle.union_classes.specs.Sums.{second_profile}
-use Rattle.union_classes.specs.Growth.{Only, grown_none, grown_more, one_of_all}
 use Rattle.union_classes.proofs.unions.add_seconds.Goals as goal
 
 pub loop-y-init : goal.loop-y-init

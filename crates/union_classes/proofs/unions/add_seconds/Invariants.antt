@@ -5,7 +5,7 @@ use Rattle.alg_model.specs.Formation.{IsFormed}
 use Rattle.alg_model.specs.Views.{pure_value}
 use Rattle.alg_model.specs.declared.edition.Edition.{Edition}
 use Rattle.alg_classes.specs.Classes.{ClassOf, alg_in}
-use Rattle.union_classes.specs.Growth.{Grown, Only, Over}
+use Rattle.alg_classes.specs.Growth.{Grown, Only, Over}
 use Rattle.union_classes.specs.Made.{IsValueOf}
 use Rattle.union_classes.specs.Sums.{second_profile}
 use Rattle.union_classes.proofs.unions.add_seconds.Given as goal

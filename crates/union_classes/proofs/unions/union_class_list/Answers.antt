@@ -2,7 +2,7 @@ use Rattle.std.proofs.Common.{sym, subst}
 use Rattle.alg_model.specs.Expressions.{union}
 use Rattle.alg_model.specs.Laws.{formed_union}
 use Rattle.alg_classes.specs.Classes.{ClassOf, Covers, alg_in}
-use Rattle.union_classes.specs.Growth.{Grown, Only, Over}
+use Rattle.alg_classes.specs.Growth.{Grown, Only, Over}
 use Rattle.union_classes.specs.Sums.{first_profile}
 use Rattle.union_classes.proofs.CoverLaws.{unions_cover, never_unshown, shown_is}
 use Rattle.union_classes.proofs.unions.union_class_list.Goals as goal
