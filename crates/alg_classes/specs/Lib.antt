@@ -20,3 +20,5 @@ pub mod PairFacts
 pub mod PairLaws
 pub mod Growth
 pub mod GrowthLaws
+pub mod Gains
+pub mod GainLaws
