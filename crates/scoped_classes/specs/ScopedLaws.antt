@@ -1,5 +1,5 @@
 -- The laws of scoped classes, for the proofs of their calls.
-use Rattle.std.proofs.Common.{◌≡◌, refl, sym, ap, subst, ◌∙◌, ⊎_elim, List, [], ◌∷◌, Option, Some, None, Result, Ok, Err, OnOk}
+use Rattle.std.proofs.Common.{◌≡◌, ℕ, ◌+◌, ◌<◌, length, get_or, take, refl, sym, ap, subst, ◌∙◌, ⊎_elim, List, [], ◌∷◌, Option, Some, None, Result, Ok, Err, OnOk}
 use Rattle.alg_model.specs.declared.alg.TheConstants.{MAX_INSTANCE_NUMBER}
 use Rattle.alg_model.specs.Expressions.{Expression, scoped, PureCarrier, pairs, PureValue, pair, PureLabel, outer, inner}
 use Rattle.alg_model.specs.Views.{pure_label}
@@ -20,7 +20,7 @@ use Rattle.alg_classes.specs.RuleLaws.{IsKnown, class_from}
 use Rattle.alg_classes.specs.Constants.{constant, kept, constant_profile, kept_profile, constant_is_profile, kept_is_profile, constant_keeps, kept_keeps}
 use Rattle.alg_classes.specs.Flat.{best}
 use Rattle.alg_classes.specs.FlatLaws.{best_in}
-use Rattle.alg_classes.specs.GainLaws.{gained_by_one}
+use Rattle.alg_classes.specs.GainLaws.{gained_by_one, gained_next}
 use Rattle.alg_classes.specs.Gains.{HasGained}
 use Rattle.alg_classes.specs.Pairs.{paired, pair_profile, pair_examples}
 use Rattle.alg_classes.specs.PairLaws.{pair_settled, pair_profile_is, pair_bound, same_actions}
@@ -106,7 +106,7 @@ pub made_outer : (d : PureCarrier) (v : PureValue) (x z : Class) (y : PureExampl
     → z.profile ≡ outer_rule d v x.profile → pure_label z.label ≡ outer (pure_label x.label) v
     → ((k : Fact) → pure_examples z.examples k ≡ pair_examples (pure_examples x.examples) y k) → IsOuterClass d v x z
 made_outer d v x z y i settled small profile_is label_is examples_are = λ s second_is v_bound a.
-    let label = (a.label, subst (λ d. In d v) second_is i) in
+    let label : IsLabel (scoped s.first s.second) (outer (pure_label x.label) v) = (a.label, subst (λ d. In d v) second_is i) in
     class_from (alg_in (scoped s.first s.second) s.edition) z (outer (pure_label x.label) v) (outer_rule d v x.profile)
     (pair_examples (pure_examples x.examples) y) label_is profile_is examples_are label (a.label_bound, v_bound)
     (outer_settled s.first s.second (pure_label x.label) v x.profile (constant_profile d v) (pure_examples x.examples) y s.formed label a.settled
@@ -137,6 +137,15 @@ inner_added (Ok a) c y z old new profile_is class h =
     gained_by_one (λ (s : InnerScope c). OfSecond s.setting) (λ (s : InnerScope c). OfProduct s.setting) (inner_rule c) y z old new profile_is
     (λ s. class s.setting s.first_is) h
 inner_added (Err e) c y z old new profile_is class h = tt
+
+-- The step of a loop over the classes.
+pub outer_next : (d : PureCarrier) (v : PureValue) (xs : List Class) (i : ℕ) (x : Class) (old mid new : List Class) → i < length xs → x ≡ get_or xs i x
+    → HasOuter d v (take i xs) old mid → HasOuter d v (x ∷ []) mid new → HasOuter d v (take (i + 1) xs) old new
+outer_next d v = gained_next (λ (s : OuterScope d). OfFirst s.setting) (λ (s : OuterScope d). OfProduct s.setting) (outer_rule d v)
+
+pub inner_next : (c : PureCarrier) (ys : List Class) (i : ℕ) (y : Class) (old mid new : List Class) → i < length ys → y ≡ get_or ys i y
+    → HasInners c (take i ys) old mid → HasInners c (y ∷ []) mid new → HasInners c (take (i + 1) ys) old new
+inner_next c = gained_next (λ (s : InnerScope c). OfSecond s.setting) (λ (s : InnerScope c). OfProduct s.setting) (inner_rule c)
 
 -- The constants: the best value and the worst, where there is one, make the profiles of all.
 outer_as : (d : PureCarrier) (v w : PureValue) (xs old new : List Class) → constant_profile d v ≡ constant_profile d w
