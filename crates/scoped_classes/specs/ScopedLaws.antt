@@ -1,8 +1,9 @@
 -- The laws of scoped classes, for the proofs of their calls.
-use Rattle.std.proofs.Common.{◌≡◌, ℕ, ◌+◌, ◌<◌, length, get_or, take, refl, sym, ap, subst, ◌∙◌, ⊎_elim, List, [], ◌∷◌, Option, Some, None, Result, Ok, Err, OnOk}
+use Rattle.std.proofs.Common.{◌≡◌, ℕ, ◌+◌, ◌<◌, length, get_or, take, refl, sym, ap, subst, ◌∙◌, ⊎_elim, List, [], ◌∷◌, Option, Some, None, option_map, Result, Ok, Err, OnOk}
 use Rattle.alg_model.specs.declared.alg.TheConstants.{MAX_INSTANCE_NUMBER}
 use Rattle.alg_model.specs.Expressions.{Expression, scoped, PureCarrier, pairs, PureValue, pair, PureLabel, outer, inner}
-use Rattle.alg_model.specs.Views.{pure_label}
+use Rattle.alg_model.specs.Views.{pure_label, pure_value}
+use Rattle.alg_model.specs.declared.tree.Value.{Value}
 use Rattle.alg_model.specs.Application.{IsLabel, App}
 use Rattle.alg_model.specs.Bounds.{greatest_number}
 use Rattle.alg_model.specs.Carriers.{carrier_of, In}
@@ -185,6 +186,19 @@ outers_by_one d xs old new is worst_is g = λ v i. ⊎_elim
     (λ e. outer_as d v (best d) xs old new e g)
     (λ e. let f = e.1 in absurd (cc))
     (as_best_or_worst d v is i)
+
+-- the same of values of the program
+pub worst_of_some : (d : PureCarrier) (o : Option Value) (v : Value) → option_map pure_value o ≡ worst d → o ≡ Some v → worst d ≡ Some (pure_value v)
+worst_of_some d o v e is = sym e ∙ ap (option_map pure_value) is
+
+pub worst_of_none : (d : PureCarrier) (o : Option Value) → option_map pure_value o ≡ worst d → o ≡ None → worst d ≡ None
+worst_of_none d o e is = sym e ∙ ap (option_map pure_value) is
+
+pub outers_added : {A E : Type 0} (r : Result A E) (d : PureCarrier) (u w : PureValue) (xs old mid new : List Class) → IsCarrier d → u ≡ best d → worst d ≡ Some w
+    → HasOuter d u xs old mid → OnOk r (HasOuter d w xs mid new) → OnOk r (HasOuters d xs old new)
+outers_added (Ok a) d u w xs old mid new is best_is worst_is g h =
+    outers_by_two d w xs old mid new is worst_is (subst (λ v. HasOuter d v xs old mid) best_is g) h
+outers_added (Err e) d u w xs old mid new is best_is worst_is g h = tt
 
 -- A list that has grown by both kinds covers the product.
 covered : (c d : PureCarrier) (s : Setting) (xs ys zs : List Class)
