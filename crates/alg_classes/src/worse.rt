@@ -161,10 +161,7 @@ fn worst_value(alloc: Global, carrier: &Carrier) -> Result<Option<Value>, NoMemo
         Carrier::One => Ok(Some(Value::Unit)),
         Carrier::Named(names, _) => Ok(Some(Value::Name(last_place(names.as_slice())))),
         Carrier::Pair(c, d) => match (worst_value(alloc, c)?, worst_value(alloc, d)?) {
-            (Some(u), Some(v)) => Ok(Some(Value::Pair(
-                Box::new(alloc, u)?,
-                Box::new(alloc, v)?,
-            ))),
+            (Some(u), Some(v)) => Ok(Some(Value::Pair(Box::new(alloc, u)?, Box::new(alloc, v)?))),
             _ => Ok(None),
         },
         Carrier::Side(_, d) => match worst_value(alloc, d)? {

@@ -79,10 +79,7 @@ pub fn inner_class(alloc: Global, first: &Carrier, y: &Class) -> Result<Class, N
 fn outer_label(alloc: Global, l: &Label, value: &Value) -> Result<Label, NoMemory>
     ensures { IfOk result (λ k. pure_label k ≡ pure.outer (pure_label l.now) (pure_value value.now)) }
 {
-    Ok(Label::Outer(
-        Box::new(alloc, l.copy(alloc)?)?,
-        value.copy(alloc)?,
-    ))
+    Ok(Label::Outer(Box::new(alloc, l.copy(alloc)?)?, value.copy(alloc)?))
 }
 
 fn inner_label(alloc: Global, m: &Label) -> Result<Label, NoMemory>

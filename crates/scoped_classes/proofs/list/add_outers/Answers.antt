@@ -1,7 +1,6 @@
 use Rattle.std.proofs.Common.{sym, subst}
 use Rattle.alg_model.specs.Carriers.{In}
 use Rattle.alg_model.specs.Views.{pure_carrier, pure_value}
-use Rattle.alg_classes.specs.Flat.{best}
 use Rattle.alg_classes.specs.FlatLaws.{best_in}
 use Rattle.alg_classes.specs.Worst.{IsWithin}
 use Rattle.alg_classes.specs.WorstLaws.{best_within, worst_within}
