@@ -105,7 +105,7 @@ rank_of_last : (ranks : List ℕ) (k : ℕ) → are_ranks ranks ≡ true → k <
 rank_of_last ranks k h i = ranks_in_order 0 ranks (from_first ranks h) k (length ranks - 1) (omega arith) (omega arith)
 
 -- what the rules say of a table's values
-values_are : (names : List (List ℕ)) (ranks : List ℕ) → are_values names ranks ≡ true
+pub values_are : (names : List (List ℕ)) (ranks : List ℕ) → are_values names ranks ≡ true
     → (0 < length names) × (length ranks ≡ length names) × (are_ranks ranks ≡ true)
 values_are names ranks h = (grind (arith, nat_tests), grind (arith, nat_tests), grind (arith, nat_tests))
 
@@ -139,7 +139,7 @@ few_when_distinct : (bound : ℕ) (ns : List ℕ) → AllByRecursion (λ n. n < 
 few_when_distinct bound ns b d = length-le_from_distinct_below ns bound (all_distinct ns d) (below_any bound ns b)
 
 -- the numbers below a bound, and which they aren't
-all_below : (m n : ℕ) → m ≤ n → AllByRecursion (λ k. k < n) (numbers_below m)
+pub all_below : (m n : ℕ) → m ≤ n → AllByRecursion (λ k. k < n) (numbers_below m)
 all_below zero n h = tt
 all_below (suc m) n h = all_and_one (λ k. k < n) (numbers_below m) m (all_below m n (omega arith)) (omega arith)
 
@@ -151,11 +151,11 @@ not_among (n ∷ ns) m h =
     let q = not_among ns m h.1 in
     grind (arith, nat_tests)
 
-distinct_below : (n : ℕ) → distinct (numbers_below n) ≡ true
+pub distinct_below : (n : ℕ) → distinct (numbers_below n) ≡ true
 distinct_below zero = refl
 distinct_below (suc n) = distinct_and_one (numbers_below n) n (distinct_below n) (not_among (numbers_below n) n (all_below n n (omega arith)))
 
-length_below : (n : ℕ) → length (numbers_below n) ≡ n
+pub length_below : (n : ℕ) → length (numbers_below n) ≡ n
 length_below zero = refl
 length_below (suc n) = let e = length_below n in length-append (numbers_below n) (n ∷ []) ∙ omega arith
 

@@ -9,6 +9,8 @@ pub mod Flat
 pub mod FlatLaws
 pub mod CarrierLaws
 pub mod Constants
+pub mod Worst
+pub mod WorstLaws
 pub mod Inhabited
 pub mod RuleLaws
 pub mod Pairs
@@ -19,3 +21,5 @@ pub mod PairLaws
 pub mod ListLaws
 pub mod Growth
 pub mod GrowthLaws
+pub mod Gains
+pub mod GainLaws

@@ -25,4 +25,4 @@ pub use pairs::{pair_examples, pair_profile};
 pub use profile::Profile;
 pub use property::{Instance, Property};
 pub use shape::{Form, Shaped};
-pub use worse::{apart, worse_than};
+pub use worse::{apart, best, worse_than, worst};

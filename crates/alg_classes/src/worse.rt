@@ -8,14 +8,15 @@ ghost use Rattle.alg_model.specs.declared.alg.TheConstants.{MAX_INSTANCE_NUMBER,
 ghost use Rattle.alg_model.specs.declared.edition.TheConstants.{MAX_LABEL_NUMBER};
 ghost use Rattle.alg_classes.specs.Constants.{some_worse, two_apart, pure_two, IsWorseIfAny, AreApartIfAny, TwoAtMost};
 ghost use Rattle.alg_classes.specs.Flat.{best, numbers_below, worse_than};
+ghost use Rattle.alg_classes.specs.Worst.{worst, IsWorstIfAny};
 
 use crate::{has_worse, is_flat};
 use alg_model::{Amount, Carrier, Value};
 use meta_base::{List, NoMemory, Text};
 use std::alloc::Global;
 
-// A value of the carrier to which none is preferred.
-pub(crate) fn best(alloc: Global, carrier: &Carrier) -> Result<Value, NoMemory>
+/// A value of the carrier to which none is preferred. It is refused for want of memory alone.
+pub fn best(alloc: Global, carrier: &Carrier) -> Result<Value, NoMemory>
     ensures value { IfOk result (λ v. pure_value v ≡ best (pure_carrier carrier.now)) }
     ensures small { IfOk result (λ v. AtMost MAX_LABEL_NUMBER (pure_value v)) }
 {
@@ -49,7 +50,7 @@ fn numbers_below(alloc: Global, count: u64) -> Result<List<u64>, NoMemory>
 #[tactic(auto, using(crate::specs::FlatLaws::below_at_most))]
 fn longest(alloc: Global, count: u64) -> Result<Value, NoMemory>
     ensures value { IfOk result (λ v. pure_value v ≡ symbols (numbers_below count)) }
-    ensures small { IfOk result (λ v. AtMost MAX_INSTANCE_NUMBER (pure_value v)) }
+    ensures small { IfOk result (λ v. AtMost MAX_LABEL_NUMBER (pure_value v)) }
 {
     Ok(Value::Symbols(numbers_below(alloc, count)?))
 }
@@ -143,6 +144,42 @@ pub fn worse_than(
     } else {
         Ok(None)
     }
+}
+
+// The worst value of the carrier, if there is one.
+fn worst_value(alloc: Global, carrier: &Carrier) -> Result<Option<Value>, NoMemory>
+    requires { IsCarrier (pure_carrier carrier.now) }
+    ensures value { IfOk result (λ w. option_map pure_value w ≡ worst (pure_carrier carrier.now)) }
+    ensures small { IfOk result (λ w. IfSome w (λ w. AtMost MAX_LABEL_NUMBER (pure_value w))) }
+{
+    match carrier {
+        Carrier::Whole | Carrier::Seqs(_) => Ok(None),
+        Carrier::UpTo(top) => Ok(Some(Value::Number(Amount::from(*top)))),
+        Carrier::DownFrom(_) => Ok(Some(Value::Number(0))),
+        Carrier::SimSeqs(count) => Ok(Some(longest(alloc, *count)?)),
+        Carrier::Sets(_) => Ok(Some(Value::Marks(0))),
+        Carrier::One => Ok(Some(Value::Unit)),
+        Carrier::Named(names, _) => Ok(Some(Value::Name(last_place(names.as_slice())))),
+        Carrier::Pair(c, d) => match (worst_value(alloc, c)?, worst_value(alloc, d)?) {
+            (Some(u), Some(v)) => Ok(Some(Value::Pair(Box::new(alloc, u)?, Box::new(alloc, v)?))),
+            _ => Ok(None),
+        },
+        Carrier::Side(_, d) => match worst_value(alloc, d)? {
+            Some(v) => Ok(Some(Value::Second(Box::new(alloc, v)?))),
+            None => Ok(None),
+        },
+    }
+}
+
+/// A value of the carrier than which none is worse, or `None` if each has a worse one. It is refused for
+/// want of memory alone.
+pub fn worst(alloc: Global, carrier: &Carrier) -> Result<Option<Value>, NoMemory>
+    requires { IsCarrier (pure_carrier carrier.now) }
+    ensures value { IfOk result (λ w. option_map pure_value w ≡ worst (pure_carrier carrier.now)) }
+    ensures worst { IfOk result (λ w. IsWorstIfAny (pure_carrier carrier.now) (option_map pure_value w)) }
+    ensures small { IfOk result (λ w. IfSome w (λ w. AtMost MAX_LABEL_NUMBER (pure_value w))) }
+{
+    worst_value(alloc, carrier)
 }
 
 /// Two values of the carrier, the first preferred to the second, or `None` if all are equivalent. It is

@@ -1,0 +1,1 @@
+-- no lemmas: the laws stand in specs/
