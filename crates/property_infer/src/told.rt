@@ -12,7 +12,9 @@ use alg_model::{Label, Value};
 use meta_base::NoMemory;
 use std::alloc::Global;
 
-// The verdicts that the classes tell.
+/// The verdicts that the classes tell: yes where all have the property, else no with the example of the first
+/// that lacks it. Where the classes cover an algebra, they are exact for all of its labels; of one class they
+/// are exact for its label. It is refused for want of memory alone.
 pub fn verdicts_of(alloc: Global, classes: &[Class]) -> Result<Verdicts, NoMemory>
     ensures { IfOk result (λ verdicts. pure_verdicts verdicts ≡ verdicts_of classes.now) }
 {
