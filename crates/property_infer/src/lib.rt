@@ -2,8 +2,10 @@
 //! It knows no operator, and stands on `alg_classes`.
 #![tactic(auto)]
 
+mod laws;
 mod told;
 mod verdict;
 
+pub use laws::{verdicts_of_classes_are_exact, verdicts_of_one_class_are_exact};
 pub use told::verdicts_of;
 pub use verdict::{Verdict, Verdicts};
