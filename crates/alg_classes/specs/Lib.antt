@@ -7,7 +7,6 @@ pub mod ClassLaws
 pub mod Shapes
 pub mod Flat
 pub mod FlatLaws
-pub mod CarrierLaws
 pub mod Constants
 pub mod Worst
 pub mod WorstLaws

@@ -1,6 +1,5 @@
 mod Refuted
 mod Nodes
 mod Texts
-mod Members
 mod Symbols
 mod Sets

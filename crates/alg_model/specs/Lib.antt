@@ -17,4 +17,5 @@ pub mod BoundLaws
 pub mod PreferenceLaws
 pub mod ImageLaws
 pub mod PartLaws
+pub mod CarrierLaws
 pub mod Laws

@@ -2,7 +2,7 @@ ghost use Rattle.std.specs.Prelude.{◌≡◌, ◌≤◌, ◌<◌, ◌==◌, ◌
 ghost use Rattle.std.specs.List.{list_any};
 ghost use Rattle.alg_model.specs.declared.edition.TheConstants.{MAX_LABEL_NUMBER};
 ghost use Rattle.alg_model.specs.declared.alg.TheConstants.{MAX_VALUE_NUMBER};
-ghost use Rattle.alg_model.specs.Expressions.{lex, scoped, union, sum, number, number_label, pair, first, second};
+ghost use Rattle.alg_model.specs.Expressions.{seq, simseq, tags, guard, lex, scoped, union, sum, number, number_label, pair, first, second};
 ghost use Rattle.alg_model.specs.Views.{expression_of, pure_value, pure_label};
 ghost use Rattle.alg_model.specs.Carriers.{carrier_of, In};
 ghost use Rattle.alg_model.specs.Application.{IsLabel, App, has_mark, image_of};
@@ -65,31 +65,10 @@ fn image(
             Label::Keep => Ok(Some(value.copy(alloc)?)),
             _ => Ok(None),
         },
-        Tree::Seq { .. } => match (label, value) {
-            (Label::Symbol(n), Value::Symbols(ns)) => {
-                Ok(Some(Value::Symbols(appended(alloc, ns, *n)?)))
-            }
-            _ => Ok(None),
-        },
-        Tree::SimSeq { .. } => match (label, value) {
-            (Label::Symbol(n), Value::Symbols(ns)) if !has_symbol(ns, *n) => {
-                Ok(Some(Value::Symbols(appended(alloc, ns, *n)?)))
-            }
-            _ => Ok(None),
-        },
-        Tree::Tags { .. } => match (label, value) {
-            (Label::Keep, Value::Marks(m)) => Ok(Some(Value::Marks(*m))),
-            (Label::Mark(k), Value::Marks(m)) => Ok(Some(Value::Marks(m | 1 << *k))),
-            (Label::Unmark(k), Value::Marks(m)) => {
-                Ok(Some(Value::Marks(m & (u64::MAX - (1 << *k)))))
-            }
-            _ => Ok(None),
-        },
-        Tree::Guard { .. } => match (label, value) {
-            (Label::Need(k), Value::Marks(m)) if is_marked(*m, *k) => Ok(Some(Value::Marks(*m))),
-            (Label::Bar(k), Value::Marks(m)) if !is_marked(*m, *k) => Ok(Some(Value::Marks(*m))),
-            _ => Ok(None),
-        },
+        Tree::Seq { symbols } => seq_image(alloc, *symbols, label, value),
+        Tree::SimSeq { symbols } => simseq_image(alloc, *symbols, label, value),
+        Tree::Tags { count } => Ok(tags_image(*count, label, value)),
+        Tree::Guard { count } => Ok(guard_image(*count, label, value)),
         Tree::Gate => match label {
             Label::Allow => Ok(Some(Value::Unit)),
             _ => Ok(None),
@@ -196,6 +175,61 @@ fn sum_image(
         (Label::Both(l, _), Value::First(u)) => in_first(alloc, image(alloc, a, l, u)?),
         (Label::Both(_, m), Value::Second(v)) => in_second(alloc, image(alloc, b, m, v)?),
         _ => Ok(None),
+    }
+}
+
+fn seq_image(
+    alloc: Global,
+    count: u64,
+    label: &Label,
+    value: &Value,
+) -> Result<Option<Value>, NoMemory>
+    ensures { IfOk result (IsImage (seq count) label.now value.now) }
+{
+    match (label, value) {
+        (Label::Symbol(n), Value::Symbols(ns)) => {
+            Ok(Some(Value::Symbols(appended(alloc, ns, *n)?)))
+        }
+        _ => Ok(None),
+    }
+}
+
+fn simseq_image(
+    alloc: Global,
+    count: u64,
+    label: &Label,
+    value: &Value,
+) -> Result<Option<Value>, NoMemory>
+    ensures { IfOk result (IsImage (simseq count) label.now value.now) }
+{
+    match (label, value) {
+        (Label::Symbol(n), Value::Symbols(ns)) if !has_symbol(ns, *n) => {
+            Ok(Some(Value::Symbols(appended(alloc, ns, *n)?)))
+        }
+        _ => Ok(None),
+    }
+}
+
+fn tags_image(count: u64, label: &Label, value: &Value) -> Option<Value>
+    requires { MayActOn (tags count) label.now value.now }
+    ensures { IsImage (tags count) label.now value.now result }
+{
+    match (label, value) {
+        (Label::Keep, Value::Marks(m)) => Some(Value::Marks(*m)),
+        (Label::Mark(k), Value::Marks(m)) => Some(Value::Marks(m | 1 << *k)),
+        (Label::Unmark(k), Value::Marks(m)) => Some(Value::Marks(m & (u64::MAX - (1 << *k)))),
+        _ => None,
+    }
+}
+
+fn guard_image(count: u64, label: &Label, value: &Value) -> Option<Value>
+    requires { MayActOn (guard count) label.now value.now }
+    ensures { IsImage (guard count) label.now value.now result }
+{
+    match (label, value) {
+        (Label::Need(k), Value::Marks(m)) if is_marked(*m, *k) => Some(Value::Marks(*m)),
+        (Label::Bar(k), Value::Marks(m)) if !is_marked(*m, *k) => Some(Value::Marks(*m)),
+        _ => None,
     }
 }
 

@@ -28,8 +28,9 @@ pub fn carrier_of(alloc: Global, alg: &Alg) -> Result<Carrier, NoMemory>
     tree_carrier(alloc, alg.tree())
 }
 
-// The carrier of a tree's expression.
-pub(crate) fn tree_carrier(alloc: Global, tree: &Tree) -> Result<Carrier, NoMemory>
+/// The carrier of a tree's expression, which need not meet the formation rules. It is refused for want of
+/// memory alone.
+pub fn tree_carrier(alloc: Global, tree: &Tree) -> Result<Carrier, NoMemory>
     ensures { IfOk result (λ c. pure_carrier c ≡ carrier_of (expression_of tree.now)) }
 {
     match tree {

@@ -30,7 +30,7 @@ pub fn images_are_values()
 {}
 
 /// The carrier of an algebra is one that an algebra may have, and so are its parts.
-#[tactic(auto, using(crate::proofs::Members::carriers_are))]
+#[tactic(auto, using(crate::specs::CarrierLaws::carriers_are))]
 pub fn carriers_are_carriers()
     ensures { (a : Expression) → IsFormed a → IsCarrier (carrier_of a) }
 {}

@@ -22,7 +22,7 @@ pub use alg::{
 };
 pub use algebra::{Algebra, TreeAlgebra};
 pub use application::apply;
-pub use carrier::{carrier_of, have_same_carrier, same_carrier};
+pub use carrier::{carrier_of, have_same_carrier, same_carrier, tree_carrier};
 pub use edition::{Edition, MAX_LABEL_NUMBER};
 pub use laws::{
     carriers_are_carriers, images_are_bounded, images_are_values, preference_is_total_preorder,

@@ -15,7 +15,7 @@ use Rattle.alg_classes.specs.Facts.{Fact}
 use Rattle.alg_classes.specs.Profiles.{IsProfile, ProfileOf}
 use Rattle.alg_classes.specs.Classes.{PureExamples, pure_examples, IsSettledBy, ExamplesAtMost, alg_in, HasProfile, AreDistinct, IsGrownBy, IsCovered}
 use Rattle.alg_classes.specs.ClassLaws.{images_kept}
-use Rattle.alg_classes.specs.CarrierLaws.{carriers_are}
+use Rattle.alg_model.specs.CarrierLaws.{carriers_are}
 use Rattle.alg_classes.specs.Inhabited.{carrier_inhabited}
 use Rattle.alg_classes.specs.RuleLaws.{IsKnown, class_from}
 use Rattle.alg_classes.specs.Constants.{constant, kept, constant_profile, kept_profile, constant_is_profile, kept_is_profile, constant_keeps, kept_keeps}

@@ -15,7 +15,7 @@ use Rattle.alg_classes.specs.declared.class.Class.{Class}
 use Rattle.alg_classes.specs.Profiles.{ProfileOf}
 use Rattle.alg_classes.specs.Classes.{pure_examples, IsSettledBy, ExamplesAtMost, ClassOf, alg_in, IsGrownBy, IsCovered, Covers}
 use Rattle.alg_classes.specs.ClassLaws.{class_profile}
-use Rattle.alg_classes.specs.CarrierLaws.{carriers_are}
+use Rattle.alg_model.specs.CarrierLaws.{carriers_are}
 use Rattle.alg_classes.specs.Constants.{constant, kept, constant_profile, kept_profile, left_profile, right_profile}
 use Rattle.alg_classes.specs.RuleLaws.{class_from}
 use Rattle.alg_classes.specs.GrowthLaws.{grown_by_one}

@@ -2,7 +2,7 @@ use Rattle.std.proofs.Common.{sym, subst}
 use Rattle.std.proofs.lemmas.Result.{IfOk-weaker}
 use Rattle.alg_model.specs.Views.{expression_of}
 use Rattle.alg_model.specs.Formation.{IsCarrier}
-use Rattle.alg_model.proofs.Members.{carriers_of_equal}
+use Rattle.alg_model.specs.CarrierLaws.{carriers_of_equal}
 use Rattle.alg_model.proofs.carrier.carrier_of.Goals as goal
 
 pub returns-clause-may_be : goal.returns-clause-may_be

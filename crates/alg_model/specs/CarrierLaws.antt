@@ -1,5 +1,5 @@
--- The carrier of a formed expression is one that an algebra may have. Lemmas, so that proofs of the crates
--- above may cite them.
+-- The carrier of a formed expression is one that an algebra may have. Lemmas, so that proofs of other crates
+-- may cite them.
 use Rattle.std.proofs.Common.{◌≡◌, ◌&&◌, true, arith}
 use Rattle.std.proofs.lemmas.Bool.Decides.{nat_tests}
 use Rattle.alg_model.specs.declared.tree.TableSpec.{TableSpec}
@@ -33,3 +33,7 @@ rules_make_carriers (right a) h n = rules_make_carriers a h n
 
 pub carriers_are : (a : Expression) → IsFormed a → IsCarrier (carrier_of a)
 carriers_are a f = rules_make_carriers a f.ranges f.names
+
+-- the same of an equal expression
+pub carriers_of_equal : (a b : Expression) → a ≡ b → IsFormed b → IsCarrier (carrier_of a)
+carriers_of_equal a b e f = rw e (carriers_are b f)
