@@ -1,16 +1,18 @@
--- What the program makes: examples that are given ones, classes of composed labels, and a value that the
--- classes of an algebra show.
+-- What the program makes: examples that are given ones, classes of composed labels, profiles of constant ones,
+-- and a value that the classes of an algebra show.
 use Rattle.std.specs.Prelude.{◌≡◌, List, [], ◌∷◌, Option, Some, None, option_map}
 use Rattle.alg_model.specs.declared.alg.TheConstants.{MAX_INSTANCE_NUMBER}
 use Rattle.alg_model.specs.declared.tree.Value.{Value}
-use Rattle.alg_model.specs.Expressions.{PureAlg, PureValue, both_label, first_label, second_label}
+use Rattle.alg_model.specs.Expressions.{PureAlg, PureCarrier, PureValue, both_label, first_label, second_label}
 use Rattle.alg_model.specs.Views.{pure_label}
 use Rattle.alg_model.specs.Carriers.{carrier_of, In}
 use Rattle.alg_model.specs.Bounds.{AtMost}
+use Rattle.alg_classes.specs.declared.profile.Profile.{Profile}
 use Rattle.alg_classes.specs.declared.class.Examples.{Examples}
 use Rattle.alg_classes.specs.declared.class.Class.{Class}
 use Rattle.alg_classes.specs.Facts.{total, dead, mono, strict, iso, canc, cond, narrow}
 use Rattle.alg_classes.specs.Classes.{PureExamples, pure_examples, pure_at, pure_between}
+use Rattle.alg_classes.specs.Constants.{constant_profile}
 use Rattle.union_classes.specs.Sums.{beside_profile, first_profile, second_profile, beside_examples, denied_examples}
 
 -- the examples are these
@@ -40,6 +42,10 @@ pub record IsSecondOf (y : Class) (other : PureValue) (z : Class) : Type 0 where
   pub profile : z.profile ≡ second_profile y.profile
   pub label : pure_label z.label ≡ second_label (pure_label y.label)
   pub examples : AreExamples z.examples (beside_examples (denied_examples other) (pure_examples y.examples))
+
+-- the profiles of the labels that send every value of the carrier to one of them
+abbrev pub OfConstants : PureCarrier → Profile → Type 0
+OfConstants c p = (v : PureValue) × In c v × (p ≡ constant_profile c v)
 
 -- a value of the algebra's carrier whose numbers may stand in an instance
 abbrev pub IsValueOf : PureAlg → PureValue → Type 0

@@ -15,7 +15,7 @@ mod rights;
 mod sums;
 mod unions;
 
-pub use lefts::{const_class, const_profile};
+pub use lefts::{const_class, const_profile, left_class_list};
 pub use pluses::{plus_class_list, plus_first_class, plus_second_class};
 pub use profiles::{sum_profile, union_first_profile, union_second_profile};
 pub use rights::{keep_class, keep_profile, right_class_list};
