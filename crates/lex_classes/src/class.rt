@@ -21,6 +21,8 @@ pub fn lex_profile(l: &Profile, m: &Profile) -> Profile
 /// The class of a lexical label from those of its two labels. It is refused for want of memory alone.
 pub fn lex_class(alloc: Global, x: &Class, y: &Class) -> Result<Class, NoMemory>
     ensures profile { IfOk result (λ z. z.profile ≡ rule.pair_profile x.now.profile y.now.profile) }
+    ensures label { IfOk result (λ z.
+        pure_label z.label ≡ pure.pair_label (pure_label x.now.label) (pure_label y.now.label)) }
     ensures class { IfOk result (λ z. IsLexClass x.now y.now z) }
 {
     Ok(Class {

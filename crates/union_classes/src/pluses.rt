@@ -1,7 +1,9 @@
 ghost use Rattle.std.specs.Prelude.{◌≡◌, IfOk, OnOk};
 ghost use Rattle.std.specs.List.{AllByRecursion};
 ghost use Rattle.alg_model.specs.Expressions.{Expression, plus};
+ghost use Rattle.alg_model.specs.Expressions as pure;
 ghost use Rattle.alg_model.specs.Formation.{IsFormed};
+ghost use Rattle.alg_model.specs.Views.{pure_label};
 ghost use Rattle.alg_model.specs.declared.edition.Edition.{Edition};
 ghost use Rattle.alg_classes.specs.Classes.{ClassOf, Covers, alg_in};
 ghost use Rattle.alg_classes.specs.Growth.{Grown, Only, Over};
@@ -16,6 +18,7 @@ use std::alloc::Global;
 /// alone.
 pub fn plus_first_class(alloc: Global, x: &Class) -> Result<Class, NoMemory>
     ensures profile { IfOk result (λ z. z.profile ≡ x.now.profile) }
+    ensures label { IfOk result (λ z. pure_label z.label ≡ pure.first_label (pure_label x.now.label)) }
     ensures class { (a b : Expression) (e : Edition) → IsFormed (plus a b) →
         ClassOf (alg_in a e) x.now → IfOk result (ClassOf (alg_in (plus a b) e)) }
 {
@@ -30,6 +33,7 @@ pub fn plus_first_class(alloc: Global, x: &Class) -> Result<Class, NoMemory>
 /// alone.
 pub fn plus_second_class(alloc: Global, y: &Class) -> Result<Class, NoMemory>
     ensures profile { IfOk result (λ z. z.profile ≡ y.now.profile) }
+    ensures label { IfOk result (λ z. pure_label z.label ≡ pure.second_label (pure_label y.now.label)) }
     ensures class { (a b : Expression) (e : Edition) → IsFormed (plus a b) →
         ClassOf (alg_in b e) y.now → IfOk result (ClassOf (alg_in (plus a b) e)) }
 {

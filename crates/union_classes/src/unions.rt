@@ -2,8 +2,9 @@ ghost use Rattle.std.specs.Prelude.{◌≡◌, option_map, IfOk, OnOk};
 ghost use Rattle.std.specs.List.{AllByRecursion};
 ghost use Rattle.alg_model.specs.Carriers.{carrier_of};
 ghost use Rattle.alg_model.specs.Expressions.{Expression, union};
+ghost use Rattle.alg_model.specs.Expressions as pure;
 ghost use Rattle.alg_model.specs.Formation.{IsFormed, IsCarrier};
-ghost use Rattle.alg_model.specs.Views.{pure_carrier, pure_value};
+ghost use Rattle.alg_model.specs.Views.{pure_carrier, pure_label, pure_value};
 ghost use Rattle.alg_model.specs.declared.edition.Edition.{Edition};
 ghost use Rattle.alg_classes.specs.Classes.{ClassOf, Covers, alg_in};
 ghost use Rattle.alg_classes.specs.Growth.{Grown, Only, Over};
@@ -45,7 +46,8 @@ fn second_class(alloc: Global, y: &Class, other: &Value) -> Result<Class, NoMemo
 /// side. It is refused for want of memory alone.
 pub fn union_first_class(alloc: Global, x: &Class, second: &Carrier) -> Result<Class, NoMemory>
     requires { IsCarrier (pure_carrier second.now) }
-    ensures { (a b : Expression) (e : Edition) → IsFormed (union a b) → pure_carrier second.now ≡ carrier_of b →
+    ensures label { IfOk result (λ z. pure_label z.label ≡ pure.first_label (pure_label x.now.label)) }
+    ensures class { (a b : Expression) (e : Edition) → IsFormed (union a b) → pure_carrier second.now ≡ carrier_of b →
         ClassOf (alg_in a e) x.now → IfOk result (ClassOf (alg_in (union a b) e)) }
 {
     first_class(alloc, x, &second.member(alloc)?)
@@ -55,7 +57,8 @@ pub fn union_first_class(alloc: Global, x: &Class, second: &Carrier) -> Result<C
 /// side. It is refused for want of memory alone.
 pub fn union_second_class(alloc: Global, y: &Class, first: &Carrier) -> Result<Class, NoMemory>
     requires { IsCarrier (pure_carrier first.now) }
-    ensures { (a b : Expression) (e : Edition) → IsFormed (union a b) → pure_carrier first.now ≡ carrier_of a →
+    ensures label { IfOk result (λ z. pure_label z.label ≡ pure.second_label (pure_label y.now.label)) }
+    ensures class { (a b : Expression) (e : Edition) → IsFormed (union a b) → pure_carrier first.now ≡ carrier_of a →
         ClassOf (alg_in b e) y.now → IfOk result (ClassOf (alg_in (union a b) e)) }
 {
     second_class(alloc, y, &first.member(alloc)?)

@@ -11,8 +11,8 @@ use Rattle.union_classes.specs.Made.{IsSecondOf, IsValueOf}
 use Rattle.union_classes.proofs.CoverLaws.{second_class_of}
 use Rattle.union_classes.proofs.unions.union_second_class.Goals as goal
 
-pub returns : goal.returns
-returns c = λ a b e formed carrier is.
+pub returns-clause-class : goal.returns-clause-class
+returns-clause-class c = λ a b e formed carrier is.
     let v = pure_value c.in_ok-member.field-0 in
     let other : IsValueOf (alg_in a e) v = (
       subst (λ d. In d v) carrier c.in_ok-member.ensures.member,
