@@ -1,3 +1,6 @@
 pub mod Views
 pub mod Told
+pub mod Labels
+pub mod PartLaws
 pub mod ToldLaws
+pub mod LabelLaws

@@ -1,10 +1,11 @@
 -- What classes of labels tell of a property: the first example against it, if there is one.
-use Rattle.std.specs.Prelude.{List, [], ◌∷◌, Option, Some, None, option_map}
+use Rattle.std.specs.Prelude.{List, [], ◌∷◌, Option, Some, None, option_map, Bool, ◌&&◌}
 use Rattle.std.specs.Option.{option_or}
 use Rattle.alg_model.specs.Expressions.{PureLabel}
 use Rattle.alg_model.specs.Properties.{PureProperty, monotone, strict, isotone, cancellative, total}
 use Rattle.alg_model.specs.Verdicts.{PureInstance, PureVerdict, holds, fails, PureVerdicts}
 use Rattle.alg_model.specs.Views.{pure_label}
+use Rattle.alg_classes.specs.declared.profile.Profile.{Profile}
 use Rattle.alg_classes.specs.declared.class.Class.{Class}
 use Rattle.alg_classes.specs.Facts as fact
 use Rattle.alg_classes.specs.Facts.{PureExample, at, between}
@@ -45,3 +46,11 @@ verdicts_of classes = record {
   cancellative = told (first_lack cancellative classes);
   total = told (first_lack total classes);
 }
+
+-- a label with this profile has all properties
+abbrev pub has_all : Profile → Bool
+has_all p = p.mono && p.strict && p.iso && p.canc && p.total
+
+-- the verdicts on such a label
+abbrev pub all_hold : PureVerdicts
+all_hold = record { monotone = holds; strict = holds; isotone = holds; cancellative = holds; total = holds }

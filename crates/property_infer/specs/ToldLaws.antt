@@ -1,8 +1,9 @@
 -- What classes tell is exact: for all labels where they cover the algebra, and for one where it is the class's.
-use Rattle.std.proofs.Common.{◌≡◌, ℕ, refl, sym, ap, subst, ◌∙◌, List, [], ◌∷◌, Option, Some, None, Bool, true, false, inl, ⊎_elim}
+use Rattle.std.proofs.Common.{◌≡◌, ◌&&◌, ℕ, arith, refl, sym, ap, subst, ◌∙◌, List, [], ◌∷◌, Option, Some, None, Bool, true, false, inl, ⊎_elim}
+use Rattle.std.proofs.lemmas.Bool.Decides.{nat_tests}
 use Rattle.std.specs.Prelude.{option_map}
 use Rattle.std.specs.Option.{option_or}
-use Rattle.std.specs.List.{AllByRecursion}
+use Rattle.std.specs.List.{AllByRecursion, Contains}
 use Rattle.alg_model.specs.Expressions.{Expression, PureAlg, PureLabel, PureValue}
 use Rattle.alg_model.specs.Carriers.{carrier_of}
 use Rattle.alg_model.specs.Application.{IsLabel, App}
@@ -16,9 +17,10 @@ use Rattle.alg_classes.specs.declared.profile.Profile.{Profile}
 use Rattle.alg_classes.specs.declared.class.Class.{Class}
 use Rattle.alg_classes.specs.Facts.{PureExample, at, between, Holds, Refutes}
 use Rattle.alg_classes.specs.Profiles.{bit, ProfileOf}
-use Rattle.alg_classes.specs.Classes.{pure_examples, Settles, ExampleAtMost, ClassOf, HasProfile, Covers}
+use Rattle.alg_classes.specs.Classes.{pure_examples, Settles, ExampleAtMost, ClassOf, HasProfile, IsCovered, Covers}
 use Rattle.alg_classes.specs.ClassLaws.{class_profile}
-use Rattle.property_infer.specs.Told.{fact_of, instance_at, lack_of, first_lack, told, verdicts_of}
+use Rattle.property_infer.specs.Labels.{CoversLabels}
+use Rattle.property_infer.specs.Told.{fact_of, instance_at, lack_of, first_lack, told, verdicts_of, has_all, all_hold}
 
 -- a property is its fact
 fact_has : (p : PureProperty) (a : Expression) (l : PureLabel) → Holds (carrier_of a) (App a l) (fact_of p) → Has p a l
@@ -109,7 +111,7 @@ has_profile_too p (class ∷ classes) q all has = ⊎_elim
 
 -- the profile of each label of the set is in the list
 abbrev pub CoversSet : PureAlg → (PureLabel → Type 0) → List Class → Type 0
-CoversSet a S classes = (l : PureLabel) → S l → (q : Profile) × ProfileOf a.expression l q × HasProfile classes q
+CoversSet a S classes = (l : PureLabel) → S l → IsCovered a classes l
 
 exact_by : (a : PureAlg) (p : PureProperty) (S : PureLabel → Type 0) (classes : List Class) → CoversSet a S classes → (o : Option PureInstance)
     → ListTells a p S classes o → IsExact p a.expression S (told o)
@@ -155,6 +157,15 @@ pub told_of_all_bounded : (a : PureAlg) (classes : List Class) → Covers a clas
     → VerdictsAtMost (greatest_number a.edition) MAX_INSTANCE_NUMBER (verdicts_of classes)
 told_of_all_bounded a classes c = told_bounded a (IsLabel a.expression) classes c.each (labels_of a classes c.each)
 
+-- for the labels of a list
+pub told_of_labels : (a : PureAlg) (labels : List PureLabel) (classes : List Class) → CoversLabels a labels classes
+    → ExactFor a.expression (Contains labels) (verdicts_of classes)
+told_of_labels a labels classes c = told_exact a (Contains labels) classes c.each c.among c.covered
+
+pub told_of_labels_bounded : (a : PureAlg) (labels : List PureLabel) (classes : List Class) → CoversLabels a labels classes
+    → VerdictsAtMost (greatest_number a.edition) MAX_INSTANCE_NUMBER (verdicts_of classes)
+told_of_labels_bounded a labels classes c = told_bounded a (Contains labels) classes c.each c.among
+
 -- for the label of one class
 pub told_of_one : (a : PureAlg) (class : Class) (l : PureLabel) → ClassOf a class → pure_label class.label ≡ l
     → ExactFor a.expression (λ m. m ≡ l) (verdicts_of (class ∷ []))
@@ -164,3 +175,30 @@ told_of_one a class l is same = told_exact a (λ m. m ≡ l) (class ∷ []) (is,
 pub told_of_one_bounded : (a : PureAlg) (class : Class) → ClassOf a class
     → VerdictsAtMost (greatest_number a.edition) MAX_INSTANCE_NUMBER (verdicts_of (class ∷ []))
 told_of_one_bounded a class is = told_bounded a (λ m. m ≡ pure_label class.label) (class ∷ []) (is, tt) (refl, tt)
+
+-- Where the profile has all properties, they hold, and nothing is shown.
+
+all_held : (a : PureAlg) (p : Profile) (l : PureLabel) → ProfileOf a.expression l p → (q : PureProperty) → bit p (fact_of q) ≡ true → Has q a.expression l
+all_held a p l is q e = fact_has q a.expression l ((is (fact_of q)).0 e)
+
+has_each : (p : Profile) → has_all p ≡ true → (q : PureProperty) → bit p (fact_of q) ≡ true
+has_each p h monotone = grind (arith, nat_tests)
+has_each p h strict = grind (arith, nat_tests)
+has_each p h isotone = grind (arith, nat_tests)
+has_each p h cancellative = grind (arith, nat_tests)
+has_each p h total = grind (arith, nat_tests)
+
+pub all_hold_exact : (a : PureAlg) (p : Profile) (l : PureLabel) → ProfileOf a.expression l p → has_all p ≡ true
+    → ExactFor a.expression (λ m. m ≡ l) all_hold
+all_hold_exact a p l is h monotone = λ m e. subst (λ m. Has monotone a.expression m) (sym e) (all_held a p l is monotone (has_each p h monotone))
+all_hold_exact a p l is h strict = λ m e. subst (λ m. Has strict a.expression m) (sym e) (all_held a p l is strict (has_each p h strict))
+all_hold_exact a p l is h isotone = λ m e. subst (λ m. Has isotone a.expression m) (sym e) (all_held a p l is isotone (has_each p h isotone))
+all_hold_exact a p l is h cancellative = λ m e. subst (λ m. Has cancellative a.expression m) (sym e) (all_held a p l is cancellative (has_each p h cancellative))
+all_hold_exact a p l is h total = λ m e. subst (λ m. Has total a.expression m) (sym e) (all_held a p l is total (has_each p h total))
+
+pub all_hold_bounded : (m n : ℕ) → VerdictsAtMost m n all_hold
+all_hold_bounded m n monotone = tt
+all_hold_bounded m n strict = tt
+all_hold_bounded m n isotone = tt
+all_hold_bounded m n cancellative = tt
+all_hold_bounded m n total = tt

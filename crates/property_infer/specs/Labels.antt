@@ -1,0 +1,13 @@
+-- Classes that cover labels of a list.
+use Rattle.std.specs.Prelude.{List}
+use Rattle.std.specs.List.{AllByRecursion, Contains}
+use Rattle.alg_model.specs.Expressions.{PureAlg, PureLabel}
+use Rattle.alg_model.specs.Views.{pure_label}
+use Rattle.alg_classes.specs.declared.class.Class.{Class}
+use Rattle.alg_classes.specs.Classes.{ClassOf, IsCovered}
+
+-- each class is of one of the labels, and the profile of each of them is there
+pub record CoversLabels (a : PureAlg) (labels : List PureLabel) (classes : List Class) : Type 0 where
+  pub each : AllByRecursion (ClassOf a) classes
+  pub among : AllByRecursion (λ (class : Class). Contains labels (pure_label class.label)) classes
+  pub covered : (l : PureLabel) → Contains labels l → IsCovered a classes l
