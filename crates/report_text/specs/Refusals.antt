@@ -49,13 +49,19 @@ arc_text net n = ends_text net (slice_get net.arcs n)
 -- PROPERTY fails on LISTENER SPEAKER: INSTANCE
 abbrev pub lacks_text : ℕ → PureInstance → Option PureNet → List ℕ
 lacks_text n x None = []
-lacks_text n x (Some net) = property_word x.property ++ codes " fails on " ++ arc_text net n ++ codes ": " ++ instance_text net.alg.expression x ++ codes "\n"
+lacks_text n x (Some net) =
+    property_word x.property ++ codes " fails on " ++ arc_text net n ++ codes ": "
+    ++ instance_text net.alg.expression x ++ codes "\n"
 
 -- the line of a refusal, by the network that was read, if one was
 abbrev pub refusal_text : PureRefusal → Option PureNet → List ℕ
 refusal_text (words number) net = codes "words refused: C" ++ decimal number ++ codes "\n"
-refusal_text (expr f) net = codes "expression refused: X" ++ decimal (fault_number f.kind) ++ codes " at " ++ decimal f.place.line ++ codes ":" ++ decimal f.place.column ++ codes "\n"
-refusal_text (network f) net = codes "network refused: N" ++ decimal (net_kind_number f.kind) ++ codes " at line " ++ decimal f.line ++ codes "\n"
+refusal_text (expr f) net =
+    codes "expression refused: X" ++ decimal (fault_number f.kind) ++ codes " at "
+    ++ decimal f.place.line ++ codes ":" ++ decimal f.place.column ++ codes "\n"
+refusal_text (network f) net =
+    codes "network refused: N" ++ decimal (net_kind_number f.kind) ++ codes " at line "
+    ++ decimal f.line ++ codes "\n"
 refusal_text (lacks n x) net = lacks_text n x net
 refusal_text (read w) net = codes "read fault on the " ++ which_text w ++ codes "\n"
 refusal_text (long w) net = codes "too long: the " ++ which_text w ++ codes "\n"

@@ -1,6 +1,6 @@
 //! The printed texts of what the program decides: the lines of verdicts, of rows and of refusals. It
-//! decides nothing, and knows no command and no file; it may stand on every crate that has a part in what
-//! is printed, below the one that reads the words of a command.
+//! decides nothing, writes nothing out and knows no command. It may stand on each crate whose values or
+//! faults it prints.
 #![tactic(auto)]
 
 mod refusals;

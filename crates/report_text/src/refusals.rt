@@ -125,9 +125,9 @@ fn long_line(alloc: Global, which: Which) -> Result<Text, NoMemory>
     Ok(Text::from_string(out))
 }
 
-/// The one line of a refusal: what is refused, and where or at which instance. Only an arc that lacks a
-/// property needs the network, and it is an arc of that network; its line names the listener and then the
-/// speaker. It is refused for want of memory alone.
+/// The one line of a refusal. Where an arc's label lacks a property, `net` is the network of that arc, and
+/// the line names the listener and then the speaker; no other line needs a network. The line is refused
+/// for want of memory alone.
 pub fn refusal_line(alloc: Global, refusal: &Refusal, net: Option<&Net>) -> Result<Text, NoMemory>
     requires { CanRefuse (pure_refusal refusal.now) (option_map (λ net. net.now) net) }
     ensures { IfOk result (λ text.

@@ -30,9 +30,8 @@ fn push_image(
     requires value { In (carrier_of alg.now.expression) (pure_value value.now) }
     requires small_label { LabelAtMost MAX_LABEL_NUMBER (pure_label label.now) }
     requires small_value { AtMost MAX_VALUE_NUMBER (pure_value value.now) }
-    ensures { OnOk result (Gains out.old
-        (image_text (carrier_of alg.now.expression) (App alg.now.expression (pure_label label.now) (pure_value value.now)))
-        out.new) }
+    ensures { OnOk result (Gains out.old (image_text (carrier_of alg.now.expression)
+        (App alg.now.expression (pure_label label.now) (pure_value value.now))) out.new) }
 {
     match apply(alloc, alg, label, value)? {
         Some(image) => push_value(out, alg, &image),
