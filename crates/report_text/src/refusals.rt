@@ -1,8 +1,7 @@
 // The lines of refusals.
-ghost use Rattle.std.specs.Prelude.{◌≡◌, ◌<◌, ◌++◌, Some, None, length, codes, decimal, string_bytes, option_map, OnOk, IfOk};
+ghost use Rattle.std.specs.Prelude.{◌≡◌, ◌<◌, Some, None, length, option_map, OnOk, IfOk};
 ghost use Rattle.meta_base.specs.Appending.{Gains};
 ghost use Rattle.alg_classes.specs.Instances.{pure_instance};
-ghost use Rattle.net_graph.specs.RowTexts.{node_text};
 ghost use Rattle.report_text.specs.VerdictTexts.{CanPrint};
 ghost use Rattle.report_text.specs.Refusals.{words, expr, network, lacks, read, long, memory, pure_refusal, which_text, arc_text, refusal_text, CanRefuse};
 

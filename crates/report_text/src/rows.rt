@@ -1,8 +1,6 @@
 // The lines of rows.
-ghost use Rattle.std.specs.Prelude.{◌≡◌, map, ◌<◌, ◌++◌, length, codes, string_bytes, OnOk, IfOk};
+ghost use Rattle.std.specs.Prelude.{◌≡◌, map, ◌<◌, length, OnOk, IfOk};
 ghost use Rattle.meta_base.specs.Appending.{Gains};
-ghost use Rattle.alg_model.specs.Views.{pure_value};
-ghost use Rattle.alg_model.specs.Texts.{value_text};
 ghost use Rattle.net_graph.specs.Views.{pure_row};
 ghost use Rattle.net_graph.specs.RowTexts.{AreNodesOf, IsRowOf, node_text, dest_text, path_text, route_text, row_text};
 
