@@ -1,0 +1,147 @@
+// The lines of refusals.
+ghost use Rattle.std.specs.Prelude.{◌≡◌, ◌<◌, Some, None, length, option_map, OnOk, IfOk};
+ghost use Rattle.meta_base.specs.Appending.{Gains};
+ghost use Rattle.alg_classes.specs.Instances.{pure_instance};
+ghost use Rattle.report_text.specs.VerdictTexts.{CanPrint};
+ghost use Rattle.report_text.specs.Refusals.{words, expr, network, lacks, read, long, memory, pure_refusal, which_text, arc_text, refusal_text, CanRefuse};
+
+use crate::rows::push_node;
+use crate::verdicts::{push_instance, word_of};
+use alg_classes::Instance;
+use meta_base::{ArcId, NoMemory, Text, Which, push_number};
+use net_graph::Net;
+use raml_syntax::ExprFault;
+use std::alloc::Global;
+use topology_file::NetFault;
+
+/// Why the program does nothing of what it is asked.
+#[derive(Debug, Drop)]
+pub enum Refusal {
+    /// The words mean no command: the number of what is wrong with them; printed behind a C.
+    Words(u8),
+    /// The expression file means no algebra; its kind is printed behind an X.
+    Expr(ExprFault),
+    /// The network file means no network; its kind is printed behind an N.
+    Network(NetFault),
+    /// An arc of the network has a label that lacks a property, and the instance shows it.
+    Lacks { arc: ArcId, instance: Instance },
+    /// That file can't be read.
+    Read(Which),
+    /// That file has more bytes than [`meta_base::MAX_FILE_BYTES`].
+    Long(Which),
+    /// There is no memory for it.
+    Memory,
+}
+
+fn words_line(alloc: Global, number: u8) -> Result<Text, NoMemory>
+    ensures { IfOk result (λ text. text ≡ refusal_text (words number) None) }
+{
+    let mut out = String::new(alloc);
+    out.push_str("words refused: C")?;
+    push_number(&mut out, u128::from(number))?;
+    out.push_str("\n")?;
+    Ok(Text::from_string(out))
+}
+
+fn expr_line(alloc: Global, fault: ExprFault) -> Result<Text, NoMemory>
+    ensures { IfOk result (λ text. text ≡ refusal_text (expr fault) None) }
+{
+    let mut out = String::new(alloc);
+    out.push_str("expression refused: X")?;
+    push_number(&mut out, u128::from(fault.kind.number()))?;
+    out.push_str(" at ")?;
+    push_number(&mut out, u128::from(fault.place.line))?;
+    out.push_str(":")?;
+    push_number(&mut out, u128::from(fault.place.column))?;
+    out.push_str("\n")?;
+    Ok(Text::from_string(out))
+}
+
+fn network_line(alloc: Global, fault: NetFault) -> Result<Text, NoMemory>
+    ensures { IfOk result (λ text. text ≡ refusal_text (network fault) None) }
+{
+    let mut out = String::new(alloc);
+    out.push_str("network refused: N")?;
+    push_number(&mut out, u128::from(fault.kind.number()))?;
+    out.push_str(" at line ")?;
+    push_number(&mut out, u128::from(fault.line))?;
+    out.push_str("\n")?;
+    Ok(Text::from_string(out))
+}
+
+// The names of the arc's listener and of its speaker.
+fn push_arc(out: &mut String, net: &Net, arc: ArcId) -> Result<(), NoMemory>
+    requires { arc.0 < length net.now.arcs }
+    ensures { OnOk result (Gains out.old (arc_text net.now arc.0) out.new) }
+{
+    let arc = net.arc(arc);
+    push_node(out, net, arc.tail)?;
+    out.push_str(" ")?;
+    push_node(out, net, arc.head)
+}
+
+fn lacks_line(alloc: Global, net: &Net, arc: ArcId, instance: &Instance) -> Result<Text, NoMemory>
+    requires arc { arc.0 < length net.now.arcs }
+    requires instance { CanPrint net.now.alg.expression (pure_instance instance.now) }
+    ensures { IfOk result (λ text. text ≡ refusal_text (lacks arc.0 (pure_instance instance.now)) (Some net.now)) }
+{
+    let mut out = String::new(alloc);
+    out.push_str(word_of(instance.property))?;
+    out.push_str(" fails on ")?;
+    push_arc(&mut out, net, arc)?;
+    out.push_str(": ")?;
+    push_instance(alloc, &mut out, net.alg(), instance)?;
+    out.push_str("\n")?;
+    Ok(Text::from_string(out))
+}
+
+fn which_word(which: Which) -> &'static str
+    ensures { result.now ≡ which_text which }
+{
+    match which {
+        Which::Expr => "expression",
+        Which::Network => "network",
+    }
+}
+
+fn read_line(alloc: Global, which: Which) -> Result<Text, NoMemory>
+    ensures { IfOk result (λ text. text ≡ refusal_text (read which) None) }
+{
+    let mut out = String::new(alloc);
+    out.push_str("read fault on the ")?;
+    out.push_str(which_word(which))?;
+    out.push_str("\n")?;
+    Ok(Text::from_string(out))
+}
+
+fn long_line(alloc: Global, which: Which) -> Result<Text, NoMemory>
+    ensures { IfOk result (λ text. text ≡ refusal_text (long which) None) }
+{
+    let mut out = String::new(alloc);
+    out.push_str("too long: the ")?;
+    out.push_str(which_word(which))?;
+    out.push_str("\n")?;
+    Ok(Text::from_string(out))
+}
+
+/// The one line of a refusal. Where an arc's label lacks a property, `net` is the network of that arc, and
+/// the line names the listener and then the speaker; no other line needs a network. The line is refused
+/// for want of memory alone.
+pub fn refusal_line(alloc: Global, refusal: &Refusal, net: Option<&Net>) -> Result<Text, NoMemory>
+    requires { CanRefuse (pure_refusal refusal.now) (option_map (λ net. net.now) net) }
+    ensures { IfOk result (λ text.
+        text ≡ refusal_text (pure_refusal refusal.now) (option_map (λ net. net.now) net.entry)) }
+{
+    match refusal {
+        Refusal::Words(number) => words_line(alloc, *number),
+        Refusal::Expr(fault) => expr_line(alloc, *fault),
+        Refusal::Network(fault) => network_line(alloc, *fault),
+        Refusal::Lacks { arc, instance } => {
+            let Some(net) = net else { unreachable!() };
+            lacks_line(alloc, net, *arc, instance)
+        }
+        Refusal::Read(which) => read_line(alloc, *which),
+        Refusal::Long(which) => long_line(alloc, *which),
+        Refusal::Memory => Ok(Text::copy(alloc, "out of memory\n")?),
+    }
+}

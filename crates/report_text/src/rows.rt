@@ -1,0 +1,69 @@
+// The lines of rows.
+ghost use Rattle.std.specs.Prelude.{◌≡◌, map, ◌<◌, length, OnOk, IfOk};
+ghost use Rattle.meta_base.specs.Appending.{Gains};
+ghost use Rattle.net_graph.specs.Views.{pure_row};
+ghost use Rattle.net_graph.specs.RowTexts.{AreNodesOf, IsRowOf, node_text, dest_text, path_text, route_text, row_text};
+
+use meta_base::{DestId, NoMemory, NodeId, Text};
+use net_graph::{Net, RouteRow};
+use sig_text::push_value;
+use std::alloc::Global;
+
+pub(crate) fn push_node(out: &mut String, net: &Net, node: NodeId) -> Result<(), NoMemory>
+    requires { node.0 < length net.now.nodes }
+    ensures { OnOk result (Gains out.old (node_text net.now node.0) out.new) }
+{
+    Ok(out.push_str(net.node_text(node))?)
+}
+
+fn push_dest(out: &mut String, net: &Net, dest: DestId) -> Result<(), NoMemory>
+    requires { dest.0 < length net.now.dests }
+    ensures { OnOk result (Gains out.old (dest_text net.now dest.0) out.new) }
+{
+    Ok(out.push_str(net.dest_text(dest))?)
+}
+
+// The names of the nodes of a path, each behind a space.
+fn push_path(out: &mut String, net: &Net, path: &[NodeId]) -> Result<(), NoMemory>
+    requires { AreNodesOf net.now (map (λ node. node.0) path.now) }
+    ensures { OnOk result (Gains out.old (path_text net.now (map (λ node. node.0) path.now)) out.new) }
+{
+    match path {
+        [] => Ok(()),
+        [node, rest @ ..] => {
+            out.push_str(" ")?;
+            push_node(out, net, *node)?;
+            push_path(out, net, rest)
+        }
+    }
+}
+
+// The value and the path of a row, or the word none.
+fn push_route(out: &mut String, net: &Net, row: &RouteRow) -> Result<(), NoMemory>
+    requires { IsRowOf net.now (pure_row row.now) }
+    ensures { OnOk result (Gains out.old (route_text net.now (pure_row row.now).route) out.new) }
+{
+    match &row.route {
+        None => Ok(out.push_str("none")?),
+        Some(route) => {
+            push_value(out, net.alg(), &route.value)?;
+            push_path(out, net, route.path.as_slice())
+        }
+    }
+}
+
+/// The line of a row of a network: the node, the destination, and the value and the path of the route,
+/// or `none`. It is refused for want of memory alone.
+pub fn row_line(alloc: Global, net: &Net, row: &RouteRow) -> Result<Text, NoMemory>
+    requires { IsRowOf net.now (pure_row row.now) }
+    ensures { IfOk result (λ text. text ≡ row_text net.now (pure_row row.now)) }
+{
+    let mut out = String::new(alloc);
+    push_node(&mut out, net, row.node)?;
+    out.push_str(" ")?;
+    push_dest(&mut out, net, row.dest)?;
+    out.push_str(" ")?;
+    push_route(&mut out, net, row)?;
+    out.push_str("\n")?;
+    Ok(Text::from_string(out))
+}
