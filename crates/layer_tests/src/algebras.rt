@@ -20,9 +20,14 @@ use std::alloc::Global;
 use std::cmp::Ordering;
 use std::test::Fail;
 
-// The text of what the label makes of the value, or `None` where it prohibits it.
+/// The text of what the label makes of the value, or `None` where it prohibits it.
 #[tactic(auto, using(alg_model::specs::BoundLaws::at_most_more))]
-fn image_text(alloc: Global, alg: &Alg, label: &str, value: &str) -> Result<Option<Text>, Fail> {
+pub fn image_text(
+    alloc: Global,
+    alg: &Alg,
+    label: &str,
+    value: &str,
+) -> Result<Option<Text>, Fail> {
     let label = read_label(alloc, alg, label.as_bytes())?;
     let value = read_value(alloc, alg, value.as_bytes())?;
     let image = apply(alloc, alg, &label, &value);
@@ -145,8 +150,8 @@ fn trees_are_carried_out(rt: HostRuntime) -> Result<(), Fail> {
     Ok(())
 }
 
-// How two values compare.
-fn order_of(alloc: Global, alg: &Alg, first: &str, second: &str) -> Result<Ordering, Fail> {
+/// How two values compare.
+pub fn order_of(alloc: Global, alg: &Alg, first: &str, second: &str) -> Result<Ordering, Fail> {
     let first = read_value(alloc, alg, first.as_bytes())?;
     let second = read_value(alloc, alg, second.as_bytes())?;
     Ok(order(alg, &first, &second))

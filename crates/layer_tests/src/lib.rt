@@ -8,6 +8,8 @@ mod algebras;
 #[cfg(test)]
 mod book;
 #[cfg(test)]
+mod classes;
+#[cfg(test)]
 mod expressions;
 #[cfg(test)]
 mod links;
@@ -17,6 +19,8 @@ mod literals;
 mod networks;
 #[cfg(test)]
 mod outside;
+#[cfg(test)]
+mod properties;
 #[cfg(test)]
 mod readers;
 #[cfg(test)]
