@@ -1,25 +1,30 @@
 -- Without a fault nothing is given up.
-use Rattle.std.proofs.Common.{◌≡◌, ℕ, ◌≤◌, ◌⊎◌, List, length, map, Result, Ok, Err, arith, refl, ap, ◌∙◌, subst, inl, inr, ⊎_elim}
+use Rattle.std.proofs.Common.{◌≡◌, ℕ, ◌≤◌, ◌⊎◌, List, length, Option, Some, None, Result, Ok, Err, arith, refl, ap, ◌∙◌, subst, inl, inr, ⊎_elim}
 use Rattle.meta_base.specs.Count.{HasRisen}
 use Rattle.meta_base.specs.Shelf.{Moment, Keeps}
-use Rattle.net_graph.specs.Nets.{PureNet}
-use Rattle.net_graph.specs.Tables.{PureRow}
-use Rattle.net_graph.specs.Changes.{after_all}
-use Rattle.net_graph.specs.Views.{pure_change, pure_row}
-use Rattle.topology_file.specs.NetText.{PureNetFile}
-use Rattle.topology_file.specs.NetText.{NetText, IsNetFault, HasOneOutcome}
-use Rattle.alg_model.specs.Expressions.{PureAlg}
+use Rattle.meta_base.specs.declared.ids.Which.{Which}
+use Rattle.meta_base.specs.declared.ids.Which.TheVariants.{Expr, Network}
+use Rattle.alg_model.specs.Expressions.{PureAlg, PureLabel}
+use Rattle.alg_model.specs.Application.{IsLabel}
 use Rattle.raml_syntax.specs.declared.faults.ExprFault.{ExprFault}
-use Rattle.metacli.specs.Served.{ServedText, ServedFault}
-use Rattle.metacli.specs.Reading.{Holds, HasNoAlgebra, IsExpressionAs, HasNoNetwork, IsNetworkAs}
-use Rattle.metacli.specs.Outcome.{IsCheckedAs, IsCheckedBy, IsRoutedAs, IsRoutedTo, IsRoutedAfter, EndedBy, word_at}
-use Rattle.metacli.specs.Complete.{IsTold, IsCheckComplete, IsRouteComplete, CompleteBy}
+use Rattle.raml_syntax.specs.ExprText.{ExprText, IsExprFault}
+use Rattle.raml_syntax.specs.Plain.{IsPlainAdd}
+use Rattle.topology_file.specs.NetText.{PureNetFile, NetText, HasOneOutcome, changed_net}
+use Rattle.report_text.specs.Refusals.{PureRefusal, words, expr, network, lacks, read, long, memory}
+use Rattle.metacli.specs.Answers.{done, refused}
+use Rattle.metacli.specs.Reading.{Holds, IsUntaken, IsReadAs, IsExprRefusal, IsNetRefusal}
+use Rattle.metacli.specs.Outcome.{PureOutcome, stopped, checked, routed, answer_in, IsCheckedAs, IsAlgebraChecked, IsNetworkChecked, IsOnArc, IsRoutedAs, IsRoutedOver, GoesOnFrom, GoesOnOver, WithNetwork, ComesBy, word_at}
+use Rattle.metacli.specs.Complete.{IsUnlessMemory, IsTold, IsJudged, IsNetJudged, IsServedAs, CompleteBy}
 use Rattle.metacli.specs.declared.words.Command.{Command}
 use Rattle.metacli.specs.declared.words.Command.TheVariants.{Check, Route}
 use Rattle.metacli.specs.declared.words.WordsFault.{WordsFault}
-use Rattle.metacli.specs.declared.ended.Ended.{Ended}
-use Rattle.metacli.specs.declared.ended.Answer.{Answer}
-use Rattle.metacli.specs.declared.ended.Answer.TheVariants.{Done, BadWords, BadExpr, BadNet, ReadFault, WriteFault, NoMemory, TooLong}
+
+-- the laws of texts
+pub record Laws : Type 0 where
+  pub algebra : (text : List ℕ) (a b : PureAlg) → ExprText text a → ExprText text b → a ≡ b
+  pub fault : (text : List ℕ) (f g : ExprFault) → IsExprFault text f → IsExprFault text g → f ≡ g
+  pub apart : (text : List ℕ) (a : PureAlg) (f : ExprFault) → ExprText text a → IsExprFault text f → ⊥
+  pub network : (text : List ℕ) (a : PureAlg) → HasOneOutcome text a
 
 -- what the shelf tells holds of the bytes that it tells
 told : (m new : Moment) (name bytes : List ℕ) (P : List ℕ → Type 0) → Holds m name P new → IsTold m name bytes → P bytes
@@ -28,46 +33,20 @@ told m new name bytes P h t =
     let e : h.0 ≡ bytes = cc (h.2.told t.tells) in
     subst P e h.1
 
--- the laws of texts
-pub record Laws : Type 0 where
-  pub algebra : (text : List ℕ) (a b : PureAlg) → ServedText text a → ServedText text b → a ≡ b
-  pub fault : (text : List ℕ) (f g : ExprFault) → ServedFault text f → ServedFault text g → f ≡ g
-  pub apart : (text : List ℕ) (a : PureAlg) (f : ExprFault) → ServedText text a → ¬ ServedFault text f
-  pub network : (text : List ℕ) (a : PureAlg) → HasOneOutcome text a
-
-done_or_memory : (a : PureAlg) (e : Ended) (d : Answer) → IsCheckedAs a e d → (d ≡ Done) ⊎ (d ≡ NoMemory)
-done_or_memory a e Done h = inl refl
-done_or_memory a e NoMemory h = inr refl
-done_or_memory a e (BadWords f) h = absurd h
-done_or_memory a e (BadExpr f) h = absurd h
-done_or_memory a e (BadNet f) h = absurd h
-done_or_memory a e (ReadFault w) h = absurd h
-done_or_memory a e WriteFault h = absurd h
-done_or_memory a e (TooLong w) h = absurd h
-
-check_complete : Laws → (name bytes : List ℕ) (old new : Moment) (e : Ended) (r : Result PureAlg Answer)
-    → IsExpressionAs name old r new → IsCheckedBy e r → IsTold old name bytes → ¬ HasRisen old.faults new.faults → IsCheckComplete bytes e
-check_complete laws name bytes old new e (Ok a) h ends t lacks = record {
-  good = λ b x. done_or_memory a e e.decided ends.1;
-  bad = λ f x. absurd (laws.apart bytes a f (told old new name bytes (λ b. ServedText b a) h t) x);
-}
-check_complete laws name bytes old new e (Err (BadExpr g)) h ends t lacks =
-    let x = told old new name bytes (λ b. ServedFault b g) h t in record {
-      good = λ a y. absurd (laws.apart bytes a g y x);
-      bad = λ f y. inl (ends.2 ∙ ap BadExpr (laws.fault bytes g f x y));
-    }
-check_complete laws name bytes old new e (Err (ReadFault w)) h ends t lacks =
-    absurd (⊎_elim lacks (λ absent. let n = absent.1 in let f = t.file in cc) h.2)
-check_complete laws name bytes old new e (Err (TooLong w)) h ends t lacks =
+-- a file that is told is taken, unless memory is refused
+untaken : (which : Which) (name bytes : List ℕ) (old new : Moment) (r : PureRefusal) → IsUntaken which name old new r → IsTold old name bytes
+    → ¬ HasRisen old.faults new.faults → r ≡ memory
+untaken which name bytes old new (read w) h t quiet = absurd (⊎_elim quiet (λ absent. let n = absent.1 in let f = t.file in cc) h.2)
+untaken which name bytes old new (long w) h t quiet =
     let x = h.2 t.tells in
     let f = t.file in
     let same : x.0 ≡ bytes = cc x.1 in
     absurd (omega (arith, x.2, ap length same, t.short))
-check_complete laws name bytes old new e (Err NoMemory) h ends t lacks = record { good = λ a x. inr ends.2; bad = λ f x. inr ends.2 }
-check_complete laws name bytes old new e (Err (BadNet f)) h ends t lacks = absurd h
-check_complete laws name bytes old new e (Err Done) h ends t lacks = absurd h
-check_complete laws name bytes old new e (Err (BadWords f)) h ends t lacks = absurd h
-check_complete laws name bytes old new e (Err WriteFault) h ends t lacks = absurd h
+untaken which name bytes old new memory h t quiet = refl
+untaken which name bytes old new (words n) h t quiet = absurd h
+untaken which name bytes old new (expr f) h t quiet = absurd h
+untaken which name bytes old new (network f) h t quiet = absurd h
+untaken which name bytes old new (lacks arc x) h t quiet = absurd h
 
 -- where nothing rose before, nothing rose in all
 risen_later : (a b c : ℕ) → a ≤ b → HasRisen b c → HasRisen a c
@@ -77,87 +56,129 @@ risen_later a b c h r = ⊎_elim (λ e. inl (omega (arith, e))) inr r
 told_later : (old between : Moment) (name bytes : List ℕ) → Keeps old between → IsTold old name bytes → IsTold between name bytes
 told_later old between name bytes k t = record { tells = rw k.tells t.tells; file = k.file name ∙ t.file; short = t.short }
 
-routed_or_memory : (net : PureNet) (rows : List PureRow) (d : Answer) → IsRoutedAs net rows d → (d ≡ Done) ⊎ (d ≡ NoMemory)
-routed_or_memory net rows Done h = inl refl
-routed_or_memory net rows NoMemory h = inr refl
-routed_or_memory net rows (BadWords f) h = absurd h
-routed_or_memory net rows (BadExpr f) h = absurd h
-routed_or_memory net rows (BadNet f) h = absurd h
-routed_or_memory net rows (ReadFault w) h = absurd h
-routed_or_memory net rows WriteFault h = absurd h
-routed_or_memory net rows (TooLong w) h = absurd h
+-- Expression files.
 
--- without an algebra
-unread_complete : Laws → (bytes net_bytes name : List ℕ) (old new : Moment) (e : Ended) (answer : Answer) → HasNoAlgebra name old new answer → e.decided ≡ answer
-    → IsTold old name bytes → ¬ HasRisen old.faults new.faults → IsRouteComplete bytes net_bytes e
-unread_complete laws bytes net_bytes name old new e (BadExpr g) h q t lacks =
-    let x = told old new name bytes (λ b. ServedFault b g) h t in record {
-      good = λ a n y z. absurd (laws.apart bytes a g y x);
-      bad_net = λ a f y z. absurd (laws.apart bytes a g y x);
-      bad = λ f y. inl (q ∙ ap BadExpr (laws.fault bytes g f x y));
-    }
-unread_complete laws bytes net_bytes name old new e (ReadFault w) h q t lacks =
-    absurd (⊎_elim lacks (λ absent. let n = absent.1 in let f = t.file in cc) h.2)
-unread_complete laws bytes net_bytes name old new e (TooLong w) h q t lacks =
-    let x = h.2 t.tells in
-    let f = t.file in
-    let same : x.0 ≡ bytes = cc x.1 in
-    absurd (omega (arith, x.2, ap length same, t.short))
-unread_complete laws bytes net_bytes name old new e NoMemory h q t lacks = record { good = λ a n y z. inr q; bad_net = λ a f y z. inr q; bad = λ f y. inr q }
-unread_complete laws bytes net_bytes name old new e (BadNet f) h q t lacks = absurd h
-unread_complete laws bytes net_bytes name old new e Done h q t lacks = absurd h
-unread_complete laws bytes net_bytes name old new e (BadWords f) h q t lacks = absurd h
-unread_complete laws bytes net_bytes name old new e WriteFault h q t lacks = absurd h
+judged_good : Laws → (bytes : List ℕ) (a : PureAlg) (Follows : PureAlg → Type 0) (o : PureOutcome) → ExprText bytes a → Follows a → IsJudged bytes Follows o
+judged_good laws bytes a Follows o means follows = record {
+  bad = λ f x. absurd (laws.apart bytes a f means x);
+  good = λ b x. subst Follows (laws.algebra bytes a b means x) follows;
+}
 
--- with an algebra, which the expression file means, and without a network
-unlinked_complete : Laws → (bytes net_bytes name : List ℕ) (a : PureAlg) (old new : Moment) (e : Ended) (answer : Answer) → ServedText bytes a
-    → HasNoNetwork a name old new answer → e.decided ≡ answer → IsTold old name net_bytes → ¬ HasRisen old.faults new.faults → IsRouteComplete bytes net_bytes e
-unlinked_complete laws bytes net_bytes name a old new e (BadNet g) m h q t lacks =
-    let x = told old new name net_bytes (λ b. IsNetFault b a g) h t in record {
-      good = λ b n y z. absurd ((laws.network net_bytes a).not_both n g (subst (λ c. NetText net_bytes c n) (laws.algebra bytes b a y m) z) x);
-      bad_net = λ b f y z. inl (q ∙ ap BadNet ((laws.network net_bytes a).one_fault g f x (subst (λ c. IsNetFault net_bytes c f) (laws.algebra bytes b a y m) z)));
-      bad = λ f y. absurd (laws.apart bytes a f m y);
-    }
-unlinked_complete laws bytes net_bytes name a old new e (ReadFault w) m h q t lacks =
-    absurd (⊎_elim lacks (λ absent. let n = absent.1 in let f = t.file in cc) h.2)
-unlinked_complete laws bytes net_bytes name a old new e (TooLong w) m h q t lacks =
-    let x = h.2 t.tells in
-    let f = t.file in
-    let same : x.0 ≡ net_bytes = cc x.1 in
-    absurd (omega (arith, x.2, ap length same, t.short))
-unlinked_complete laws bytes net_bytes name a old new e NoMemory m h q t lacks =
-    record { good = λ b n y z. inr q; bad_net = λ b f y z. inr q; bad = λ f y. inr q }
-unlinked_complete laws bytes net_bytes name a old new e (BadExpr f) m h q t lacks = absurd h
-unlinked_complete laws bytes net_bytes name a old new e Done m h q t lacks = absurd h
-unlinked_complete laws bytes net_bytes name a old new e (BadWords f) m h q t lacks = absurd h
-unlinked_complete laws bytes net_bytes name a old new e WriteFault m h q t lacks = absurd h
+judged_bad : Laws → (bytes : List ℕ) (r : PureRefusal) (Follows : PureAlg → Type 0) (o : PureOutcome) → IsExprRefusal bytes r → answer_in o ≡ refused r → IsJudged bytes Follows o
+judged_bad laws bytes (expr g) Follows o x e = record {
+  bad = λ f y. inl (e ∙ ap (λ f. refused (expr f)) (laws.fault bytes g f x y));
+  good = λ a y. absurd (laws.apart bytes a g y x);
+}
+judged_bad laws bytes (words n) Follows o x e = absurd x
+judged_bad laws bytes (network f) Follows o x e = absurd x
+judged_bad laws bytes (lacks arc i) Follows o x e = absurd x
+judged_bad laws bytes (read w) Follows o x e = absurd x
+judged_bad laws bytes (long w) Follows o x e = absurd x
+judged_bad laws bytes memory Follows o x e = absurd x
 
-over_complete : Laws → (bytes net_bytes name : List ℕ) (a : PureAlg) (old new : Moment) (e : Ended) (r : Result PureNetFile Answer) → ServedText bytes a
-    → IsNetworkAs a name old r new → IsRoutedTo r e.net (map pure_change e.changes) (map pure_row e.rows) e.decided → IsTold old name net_bytes → ¬ HasRisen old.faults new.faults → IsRouteComplete bytes net_bytes e
-over_complete laws bytes net_bytes name a old new e (Ok file) m h ends t lacks =
-    let d = routed_or_memory (after_all file.net file.changes) (map pure_row e.rows) e.decided ends.2 in record {
-      good = λ b n y z. d;
-      bad_net = λ b f y z.
-          let x = told old new name net_bytes (λ b. NetText b a file) h t in
-          absurd ((laws.network net_bytes a).not_both file f x (subst (λ c. IsNetFault net_bytes c f) (laws.algebra bytes b a y m) z));
-      bad = λ f y. absurd (laws.apart bytes a f m y);
-    }
-over_complete laws bytes net_bytes name a old new e (Err answer) m h ends t lacks =
-    unlinked_complete laws bytes net_bytes name a old new e answer m h ends.3 t lacks
+judged_memory : (bytes : List ℕ) (Follows : PureAlg → Type 0) (o : PureOutcome) → answer_in o ≡ refused memory → ((a : PureAlg) → Follows a) → IsJudged bytes Follows o
+judged_memory bytes Follows o e all = record { bad = λ f x. inr e; good = λ a x. all a }
 
-route_complete : Laws → (bytes net_bytes file net : List ℕ) (old between new : Moment) (e : Ended) (r : Result PureAlg Answer) → Keeps old between
-    → IsExpressionAs file old r between → IsRoutedAfter net between new e r → IsTold old file bytes → IsTold old net net_bytes → ¬ HasRisen old.faults new.faults → IsRouteComplete bytes net_bytes e
-route_complete laws bytes net_bytes file net old between new e (Ok a) k h ends t u lacks =
-    over_complete laws bytes net_bytes net a between new e ends.1.network (told old between file bytes (λ b. ServedText b a) h t)
-    ends.1.reads.read ends.1.ends (told_later old between net net_bytes k u) (λ r. lacks (risen_later old.faults between.faults new.faults k.faults r))
-route_complete laws bytes net_bytes file net old between new e (Err answer) k h ends t u lacks =
-    unread_complete laws bytes net_bytes file old between e answer h ends.4 t (subst (λ (m : Moment). ¬ HasRisen old.faults m.faults) ends.0 lacks)
+-- what comes of the expression file is judged, if what comes of its algebra follows
+judged : Laws → (name bytes : List ℕ) (Then : PureAlg → Moment → Moment → PureOutcome → Type 0) (Follows : PureAlg → Type 0) (old between new : Moment) (o : PureOutcome)
+    (r : Result PureAlg PureRefusal) → IsReadAs Expr name ExprText IsExprRefusal old r between → GoesOnFrom Then between new o r → IsTold old name bytes
+    → ¬ HasRisen old.faults new.faults → ((a : PureAlg) → Then a between new o → Follows a) → (answer_in o ≡ refused memory → (a : PureAlg) → Follows a) → IsJudged bytes Follows o
+judged laws name bytes Then Follows old between new o (Ok a) h on t quiet over without =
+    judged_good laws bytes a Follows o (told old between name bytes (λ b. ExprText b a) h t) (over a on)
+judged laws name bytes Then Follows old between new o (Err r) h on t quiet over without = ⊎_elim
+    (λ u.
+    let e : answer_in o ≡ refused memory = ap answer_in on.1 ∙ ap refused (untaken Expr name bytes old between r u t (subst (λ (m : Moment). ¬ HasRisen old.faults m.faults) on.0 quiet)) in
+    judged_memory bytes Follows o e (without e))
+    (λ f. judged_bad laws bytes r Follows o (told old between name bytes (λ b. IsExprRefusal b r) f t) (ap answer_in on.1))
+    h
 
-pub complete : Laws → (words : List (List ℕ)) (old new : Moment) (e : Ended) (r : Result Command WordsFault)
-    → EndedBy words old new e r → CompleteBy words old new e r
-complete laws words old new e (Ok (Check file net)) h =
-    λ bytes t lacks. check_complete laws (word_at words file) bytes old new e h.1.expression h.1.reads.read h.1.ends t lacks
-complete laws words old new e (Ok (Route file net workers)) h =
-    λ bytes net_bytes t u lacks. route_complete laws bytes net_bytes (word_at words file) (word_at words net) old h.1.between new e
-    h.1.expression h.1.reads.keeps h.1.reads.read h.1.ends t u lacks
-complete laws words old new e (Err f) h = tt
+-- Network files.
+
+net_judged_good : Laws → (bytes : List ℕ) (a : PureAlg) (f : PureNetFile) (o : PureOutcome) → NetText bytes a f → IsUnlessMemory o done → IsNetJudged bytes o a
+net_judged_good laws bytes a f o means d = record {
+  bad = λ g x. absurd ((laws.network bytes a).not_both f g means x);
+  good = λ g x. d;
+}
+
+net_judged_bad : Laws → (bytes : List ℕ) (a : PureAlg) (r : PureRefusal) (o : PureOutcome) → IsNetRefusal a bytes r → answer_in o ≡ refused r → IsNetJudged bytes o a
+net_judged_bad laws bytes a (network g) o x e = record {
+  bad = λ f y. inl (e ∙ ap (λ f. refused (network f)) ((laws.network bytes a).one_fault g f x y));
+  good = λ f y. absurd ((laws.network bytes a).not_both f g y x);
+}
+net_judged_bad laws bytes a (words n) o x e = absurd x
+net_judged_bad laws bytes a (expr f) o x e = absurd x
+net_judged_bad laws bytes a (lacks arc i) o x e = absurd x
+net_judged_bad laws bytes a (read w) o x e = absurd x
+net_judged_bad laws bytes a (long w) o x e = absurd x
+net_judged_bad laws bytes a memory o x e = absurd x
+
+net_judged_memory : (bytes : List ℕ) (o : PureOutcome) (a : PureAlg) → answer_in o ≡ refused memory → IsNetJudged bytes o a
+net_judged_memory bytes o a e = record { bad = λ f x. inr e; good = λ f x. inr e }
+
+-- what comes of the network file is judged, if its network is carried out
+net_judged : Laws → (a : PureAlg) (name bytes : List ℕ) (Then : PureNetFile → PureOutcome → Type 0) (old new : Moment) (o : PureOutcome) (r : Result PureNetFile PureRefusal)
+    → IsReadAs Network name (λ text. NetText text a) (IsNetRefusal a) old r new → GoesOnOver a Then o r → IsTold old name bytes → ¬ HasRisen old.faults new.faults
+    → ((f : PureNetFile) → Then f o → IsUnlessMemory o done) → IsNetJudged bytes o a
+net_judged laws a name bytes Then old new o (Ok f) h on t quiet ends =
+    net_judged_good laws bytes a f o (told old new name bytes (λ b. NetText b a f) h t) (ends f on)
+net_judged laws a name bytes Then old new o (Err r) h on t quiet ends = ⊎_elim
+    (λ u. net_judged_memory bytes o a (ap answer_in on ∙ ap refused (untaken Network name bytes old new r u t quiet)))
+    (λ f. net_judged_bad laws bytes a r o (told old new name bytes (λ b. IsNetRefusal a b r) f t) (ap answer_in on))
+    h
+
+over_network : Laws → (a : PureAlg) (name bytes : List ℕ) (Then : PureNetFile → PureOutcome → Type 0) (old between new : Moment) (o : PureOutcome)
+    → Keeps old between → WithNetwork a name Then between new o → IsTold old name bytes → ¬ HasRisen old.faults new.faults
+    → ((f : PureNetFile) → Then f o → IsUnlessMemory o done) → IsNetJudged bytes o a
+over_network laws a name bytes Then old between new o k w t quiet ends =
+    net_judged laws a name bytes Then between new o w.network w.reads.as_read w.goes_on (told_later old between name bytes k t)
+    (λ r. quiet (risen_later old.faults between.faults new.faults k.faults r)) ends
+
+-- What was read is carried out.
+
+checked_done : (a : PureAlg) (file : Option PureNetFile) (S : PureLabel → Type 0) (o : PureOutcome) → IsCheckedAs a file S o → IsUnlessMemory o done
+checked_done a file S (checked b f v) h = inl refl
+checked_done a file S (stopped b f memory) h = inr refl
+checked_done a file S (stopped b f (words n)) h = absurd h
+checked_done a file S (stopped b f (expr g)) h = absurd h
+checked_done a file S (stopped b f (network g)) h = absurd h
+checked_done a file S (stopped b f (lacks arc x)) h = absurd h
+checked_done a file S (stopped b f (read w)) h = absurd h
+checked_done a file S (stopped b f (long w)) h = absurd h
+checked_done a file S (routed b f rows) h = absurd h
+
+routed_done : (a : PureAlg) (file : PureNetFile) (o : PureOutcome) → IsRoutedAs a file o → IsUnlessMemory o done
+routed_done a file (routed b f rows) h = inl refl
+routed_done a file (stopped b f memory) h = inr refl
+routed_done a file (stopped b f (words n)) h = absurd h
+routed_done a file (stopped b f (expr g)) h = absurd h
+routed_done a file (stopped b f (network g)) h = absurd h
+routed_done a file (stopped b f (lacks arc x)) h = absurd h
+routed_done a file (stopped b f (read w)) h = absurd h
+routed_done a file (stopped b f (long w)) h = absurd h
+routed_done a file (checked b f v) h = absurd h
+
+served_or_refused : Laws → (a : PureAlg) (net bytes : List ℕ) (old between new : Moment) (o : PureOutcome) → Keeps old between → IsTold old net bytes
+    → ¬ HasRisen old.faults new.faults → IsRoutedOver net a between new o → IsServedAs bytes o a
+served_or_refused laws a net bytes old between new o k t quiet h = ⊎_elim
+    (λ s. record {
+      served = λ plain. over_network laws a net bytes (IsRoutedAs a) old between new o k s.1 t quiet (λ f x. routed_done a f o x);
+      other = λ no_add. absurd (no_add s.0);
+    })
+    (λ u. record { served = λ plain. absurd (u.0 plain); other = λ no_add. inl (ap answer_in u.2) })
+    h
+
+pub complete : Laws → (text : List (List ℕ)) (old new : Moment) (c : Option Command) (o : PureOutcome) (r : Result Command WordsFault)
+    → ComesBy text r old new c o → CompleteBy text old new o r
+complete laws text old new c o (Ok (Check file None)) h = λ bytes t quiet.
+    judged laws (word_at text file) bytes IsAlgebraChecked (λ a. IsUnlessMemory o done) old h.1.between new o h.1.expression h.1.reads.as_read h.1.goes_on t quiet
+    (λ a x. checked_done a None (IsLabel a.expression) o x.1) (λ e a. inr e)
+complete laws text old new c o (Ok (Check file (Some net))) h = λ bytes net_bytes t u quiet.
+    judged laws (word_at text file) bytes (IsNetworkChecked (word_at text net)) (IsNetJudged net_bytes o) old h.1.between new o h.1.expression h.1.reads.as_read h.1.goes_on t quiet
+    (λ a x. over_network laws a (word_at text net) net_bytes (λ f. IsCheckedAs a (Some f) (IsOnArc (changed_net f))) old h.1.between new o h.1.reads.keeps x u quiet
+    (λ f y. checked_done a (Some f) (IsOnArc (changed_net f)) o y))
+    (λ e a. net_judged_memory net_bytes o a e)
+complete laws text old new c o (Ok (Route file net workers)) h = λ bytes net_bytes t u quiet.
+    judged laws (word_at text file) bytes (IsRoutedOver (word_at text net)) (IsServedAs net_bytes o) old h.1.between new o h.1.expression h.1.reads.as_read h.1.goes_on t quiet
+    (λ a x. served_or_refused laws a (word_at text net) net_bytes old h.1.between new o h.1.reads.keeps u quiet x)
+    (λ e a. record { served = λ plain. net_judged_memory net_bytes o a e; other = λ no_add. inr e })
+complete laws text old new c o (Err f) h = tt

@@ -1,9 +1,7 @@
-pub mod Additive
-pub mod Answered
-pub mod Completeness
-pub mod Found
-pub mod Printable
-pub mod Written
-pub mod Servings
-pub mod Checked
-pub mod Behind
+mod Additive
+mod Found
+mod RowsBehind
+mod Printable
+mod Completeness
+mod Arcs
+mod Written

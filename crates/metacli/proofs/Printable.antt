@@ -8,7 +8,7 @@ use Rattle.alg_model.specs.Laws.{at_most_more, label_at_most_more, greatest_is_b
 use Rattle.alg_model.specs.Properties.{PureProperty}
 use Rattle.alg_model.specs.Verdicts.{PureVerdict, holds, fails, PureVerdicts, verdict_on, IsExact, ExactFor}
 use Rattle.alg_model.specs.Instances.{SecondAtMost, VerdictAtMost, VerdictsAtMost}
-use Rattle.metacli.specs.Texts.{CanPrintVerdict, CanPrintVerdicts}
+use Rattle.report_text.specs.VerdictTexts.{CanPrintVerdict, CanPrintVerdicts}
 
 SecondAtMost-le : (m n : ℕ) → m ≤ n → (o : Option PureValue) → SecondAtMost m o → SecondAtMost n o
 SecondAtMost-le m n h None b = tt

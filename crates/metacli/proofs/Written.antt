@@ -1,59 +1,34 @@
--- Texts that are written a part at a time.
-use Rattle.std.proofs.Common.{◌≡◌, ◌≢◌, ◌<◌, ℕ, ◌+◌, ◌-◌, ◌≤◌, ◌++◌, List, length, take, drop, arith, refl, sym, ap, ◌∙◌, append_assoc, length-drop, inl, inr, ⊎_elim, [], append-nil, length-append, ◌∷◌, map, get_or, zero, suc, subst}
-use Rattle.std.proofs.Math.Seq.{take-add, take-append-add}
-use Rattle.std.proofs.lemmas.List.{take_all, take-take, take-append-le, length-take, at_drop_more}
+-- Texts that are written a line at a time.
+use Rattle.std.proofs.Common.{◌≡◌, ◌≢◌, ◌<◌, ℕ, ◌+◌, ◌≤◌, ◌++◌, List, length, take, drop, arith, refl, sym, ap, ◌∙◌, append_assoc, inl, inr, ⊎_elim, [], append-nil, length-append, ◌∷◌, map, get_or, zero, suc, subst}
+use Rattle.std.proofs.Math.Seq.{take-append-add}
+use Rattle.std.proofs.lemmas.List.{take_all, take-append-le, at_drop_more}
 use Rattle.std.specs.List.{AllByRecursion}
+use Rattle.alg_classes.specs.Instances.{pure_property}
+use Rattle.alg_classes.specs.declared.property.Property.{Property}
+use Rattle.alg_classes.specs.declared.property.Property.TheVariants.{Monotone}
+use Rattle.alg_model.specs.Expressions.{Expression}
+use Rattle.alg_model.specs.Verdicts.{PureVerdicts, verdict_on}
 use Rattle.net_graph.specs.Nets.{PureNet}
 use Rattle.net_graph.specs.Views.{pure_row}
 use Rattle.net_graph.specs.RowTexts.{IsRowOf, row_text}
 use Rattle.net_graph.specs.declared.route.RouteRow.{RouteRow}
-use Rattle.meta_base.specs.Sink.{Held, Appended, AppendedPart, HasFront}
+use Rattle.meta_base.specs.Sink.{Held, Appended, AppendedPart}
+use Rattle.report_text.specs.Refusals.{PureRefusal, words, expr, network, lacks, read, long, memory}
+use Rattle.report_text.specs.VerdictTexts.{verdict_text, lines_on}
+use Rattle.metacli.specs.Answers.{PureAnswer, done, refused, write_fault}
 use Rattle.metacli.specs.Texts.{Written, rows_text}
-use Rattle.metacli.specs.declared.ended.Answer.{Answer}
-use Rattle.metacli.specs.declared.ended.Answer.TheVariants.{Done, BadWords, BadExpr, BadNet, ReadFault, WriteFault, NoMemory, TooLong}
-
--- a front up to n, and the first k of what is between n and m
-part_of : (p : List ℕ) (n m k : ℕ) → n ≤ m → k ≤ m - n → take (n + k) p ≡ take n p ++ take k (take (m - n) (drop n p))
-part_of p n m k h l = take-add n k p ∙ ap (λ x. take n p ++ x) (sym (take-take k (m - n) (drop n p) l))
-
--- a front becomes longer by what is appended behind it
-pub front_grown : (old now new : Held) (p : List ℕ) (n m : ℕ) → n ≤ m → m ≤ length p → HasFront old p n now → Appended now (take (m - n) (drop n p)) new → HasFront old p m new
-front_grown old now new p n m h l f a = record {
-  within = l;
-  faults = omega (arith, f.faults, a.faults);
-  tells = a.tells ∙ f.tells;
-  bytes = λ told.
-      let e : n + (m - n) ≡ m = omega arith in
-      a.bytes (rw f.tells told) ∙ ap (λ x. x ++ take (m - n) (drop n p)) (f.bytes told) ∙ append_assoc old.bytes (take n p) (take (m - n) (drop n p))
-      ∙ ap (λ x. old.bytes ++ x) (sym (take-add n (m - n) p) ∙ ap (λ k. take k p) e);
-}
-
--- and stays one where writing fails
-pub front_cut : (old now new : Held) (p : List ℕ) (n m : ℕ) → n ≤ m → m ≤ length p → HasFront old p n now → AppendedPart now (take (m - n) (drop n p)) new → AppendedPart old p new
-front_cut old now new p n m h l f a = record {
-  risen = ⊎_elim (λ e. inl (omega (arith, e, f.faults))) inr a.risen;
-  faults = omega (arith, f.faults, a.faults);
-  tells = a.tells ∙ f.tells;
-  bytes = λ told.
-      let q = a.bytes (rw f.tells told) in
-      let k : q.0 ≤ m - n = omega (arith, q.1, length-take (m - n) (drop n p)) in (
-        n + q.0,
-        omega (arith, q.1, length-take (m - n) (drop n p), length-drop n p),
-        q.2 ∙ ap (λ x. x ++ take q.0 (take (m - n) (drop n p))) (f.bytes told) ∙ append_assoc old.bytes (take n p) (take q.0 (take (m - n) (drop n p)))
-            ∙ ap (λ x. old.bytes ++ x) (sym (part_of p n m q.0 h k)),
-      );
-}
 
 -- a text that was written whole is what was decided
-pub all_written : (old new : Held) (text : List ℕ) (d : Answer) → d ≢ WriteFault → Appended old text new → Written old text new d d
-all_written old new text Done h a = (refl, a)
-all_written old new text (BadWords f) h a = (refl, a)
-all_written old new text (BadExpr f) h a = (refl, a)
-all_written old new text (BadNet f) h a = (refl, a)
-all_written old new text (ReadFault w) h a = (refl, a)
-all_written old new text (TooLong w) h a = (refl, a)
-all_written old new text NoMemory h a = (λ _. a, (length text, rw (take_all (length text) text (omega arith)) a))
-all_written old new text WriteFault h a = absurd (h refl)
+pub all_written : (old new : Held) (text : List ℕ) (d : PureAnswer) → d ≢ write_fault → Appended old text new → Written old text new d d
+all_written old new text done h a = (refl, a)
+all_written old new text (refused memory) h a = (λ _. a, (length text, rw (take_all (length text) text (omega arith)) a))
+all_written old new text (refused (words n)) h a = (refl, a)
+all_written old new text (refused (expr f)) h a = (refl, a)
+all_written old new text (refused (network f)) h a = (refl, a)
+all_written old new text (refused (lacks arc x)) h a = (refl, a)
+all_written old new text (refused (read w)) h a = (refl, a)
+all_written old new text (refused (long w)) h a = (refl, a)
+all_written old new text write_fault h a = absurd (h refl)
 
 -- a front of the text was appended, and this is what comes behind it
 pub record HasLines (old : Held) (text rest : List ℕ) (new : Held) : Type 0 where
@@ -115,3 +90,10 @@ pub row_at : (net : PureNet) (rows : List RouteRow) (i : ℕ) (row : RouteRow) �
 row_at net [] i row h e all = absurd (omega arith)
 row_at net (x ∷ xs) zero row h e all = let same : x ≡ row = sym e in subst (λ (y : RouteRow). IsRowOf net (pure_row y)) same all.0
 row_at net (x ∷ xs) (suc i) row h e all = row_at net xs i row (omega arith) e all.1
+
+-- the lines from one verdict on
+pub verdicts_at : (a : Expression) (v : PureVerdicts) (properties : List Property) (i : ℕ) → i < length properties
+    → lines_on a v (map pure_property (drop i properties))
+    ≡ verdict_text a (pure_property (get_or properties i Monotone)) (verdict_on v (pure_property (get_or properties i Monotone)))
+    ++ lines_on a v (map pure_property (drop (i + 1) properties))
+verdicts_at a v properties i h = at_drop_more (λ (ps : List Property). lines_on a v (map pure_property ps)) properties i Monotone h

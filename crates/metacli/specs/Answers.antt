@@ -1,7 +1,35 @@
--- The statuses of answers.
+-- What answers stand for, and their statuses.
 use Rattle.std.specs.Prelude.{ℕ}
+use Rattle.report_text.specs.Refusals.{PureRefusal, words, expr, network, read, long, memory}
+use Rattle.metacli.specs.Words.{words_fault_number}
 use Rattle.metacli.specs.declared.ended.Answer.{Answer}
 use Rattle.metacli.specs.declared.ended.Answer.TheVariants.{Done, BadWords, BadExpr, BadNet, ReadFault, WriteFault, NoMemory, TooLong}
+use Rattle.metacli.specs.declared.outcome.Stop.{Stop}
+use Rattle.metacli.specs.declared.outcome.Stop.TheVariants as stop
+
+-- the command was carried out, or refused, or its text could not be written
+pub data PureAnswer : Type 0 where
+  done : PureAnswer
+  refused : PureRefusal → PureAnswer
+  write_fault : PureAnswer
+
+abbrev pub pure_answer : Answer → PureAnswer
+pure_answer Done = done
+pure_answer (BadWords f) = refused (words (words_fault_number f))
+pure_answer (BadExpr f) = refused (expr f)
+pure_answer (BadNet f) = refused (network f)
+pure_answer (ReadFault w) = refused (read w)
+pure_answer WriteFault = write_fault
+pure_answer NoMemory = refused memory
+pure_answer (TooLong w) = refused (long w)
+
+abbrev pub pure_stop : Stop → PureRefusal
+pure_stop (stop.Words f) = words (words_fault_number f)
+pure_stop (stop.Expr f) = expr f
+pure_stop (stop.Network f) = network f
+pure_stop (stop.Read w) = read w
+pure_stop (stop.Long w) = long w
+pure_stop stop.Memory = memory
 
 abbrev pub status_of : Answer → ℕ
 status_of Done = 0

@@ -1,26 +1,26 @@
 -- Nothing is given up: without a fault, words that mean a command are carried out, or refused by their
 -- files alone, unless memory is refused.
-use Rattle.std.specs.Prelude.{◌≡◌, ℕ, ◌≤◌, ◌⊎◌, List, Some, Result, Ok, Err, IsTrue, length}
+use Rattle.std.specs.Prelude.{◌≡◌, ℕ, ◌≤◌, ◌⊎◌, List, Some, None, Result, Ok, Err, IsTrue, length}
 use Rattle.meta_base.specs.Count.{HasRisen}
 use Rattle.meta_base.specs.Shelf.{Moment}
 use Rattle.meta_base.specs.declared.limits.TheConstants.{MAX_FILE_BYTES}
 use Rattle.alg_model.specs.Expressions.{PureAlg}
+use Rattle.raml_syntax.specs.ExprText.{ExprText, IsExprFault}
+use Rattle.raml_syntax.specs.Plain.{IsPlainAdd}
 use Rattle.raml_syntax.specs.declared.faults.ExprFault.{ExprFault}
 use Rattle.topology_file.specs.NetText.{PureNetFile, NetText, IsNetFault}
 use Rattle.topology_file.specs.declared.faults.NetFault.{NetFault}
-use Rattle.metacli.specs.Served.{ServedText, ServedFault}
+use Rattle.report_text.specs.Refusals.{expr, network, memory}
+use Rattle.metacli.specs.Answers.{PureAnswer, done, refused}
 use Rattle.metacli.specs.Words.{Words}
-use Rattle.metacli.specs.Outcome.{word_at}
+use Rattle.metacli.specs.Outcome.{PureOutcome, answer_in, unserved, word_at}
 use Rattle.metacli.specs.declared.words.Command.{Command}
 use Rattle.metacli.specs.declared.words.Command.TheVariants.{Check, Route}
 use Rattle.metacli.specs.declared.words.WordsFault.{WordsFault}
-use Rattle.metacli.specs.declared.ended.Ended.{Ended}
-use Rattle.metacli.specs.declared.ended.Answer.{Answer}
-use Rattle.metacli.specs.declared.ended.Answer.TheVariants.{Done, BadExpr, BadNet, NoMemory}
 
 -- this was decided, or memory was refused
-abbrev pub IsUnlessMemory : Ended → Answer → Type 0
-IsUnlessMemory e answer = (e.decided ≡ answer) ⊎ (e.decided ≡ NoMemory)
+abbrev pub IsUnlessMemory : PureOutcome → PureAnswer → Type 0
+IsUnlessMemory o answer = (answer_in o ≡ answer) ⊎ (answer_in o ≡ refused memory)
 
 -- the shelf tells the bytes of the file of that name, and they aren't too many
 pub record IsTold (m : Moment) (name bytes : List ℕ) : Type 0 where
@@ -28,23 +28,29 @@ pub record IsTold (m : Moment) (name bytes : List ℕ) : Type 0 where
   pub file : m.file name ≡ Some bytes
   pub short : length bytes ≤ MAX_FILE_BYTES
 
--- an expression file that means no algebra, or one that isn't served, is refused with its fault, and
--- another is checked
-pub record IsCheckComplete (bytes : List ℕ) (e : Ended) : Type 0 where
-  pub good : (a : PureAlg) → ServedText bytes a → IsUnlessMemory e Done
-  pub bad : (f : ExprFault) → ServedFault bytes f → IsUnlessMemory e (BadExpr f)
+-- bytes that mean no algebra are refused with their fault; of an algebra, this follows
+pub record IsJudged (bytes : List ℕ) (Follows : PureAlg → Type 0) (o : PureOutcome) : Type 0 where
+  pub bad : (f : ExprFault) → IsExprFault bytes f → IsUnlessMemory o (refused (expr f))
+  pub good : (a : PureAlg) → ExprText bytes a → Follows a
 
--- the same of two files, of which the expression file is judged first
-pub record IsRouteComplete (bytes net_bytes : List ℕ) (e : Ended) : Type 0 where
-  pub good : (a : PureAlg) (net : PureNetFile) → ServedText bytes a → NetText net_bytes a net → IsUnlessMemory e Done
-  pub bad_net : (a : PureAlg) (f : NetFault) → ServedText bytes a → IsNetFault net_bytes a f → IsUnlessMemory e (BadNet f)
-  pub bad : (f : ExprFault) → ServedFault bytes f → IsUnlessMemory e (BadExpr f)
+-- bytes that mean no network over the algebra are refused with their fault; a network is carried out
+pub record IsNetJudged (bytes : List ℕ) (o : PureOutcome) (a : PureAlg) : Type 0 where
+  pub bad : (f : NetFault) → IsNetFault bytes a f → IsUnlessMemory o (refused (network f))
+  pub good : (f : PureNetFile) → NetText bytes a f → IsUnlessMemory o done
 
-abbrev pub CompleteBy : List (List ℕ) → Moment → Moment → Ended → Result Command WordsFault → Type 0
-CompleteBy words old new e (Ok (Check file net)) = (bytes : List ℕ) → IsTold old (word_at words file) bytes → ¬ HasRisen old.faults new.faults → IsCheckComplete bytes e
-CompleteBy words old new e (Ok (Route file net workers)) = (bytes net_bytes : List ℕ) → IsTold old (word_at words file) bytes → IsTold old (word_at words net) net_bytes
-    → ¬ HasRisen old.faults new.faults → IsRouteComplete bytes net_bytes e
-CompleteBy words old new e (Err f) = Unit {0}
+-- an algebra that isn't served is refused before the network file
+pub record IsServedAs (bytes : List ℕ) (o : PureOutcome) (a : PureAlg) : Type 0 where
+  pub served : IsPlainAdd a.expression → IsNetJudged bytes o a
+  pub other : ¬ IsPlainAdd a.expression → IsUnlessMemory o (refused (expr unserved))
 
-abbrev pub IsComplete : List (List ℕ) → Moment → Moment → Ended → Type 0
-IsComplete words old new e = CompleteBy words old new e (Words words)
+abbrev pub CompleteBy : List (List ℕ) → Moment → Moment → PureOutcome → Result Command WordsFault → Type 0
+CompleteBy words old new o (Ok (Check file None)) = (bytes : List ℕ) → IsTold old (word_at words file) bytes → ¬ HasRisen old.faults new.faults
+    → IsJudged bytes (λ a. IsUnlessMemory o done) o
+CompleteBy words old new o (Ok (Check file (Some net))) = (bytes net_bytes : List ℕ) → IsTold old (word_at words file) bytes → IsTold old (word_at words net) net_bytes
+    → ¬ HasRisen old.faults new.faults → IsJudged bytes (IsNetJudged net_bytes o) o
+CompleteBy words old new o (Ok (Route file net workers)) = (bytes net_bytes : List ℕ) → IsTold old (word_at words file) bytes → IsTold old (word_at words net) net_bytes
+    → ¬ HasRisen old.faults new.faults → IsJudged bytes (IsServedAs net_bytes o) o
+CompleteBy words old new o (Err f) = Unit {0}
+
+abbrev pub IsComplete : List (List ℕ) → Moment → Moment → PureOutcome → Type 0
+IsComplete words old new o = CompleteBy words old new o (Words words)

@@ -1,8 +1,9 @@
 pub mod Words
-pub mod Views
 pub mod Answers
-pub mod Texts
-pub mod Served
+pub mod Views
 pub mod Reading
 pub mod Outcome
 pub mod Complete
+pub mod Behind
+pub mod Texts
+pub mod Runs

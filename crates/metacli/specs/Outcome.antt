@@ -1,56 +1,98 @@
--- What a run comes to, by its words.
-use Rattle.std.specs.Prelude.{◌≡◌, ℕ, ◌+◌, List, [], ◌∷◌, ◌++◌, length, map, Option, Some, None, Result, Ok, Err, slice_index_or}
+-- What a run comes to, by its words, and the end that shows it.
+use Rattle.std.specs.Prelude.{◌≡◌, ℕ, ◌+◌, ◌⊎◌, List, [], ◌∷◌, ◌++◌, length, map, Option, Some, None, option_map, Result, Ok, Err, slice_index_or}
+use Rattle.std.specs.List.{AllByRecursion, Contains}
 use Rattle.meta_base.specs.Shelf.{Moment}
 use Rattle.alg_model.specs.declared.alg.TheConstants.{MAX_INSTANCE_NUMBER}
-use Rattle.alg_model.specs.Expressions.{PureAlg}
+use Rattle.alg_model.specs.Expressions.{PureAlg, PureLabel}
 use Rattle.alg_model.specs.Application.{IsLabel}
 use Rattle.alg_model.specs.Bounds.{greatest_number}
-use Rattle.alg_model.specs.Verdicts.{ExactFor}
+use Rattle.alg_model.specs.Verdicts.{PureVerdicts, ExactFor}
 use Rattle.alg_model.specs.Instances.{VerdictsAtMost}
-use Rattle.net_graph.specs.Nets.{PureNet}
+use Rattle.property_infer.specs.Views.{pure_verdicts}
+use Rattle.raml_syntax.specs.Plain.{IsPlainAdd}
+use Rattle.raml_syntax.specs.declared.faults.ExprFault.{ExprFault}
+use Rattle.raml_syntax.specs.declared.faults.ExprKind.TheVariants.{Unexpected}
+use Rattle.net_graph.specs.Nets.{PureNet, PureArc}
 use Rattle.net_graph.specs.Tables.{PureRow, BestFirst, Optimal}
-use Rattle.net_graph.specs.Changes.{PureChange, after_all}
+use Rattle.net_graph.specs.Changes.{PureChange}
 use Rattle.net_graph.specs.Views.{pure_change, pure_row}
-use Rattle.topology_file.specs.NetText.{PureNetFile}
-use Rattle.metacli.specs.Words.{Words}
-use Rattle.metacli.specs.Views.{pure_verdicts}
+use Rattle.topology_file.specs.NetText.{PureNetFile, changed_net}
+use Rattle.report_text.specs.Refusals as refusal
+use Rattle.report_text.specs.Refusals.{PureRefusal, expr, memory}
+use Rattle.metacli.specs.Answers.{PureAnswer, done, refused, pure_answer}
 use Rattle.metacli.specs.Reading.{ReadsExpression, ReadsNetwork}
-use Rattle.metacli.specs.declared.verdict.Verdicts.{Verdicts}
+use Rattle.metacli.specs.Words.{Words, words_fault_number}
 use Rattle.metacli.specs.declared.words.Command.{Command}
 use Rattle.metacli.specs.declared.words.Command.TheVariants.{Check, Route}
 use Rattle.metacli.specs.declared.words.WordsFault.{WordsFault}
 use Rattle.metacli.specs.declared.ended.Ended.{Ended}
-use Rattle.metacli.specs.declared.ended.Answer.{Answer}
-use Rattle.metacli.specs.declared.ended.Answer.TheVariants.{Done, BadWords, NoMemory}
 
--- the verdicts are exact for all labels of the algebra, and the numbers of instances are small
-abbrev pub AreVerdictsOn : PureAlg → Option Verdicts → Type 0
-AreVerdictsOn a (Some v) =
-    ExactFor a.expression (IsLabel a.expression) (pure_verdicts v) × VerdictsAtMost (greatest_number a.edition) MAX_INSTANCE_NUMBER (pure_verdicts v)
-AreVerdictsOn a None = ⊥
+-- What a run comes to before anything is written.
+pub data PureOutcome : Type 0 where
+  -- it is refused, and this was read before
+  stopped : Option PureAlg → Option PureNetFile → PureRefusal → PureOutcome
+  -- the verdicts on an algebra, or on the labels of a network over it
+  checked : PureAlg → Option PureNetFile → PureVerdicts → PureOutcome
+  -- the routes of a network over an algebra
+  routed : PureAlg → PureNetFile → List PureRow → PureOutcome
 
--- what was decided on an algebra: its verdicts, unless memory was refused
-abbrev pub IsCheckedAs : PureAlg → Ended → Answer → Type 0
-IsCheckedAs a e Done = AreVerdictsOn a e.verdicts
-IsCheckedAs a e NoMemory = e.verdicts ≡ None
-IsCheckedAs a e _ = ⊥
+abbrev pub algebra_in : PureOutcome → Option PureAlg
+algebra_in (stopped a f r) = a
+algebra_in (checked a f v) = Some a
+algebra_in (routed a f rows) = Some a
 
--- without an algebra the run ends as reading did
-abbrev pub IsCheckedBy : Ended → Result PureAlg Answer → Type 0
-IsCheckedBy e (Ok a) = (e.alg ≡ Some a) × IsCheckedAs a e e.decided
-IsCheckedBy e (Err answer) = (e.alg ≡ None) × (e.verdicts ≡ None) × (e.decided ≡ answer)
+abbrev pub file_in : PureOutcome → Option PureNetFile
+file_in (stopped a f r) = f
+file_in (checked a f v) = f
+file_in (routed a f rows) = Some f
 
--- nothing changes, and nothing is routed
-abbrev pub HasNoRoutes : Ended → Type 0
-HasNoRoutes e = (map pure_change e.changes ≡ []) × (map pure_row e.rows ≡ [])
+abbrev pub verdicts_in : PureOutcome → Option PureVerdicts
+verdicts_in (stopped a f r) = None
+verdicts_in (checked a f v) = Some v
+verdicts_in (routed a f rows) = None
 
--- what check comes to on the expression file of that name: it is read, and then decided
-pub record IsChecked (name : List ℕ) (old new : Moment) (e : Ended) : Type 0 where
-  pub expression : Result PureAlg Answer
-  pub reads : ReadsExpression name old expression new
-  pub ends : IsCheckedBy e expression
-  pub no_net : e.net ≡ None
-  pub no_routes : HasNoRoutes e
+abbrev pub rows_in : PureOutcome → List PureRow
+rows_in (stopped a f r) = []
+rows_in (checked a f v) = []
+rows_in (routed a f rows) = rows
+
+abbrev pub answer_in : PureOutcome → PureAnswer
+answer_in (stopped a f r) = refused r
+answer_in (checked a f v) = done
+answer_in (routed a f rows) = done
+
+-- the changes of a network file, if there is one
+abbrev pub changes_of : Option PureNetFile → List PureChange
+changes_of None = []
+changes_of (Some f) = f.changes
+
+-- The end shows what a command came to: a field that the outcome says nothing of is empty.
+pub record Shows (e : Ended) (asked : Option Command) (o : PureOutcome) : Type 0 where
+  pub command : e.command ≡ asked
+  pub alg : e.alg ≡ algebra_in o
+  pub net : e.net ≡ option_map (λ (f : PureNetFile). f.net) (file_in o)
+  pub changes : map pure_change e.changes ≡ changes_of (file_in o)
+  pub verdicts : option_map pure_verdicts e.verdicts ≡ verdicts_in o
+  pub rows : map pure_row e.rows ≡ rows_in o
+  pub decided : pure_answer e.decided ≡ answer_in o
+
+-- the verdicts are exact for the labels of the set, and the numbers of instances are small
+pub record AreVerdictsOn (a : PureAlg) (S : PureLabel → Type 0) (v : PureVerdicts) : Type 0 where
+  pub exact : ExactFor a.expression S v
+  pub bound : VerdictsAtMost (greatest_number a.edition) MAX_INSTANCE_NUMBER v
+
+-- what check comes to where all was read: the verdicts, unless memory is refused
+abbrev pub IsCheckedAs : PureAlg → Option PureNetFile → (PureLabel → Type 0) → PureOutcome → Type 0
+IsCheckedAs a file S (checked b f v) = (b ≡ a) × (f ≡ file) × AreVerdictsOn a S v
+IsCheckedAs a file S (stopped b f memory) = (b ≡ Some a) × (f ≡ file)
+IsCheckedAs a file S _ = ⊥
+
+-- the labels on the arcs of the network, in file order
+abbrev pub labels_on : PureNet → List PureLabel
+labels_on net = map (λ (a : PureArc). a.label) net.arcs
+
+abbrev pub IsOnArc : PureNet → PureLabel → Type 0
+IsOnArc net = Contains (labels_on net)
 
 -- the tables of the destinations from that one on: each is the one that is made best first, and no
 -- walk beats it
@@ -70,56 +112,74 @@ pub record AreRoutesOn (net : PureNet) (rows : List PureRow) : Type 0 where
   pub count : length tables ≡ length net.dests
   pub joined : rows ≡ joined_rows tables
 
--- what was decided on a network: its routes, unless memory was refused
-abbrev pub IsRoutedAs : PureNet → List PureRow → Answer → Type 0
-IsRoutedAs net rows Done = AreRoutesOn net rows
-IsRoutedAs net rows NoMemory = rows ≡ []
-IsRoutedAs net rows _ = ⊥
+-- what route comes to where all was read: the routes on the network behind its changes, unless memory is refused
+abbrev pub IsRoutedAs : PureAlg → PureNetFile → PureOutcome → Type 0
+IsRoutedAs a file (routed b f rows) = (b ≡ a) × (f ≡ file) × AreRoutesOn (changed_net file) rows
+IsRoutedAs a file (stopped b f memory) = (b ≡ Some a) × (f ≡ Some file)
+IsRoutedAs a file _ = ⊥
 
--- the routes are those of the network behind all its changes; without a network the run ends as reading did
-abbrev pub IsRoutedTo : Result PureNetFile Answer → Option PureNet → List PureChange → List PureRow → Answer → Type 0
-IsRoutedTo (Ok f) net changes rows decided = (net ≡ Some f.net) × (changes ≡ f.changes) × IsRoutedAs (after_all f.net f.changes) rows decided
-IsRoutedTo (Err answer) net changes rows decided = (net ≡ None) × (changes ≡ []) × (rows ≡ []) × (decided ≡ answer)
+-- What comes of an expression file: over its algebra, what Then says; or it is refused, and nothing more is
+-- begun.
+abbrev pub GoesOnFrom : (PureAlg → Moment → Moment → PureOutcome → Type 0) → Moment → Moment → PureOutcome → Result PureAlg PureRefusal → Type 0
+GoesOnFrom Then between new o (Ok a) = Then a between new o
+GoesOnFrom Then between new o (Err r) = (new ≡ between) × (o ≡ stopped None None r)
 
--- the network file is read over the algebra, and then the routes are found
-pub record IsRoutedOver (a : PureAlg) (name : List ℕ) (old new : Moment) (e : Ended) : Type 0 where
-  pub network : Result PureNetFile Answer
-  pub reads : ReadsNetwork a name old network new
-  pub ends : IsRoutedTo network e.net (map pure_change e.changes) (map pure_row e.rows) e.decided
-
--- without an algebra the network file isn't begun
-abbrev pub IsRoutedAfter : List ℕ → Moment → Moment → Ended → Result PureAlg Answer → Type 0
-IsRoutedAfter name old new e (Ok a) = (e.alg ≡ Some a) × IsRoutedOver a name old new e
-IsRoutedAfter name old new e (Err answer) = (new ≡ old) × (e.alg ≡ None) × (e.net ≡ None) × HasNoRoutes e × (e.decided ≡ answer)
-
--- what route comes to on the expression file and the network file of these names: the first is read,
--- then the second, and then the routes are found
-pub record IsRouted (file net : List ℕ) (old new : Moment) (e : Ended) : Type 0 where
+-- the expression file of that name is read, and this comes of it
+pub record WithAlgebra (name : List ℕ) (Then : PureAlg → Moment → Moment → PureOutcome → Type 0) (old new : Moment) (o : PureOutcome) : Type 0 where
   pub between : Moment
-  pub expression : Result PureAlg Answer
-  pub reads : ReadsExpression file old expression between
-  pub ends : IsRoutedAfter net between new e expression
-  pub no_verdicts : e.verdicts ≡ None
+  pub expression : Result PureAlg PureRefusal
+  pub reads : ReadsExpression name old expression between
+  pub goes_on : GoesOnFrom Then between new o expression
 
--- what words with a fault come to: nothing is read
-pub record IsRefused (f : WordsFault) (old new : Moment) (e : Ended) : Type 0 where
-  pub unread : new ≡ old
-  pub command : e.command ≡ None
-  pub algebra : e.alg ≡ None
-  pub net : e.net ≡ None
-  pub verdicts : e.verdicts ≡ None
-  pub no_routes : HasNoRoutes e
-  pub decided : e.decided ≡ BadWords f
+-- the same of a network file over the algebra
+abbrev pub GoesOnOver : PureAlg → (PureNetFile → PureOutcome → Type 0) → PureOutcome → Result PureNetFile PureRefusal → Type 0
+GoesOnOver a Then o (Ok f) = Then f o
+GoesOnOver a Then o (Err r) = o ≡ stopped (Some a) None r
+
+pub record WithNetwork (a : PureAlg) (name : List ℕ) (Then : PureNetFile → PureOutcome → Type 0) (old new : Moment) (o : PureOutcome) : Type 0 where
+  pub network : Result PureNetFile PureRefusal
+  pub reads : ReadsNetwork a name old network new
+  pub goes_on : GoesOnOver a Then o network
+
+-- how an algebra is refused that route doesn't serve yet: at its first byte
+abbrev pub unserved : ExprFault
+unserved = record { kind = Unexpected; place = record { line = 1; column = 1 } }
+
+-- the network file is read over the algebra and then routed, if the algebra is served
+abbrev pub IsRoutedOver : List ℕ → PureAlg → Moment → Moment → PureOutcome → Type 0
+IsRoutedOver net a old new o =
+    (IsPlainAdd a.expression × WithNetwork a net (IsRoutedAs a) old new o)
+    ⊎ ((¬ IsPlainAdd a.expression) × (new ≡ old) × (o ≡ stopped None None (expr unserved)))
+
+-- all labels of the algebra are decided on
+abbrev pub IsAlgebraChecked : PureAlg → Moment → Moment → PureOutcome → Type 0
+IsAlgebraChecked a old new o = (new ≡ old) × IsCheckedAs a None (IsLabel a.expression) o
+
+-- the network file is read over the algebra, and then the labels on its arcs are decided on, behind all changes
+abbrev pub IsNetworkChecked : List ℕ → PureAlg → Moment → Moment → PureOutcome → Type 0
+IsNetworkChecked net a = WithNetwork a net (λ f. IsCheckedAs a (Some f) (IsOnArc (changed_net f)))
+
+-- what check comes to on the expression file of that name, and on it and the network file of these names
+abbrev pub IsChecked : List ℕ → Moment → Moment → PureOutcome → Type 0
+IsChecked file = WithAlgebra file IsAlgebraChecked
+
+abbrev pub IsCheckedOn : List ℕ → List ℕ → Moment → Moment → PureOutcome → Type 0
+IsCheckedOn file net = WithAlgebra file (IsNetworkChecked net)
+
+-- what route comes to on the files of these names
+abbrev pub IsRouted : List ℕ → List ℕ → Moment → Moment → PureOutcome → Type 0
+IsRouted file net = WithAlgebra file (IsRoutedOver net)
 
 -- the word at a place
 abbrev pub word_at : List (List ℕ) → ℕ → List ℕ
 word_at words place = slice_index_or words place []
 
-abbrev pub EndedBy : List (List ℕ) → Moment → Moment → Ended → Result Command WordsFault → Type 0
-EndedBy words old new e (Ok (Check file net)) = (e.command ≡ Some (Check file net)) × IsChecked (word_at words file) old new e
-EndedBy words old new e (Ok (Route file net workers)) = (e.command ≡ Some (Route file net workers)) × IsRouted (word_at words file) (word_at words net) old new e
-EndedBy words old new e (Err f) = IsRefused f old new e
+-- what the words come to: their command, or the fault that they have, where nothing is read
+abbrev pub ComesBy : List (List ℕ) → Result Command WordsFault → Moment → Moment → Option Command → PureOutcome → Type 0
+ComesBy words (Ok (Check file None)) old new c o = (c ≡ Some (Check file None)) × IsChecked (word_at words file) old new o
+ComesBy words (Ok (Check file (Some net))) old new c o = (c ≡ Some (Check file (Some net))) × IsCheckedOn (word_at words file) (word_at words net) old new o
+ComesBy words (Ok (Route file net workers)) old new c o = (c ≡ Some (Route file net workers)) × IsRouted (word_at words file) (word_at words net) old new o
+ComesBy words (Err f) old new c o = (c ≡ None) × (new ≡ old) × (o ≡ stopped None None (refusal.words (words_fault_number f)))
 
--- what a run of these words comes to
-abbrev pub IsEnded : List (List ℕ) → Moment → Moment → Ended → Type 0
-IsEnded words old new e = EndedBy words old new e (Words words)
+abbrev pub ComesTo : List (List ℕ) → Moment → Moment → Option Command → PureOutcome → Type 0
+ComesTo words = ComesBy words (Words words)

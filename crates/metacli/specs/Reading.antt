@@ -6,10 +6,9 @@ use Rattle.meta_base.specs.declared.ids.Which.{Which}
 use Rattle.meta_base.specs.declared.ids.Which.TheVariants.{Expr, Network}
 use Rattle.meta_base.specs.declared.limits.TheConstants.{MAX_FILE_BYTES}
 use Rattle.alg_model.specs.Expressions.{PureAlg}
+use Rattle.raml_syntax.specs.ExprText.{ExprText, IsExprFault}
 use Rattle.topology_file.specs.NetText.{PureNetFile, NetText, IsNetFault}
-use Rattle.metacli.specs.Served.{ServedText, ServedFault}
-use Rattle.metacli.specs.declared.ended.Answer.{Answer}
-use Rattle.metacli.specs.declared.ended.Answer.TheVariants.{BadExpr, BadNet, ReadFault, NoMemory, TooLong}
+use Rattle.report_text.specs.Refusals.{PureRefusal, expr, network, read, long, memory}
 
 -- these bytes were taken, to the end of the file, and aren't too many; where the shelf tells its files,
 -- they are those of the file of that name
@@ -24,60 +23,53 @@ abbrev pub Holds : Moment → List ℕ → (List ℕ → Type 0) → Moment → 
 Holds old name P new = (bytes : List ℕ) × P bytes × IsWhole old name bytes new
 
 -- why a file was not taken
-abbrev pub IsUntaken : Which → List ℕ → Moment → Moment → Answer → Type 0
-IsUntaken which name old new (ReadFault w) = (w ≡ which) × (new.ended ≡ false) × (HasRisen old.faults new.faults ⊎ IsAbsent old name)
-IsUntaken which name old new (TooLong w) = (w ≡ which) × (MAX_FILE_BYTES < new.taken)
+abbrev pub IsUntaken : Which → List ℕ → Moment → Moment → PureRefusal → Type 0
+IsUntaken which name old new (read w) = (w ≡ which) × (new.ended ≡ false) × (HasRisen old.faults new.faults ⊎ IsAbsent old name)
+IsUntaken which name old new (long w) = (w ≡ which) × (MAX_FILE_BYTES < new.taken)
     × (IsTrue old.tells → (bytes : List ℕ) × (old.file name ≡ Some bytes) × (MAX_FILE_BYTES < length bytes))
-IsUntaken which name old new NoMemory = Unit {0}
+IsUntaken which name old new memory = Unit {0}
 IsUntaken which name old new _ = ⊥
 
-abbrev pub IsTakenAs : Which → List ℕ → Moment → Result (List ℕ) Answer → Moment → Type 0
-IsTakenAs which name old (Ok bytes) new = IsWhole old name bytes new
-IsTakenAs which name old (Err answer) new = IsUntaken which name old new answer
+-- What a file of that name meant to its reader: its bytes were all taken and mean what M says, or have the
+-- fault that F says, or weren't taken.
+abbrev pub IsReadAs : {X : Type 0} → Which → List ℕ → (List ℕ → X → Type 0) → (List ℕ → PureRefusal → Type 0) → Moment → Result X PureRefusal → Moment → Type 0
+IsReadAs which name M F old (Ok x) new = Holds old name (λ bytes. M bytes x) new
+IsReadAs which name M F old (Err r) new = IsUntaken which name old new r ⊎ Holds old name (λ bytes. F bytes r) new
 
--- what taking the bytes of a file does: all of them, to their end, or a cause
-pub record Takes (which : Which) (name : List ℕ) (old : Moment) (result : Result (List ℕ) Answer) (new : Moment) : Type 0 where
+-- what reading does: one file is begun, and no call fails unless that is answered; what was too much is
+-- always refused
+pub record Reads {X : Type 0} (which : Which) (name : List ℕ) (M : List ℕ → X → Type 0) (F : List ℕ → PureRefusal → Type 0)
+    (old : Moment) (result : Result X PureRefusal) (new : Moment) : Type 0 where
   pub keeps : Keeps old new
-  -- what was too much is always refused
-  pub too_long : MAX_FILE_BYTES < new.taken → result ≡ Err (TooLong which)
-  -- one file is begun, and no call fails unless that is answered
+  pub too_long : MAX_FILE_BYTES < new.taken → result ≡ Err (long which)
   pub begun : new.begun ≡ raised old.begun 1
-  pub no_fault : result ≢ Err (ReadFault which) → new.faults ≡ old.faults
-  pub taken : IsTakenAs which name old result new
+  pub no_fault : result ≢ Err (read which) → new.faults ≡ old.faults
+  pub as_read : IsReadAs which name M F old result new
 
--- why there is no algebra
-abbrev pub HasNoAlgebra : List ℕ → Moment → Moment → Answer → Type 0
-HasNoAlgebra name old new (BadExpr f) = Holds old name (λ bytes. ServedFault bytes f) new
-HasNoAlgebra name old new answer = IsUntaken Expr name old new answer
+-- the bytes are what they are, and have no fault
+abbrev pub AreBytes : List ℕ → List ℕ → Type 0
+AreBytes bytes b = b ≡ bytes
 
-abbrev pub IsExpressionAs : List ℕ → Moment → Result PureAlg Answer → Moment → Type 0
-IsExpressionAs name old (Ok a) new = Holds old name (λ bytes. ServedText bytes a) new
-IsExpressionAs name old (Err answer) new = HasNoAlgebra name old new answer
+abbrev pub HasNoFault : List ℕ → PureRefusal → Type 0
+HasNoFault bytes r = ⊥
 
--- what reading the expression file does: the algebra that all of its bytes mean, or a cause
-pub record ReadsExpression (name : List ℕ) (old : Moment) (result : Result PureAlg Answer) (new : Moment) : Type 0 where
-  pub keeps : Keeps old new
-  pub too_long : MAX_FILE_BYTES < new.taken → result ≡ Err (TooLong Expr)
-  -- one file is begun, and no call fails unless that is answered
-  pub begun : new.begun ≡ raised old.begun 1
-  pub no_fault : result ≢ Err (ReadFault Expr) → new.faults ≡ old.faults
-  pub read : IsExpressionAs name old result new
+-- the text has the fault of the refusal
+abbrev pub IsExprRefusal : List ℕ → PureRefusal → Type 0
+IsExprRefusal text (expr f) = IsExprFault text f
+IsExprRefusal text _ = ⊥
 
--- why there is no network over the algebra
-abbrev pub HasNoNetwork : PureAlg → List ℕ → Moment → Moment → Answer → Type 0
-HasNoNetwork a name old new (BadNet f) = Holds old name (λ bytes. IsNetFault bytes a f) new
-HasNoNetwork a name old new answer = IsUntaken Network name old new answer
+abbrev pub IsNetRefusal : PureAlg → List ℕ → PureRefusal → Type 0
+IsNetRefusal a text (network f) = IsNetFault text a f
+IsNetRefusal a text _ = ⊥
 
-abbrev pub IsNetworkAs : PureAlg → List ℕ → Moment → Result PureNetFile Answer → Moment → Type 0
-IsNetworkAs a name old (Ok f) new = Holds old name (λ bytes. NetText bytes a f) new
-IsNetworkAs a name old (Err answer) new = HasNoNetwork a name old new answer
+-- taking the bytes of a file
+abbrev pub Takes : Which → List ℕ → Moment → Result (List ℕ) PureRefusal → Moment → Type 0
+Takes which name = Reads which name AreBytes HasNoFault
 
--- what reading the network file does: the network over the algebra that all of its bytes mean, with its
--- changes, or a cause
-pub record ReadsNetwork (a : PureAlg) (name : List ℕ) (old : Moment) (result : Result PureNetFile Answer) (new : Moment) : Type 0 where
-  pub keeps : Keeps old new
-  pub too_long : MAX_FILE_BYTES < new.taken → result ≡ Err (TooLong Network)
-  -- one file is begun, and no call fails unless that is answered
-  pub begun : new.begun ≡ raised old.begun 1
-  pub no_fault : result ≢ Err (ReadFault Network) → new.faults ≡ old.faults
-  pub read : IsNetworkAs a name old result new
+-- reading the algebra of the expression file of that name
+abbrev pub ReadsExpression : List ℕ → Moment → Result PureAlg PureRefusal → Moment → Type 0
+ReadsExpression name = Reads Expr name ExprText IsExprRefusal
+
+-- reading the network of the network file of that name, with its changes, over the algebra
+abbrev pub ReadsNetwork : PureAlg → List ℕ → Moment → Result PureNetFile PureRefusal → Moment → Type 0
+ReadsNetwork a name = Reads Network name (λ text. NetText text a) (IsNetRefusal a)

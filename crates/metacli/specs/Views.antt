@@ -1,39 +1,21 @@
--- What verdicts of the program stand for.
-use Rattle.std.specs.Prelude.{option_map}
-use Rattle.alg_model.specs.Views.{pure_value, pure_label}
-use Rattle.alg_model.specs.Properties as properties
-use Rattle.alg_model.specs.Verdicts.{PureInstance, PureVerdict, holds, fails, PureVerdicts}
-use Rattle.metacli.specs.declared.verdict.Property.{Property}
-use Rattle.metacli.specs.declared.verdict.Property.TheVariants.{Monotone, Strict, Isotone, Cancellative, Total}
-use Rattle.metacli.specs.declared.verdict.Instance.{Instance}
-use Rattle.metacli.specs.declared.verdict.Verdict.{Verdict}
-use Rattle.metacli.specs.declared.verdict.Verdict.TheVariants.{Yes, No}
-use Rattle.metacli.specs.declared.verdict.Verdicts.{Verdicts}
+-- What outcomes and results of the program stand for.
+use Rattle.std.specs.Prelude.{map, option_map, Result, Ok, Err}
+use Rattle.net_graph.specs.Views.{pure_row}
+use Rattle.topology_file.specs.Views.{pure_file}
+use Rattle.property_infer.specs.Views.{pure_verdicts}
+use Rattle.report_text.specs.Refusals.{PureRefusal}
+use Rattle.metacli.specs.Answers.{pure_stop}
+use Rattle.metacli.specs.Outcome.{PureOutcome, stopped, checked, routed}
+use Rattle.metacli.specs.declared.outcome.Stop.{Stop}
+use Rattle.metacli.specs.declared.outcome.Outcome.{Outcome}
+use Rattle.metacli.specs.declared.outcome.Outcome.TheVariants as outcome
 
-abbrev pub pure_property : Property → properties.PureProperty
-pure_property Monotone = properties.monotone
-pure_property Strict = properties.strict
-pure_property Isotone = properties.isotone
-pure_property Cancellative = properties.cancellative
-pure_property Total = properties.total
+abbrev pub pure_outcome : Outcome → PureOutcome
+pure_outcome (outcome.Stopped a f r) = stopped a (option_map pure_file f) (pure_stop r)
+pure_outcome (outcome.Checked a f v) = checked a (option_map pure_file f) (pure_verdicts v)
+pure_outcome (outcome.Routed a f rows) = routed a (pure_file f) (map pure_row rows)
 
-abbrev pub pure_instance : Instance → PureInstance
-pure_instance x = record {
-  property = pure_property x.property;
-  label = pure_label x.label;
-  first = pure_value x.first;
-  second = option_map pure_value x.second;
-}
-
-abbrev pub pure_verdict : Verdict → PureVerdict
-pure_verdict Yes = holds
-pure_verdict (No x) = fails (pure_instance x)
-
-abbrev pub pure_verdicts : Verdicts → PureVerdicts
-pure_verdicts v = record {
-  monotone = pure_verdict v.monotone;
-  strict = pure_verdict v.strict;
-  isotone = pure_verdict v.isotone;
-  cancellative = pure_verdict v.cancellative;
-  total = pure_verdict v.total;
-}
+-- what was read, or why it wasn't
+abbrev pub as_read : {R S : Type 0} → (R → S) → Result R Stop → Result S PureRefusal
+as_read f (Ok r) = Ok (f r)
+as_read f (Err stop) = Err (pure_stop stop)

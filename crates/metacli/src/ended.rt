@@ -1,10 +1,11 @@
 ghost use Rattle.std.specs.Prelude.{◌≡◌};
 ghost use Rattle.metacli.specs.Answers.{status_of};
 
-use crate::{Command, Verdicts, WordsFault};
+use crate::{Command, WordsFault};
 use alg_model::Alg;
 use meta_base::{List, Which};
 use net_graph::{Change, Net, RouteRow};
+use property_infer::Verdicts;
 use raml_syntax::ExprFault;
 use topology_file::NetFault;
 
@@ -29,7 +30,7 @@ pub enum Answer {
     TooLong(Which),
 }
 
-/// What a run came to.
+/// What a run came to. A field that its command doesn't make is `None` or empty.
 #[derive(Debug, Drop)]
 pub struct Ended {
     /// What the words asked for, where they mean a command.

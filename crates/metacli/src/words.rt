@@ -1,5 +1,5 @@
 ghost use Rattle.std.specs.Prelude.{◌≡◌, IfOk};
-ghost use Rattle.metacli.specs.Words.{Words, words_fault_number, HasItsWords};
+ghost use Rattle.metacli.specs.Words.{Words, command_on_one, command_on_two, words_fault_number, HasItsWords};
 
 use meta_base::Text;
 
@@ -27,7 +27,8 @@ impl WordsFault {
 /// What the program is asked to do. Its files are places in the words.
 #[derive(Clone, Copy, Debug, PartialEq, Eq)]
 pub enum Command {
-    /// Decides the five properties of the algebra of an expression file; `net` isn't there yet.
+    /// Decides the five properties of the algebra of an expression file, or, with a network file, of the
+    /// labels on its arcs.
     Check {
         file: usize,
         net: Option<usize>,
@@ -43,18 +44,39 @@ pub enum Command {
 /// The command that the words after the program's name mean, or the first fault in them. It takes no
 /// memory.
 ///
-/// For now a command is the word `check` and the name of an expression file, or the word `route` and
-/// the names of an expression file and a network file; routes are found by one worker alone.
+/// For now a command is the word `check` and the name of an expression file, with that of a network file
+/// behind it or not, or the word `route` and the names of both files; routes are found by one worker alone.
 pub fn read_words(words: &[Text]) -> Result<Command, WordsFault>
     ensures command { result ≡ Words words.now }
     ensures places { IfOk result (HasItsWords words.now) }
 {
     match words {
-        [command, _file] if command.as_str() == "check" => Ok(Command::Check {
+        [command, _file] => command_on_one(command.as_str()),
+        [command, _file, _net] => command_on_two(command.as_str()),
+        _ => Err(WordsFault::UnknownCommand),
+    }
+}
+
+// The command of this word with the name of one file behind it.
+fn command_on_one(word: &str) -> Result<Command, WordsFault>
+    ensures { result ≡ command_on_one word.now }
+{
+    match word {
+        "check" => Ok(Command::Check { file: 1, net: None }),
+        _ => Err(WordsFault::UnknownCommand),
+    }
+}
+
+// The same with the names of two.
+fn command_on_two(word: &str) -> Result<Command, WordsFault>
+    ensures { result ≡ command_on_two word.now }
+{
+    match word {
+        "check" => Ok(Command::Check {
             file: 1,
-            net: None,
+            net: Some(2),
         }),
-        [command, _file, _net] if command.as_str() == "route" => Ok(Command::Route {
+        "route" => Ok(Command::Route {
             file: 1,
             net: 2,
             workers: DEFAULT_WORKERS,

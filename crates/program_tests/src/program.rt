@@ -132,7 +132,7 @@ fn words_are_refused(rt: HostRuntime) -> Result<(), Fail> {
         none,
         &["walk", "f"],
         &["check"],
-        &["check", "f", "n"],
+        &["check", "f", "n", "n"],
         &["route", "f"],
         &["route", "f", "n", "n"],
     ] {
@@ -161,13 +161,117 @@ fn expressions_are_refused(rt: HostRuntime) -> Result<(), Fail> {
             b"expression refused: X8 at 1:28\n",
         ),
         (b"raml 3; main gate;", b"expression refused: X12 at 1:6\n"),
-        (b"raml 2; main gate;", b"expression refused: X2 at 1:1\n"),
-        // An algebra that isn't one `add` isn't served yet; a fault comes first.
-        (b"main gate;", b"expression refused: X2 at 1:1\n"),
         (b"main gate", b"expression refused: X3 at 1:10\n"),
     ];
     for (file, text) in refused {
         assert!(rt; ended_with(run(&rt, &["check", "f"], *file)?, *text, 2));
+    }
+    Ok(())
+}
+
+// `route` doesn't serve an algebra that isn't one `add` yet, and doesn't begin the network file; a fault comes first.
+#[test]
+fn other_algebras_are_not_routed(rt: HostRuntime) -> Result<(), Fail> {
+    let refused: &[(&[u8], &[u8])] = &[
+        (b"raml 2; main gate;", b"expression refused: X2 at 1:1\n"),
+        (b"main gate;", b"expression refused: X2 at 1:1\n"),
+        (b"main gate", b"expression refused: X3 at 1:10\n"),
+    ];
+    for (file, text) in refused {
+        assert!(rt; ended_with(run(&rt, &["route", "f", "m"], *file)?, *text, 2));
+    }
+    Ok(())
+}
+
+const PROPERTIES: [&str; 5] = ["monotone", "strict", "isotone", "cancellative", "total"];
+
+// Whether the five lines say of each property that it holds, where it is marked `y`, and else deny it with an
+// instance.
+fn says(text: &str, marks: &str) -> Result<bool, Fail> {
+    for ((line, property), mark) in text.lines().zip(PROPERTIES).zip(marks.chars()) {
+        let rest = line.strip_prefix(property).ok_or("another property")?;
+        if (mark == 'y') != (rest == " yes") || (mark != 'y') != rest.starts_with(" no: ") {
+            return Ok(false);
+        }
+    }
+    Ok(text.lines().count() == 5)
+}
+
+// Whether the run said so, and wrote these lines among others.
+fn has_said(outcome: Outcome, marks: &str, lines: &str) -> Result<bool, Fail> {
+    let text = str::from_utf8(&outcome.taken)?;
+    Ok(outcome.status == 0 && says(text, marks)? && text.contains(lines))
+}
+
+const CUSTOMERS: &[u8] = b"let rel = table {
+  c < r < p;
+  C: c -> c;
+  R: c -> r;
+  P: c -> p, r -> p, p -> p
+};
+main lex(rel, add(1..1));";
+
+const BAD_GADGET: &[u8] = b"main table { o < a < d; D: o -> d; N: d -> a };";
+
+const BAD_LINES: &str = "monotone no: N on d gives a\nstrict no: N on d gives a\n";
+
+#[test]
+fn policies_are_decided(rt: HostRuntime) -> Result<(), Fail> {
+    let cases: &[(&[u8], &str, &str)] = &[
+        (b"main add(0..10);", "y-yyy", ""),
+        (b"main lex(width(100; 0..100), add(1..10));", "yy--y", ""),
+        (b"main lex(add(1..10), width(100; 0..100));", "yyy-y", ""),
+        (
+            b"main cap(15; 1..1);",
+            "yyyy-",
+            "total no: 1 on 15 gives none\n",
+        ),
+        (b"main lex(add(1..1), cap(100; 1..10));", "yy-y-", ""),
+        (b"main lex(lp(3), add(1..1));", "----y", ""),
+        (b"raml 2; main add(1..18446744073709551615);", "yyyyy", ""),
+        (CUSTOMERS, "yy---", ""),
+        (BAD_GADGET, "---y-", BAD_LINES),
+    ];
+    for (file, marks, lines) in cases {
+        assert!(rt; has_said(run(&rt, &["check", "f"], *file)?, *marks, *lines)?);
+    }
+    Ok(())
+}
+
+// What is asked of a network is asked of the labels on its arcs alone, behind all changes.
+#[test]
+fn networks_are_decided(rt: HostRuntime) -> Result<(), Fail> {
+    let cases: &[(&[u8], &[u8], &str, &str)] = &[
+        (
+            b"main gate;",
+            b"node a b\nlink a b : deny\norigin x at b : unit\n",
+            "yyyy-",
+            "total no: deny on unit gives none\n",
+        ),
+        (b"main gate;", b"node a b\nlink a b : allow\n", "y-yyy", ""),
+        (
+            b"main add(0..10);",
+            b"node a b\nlink a b : 0\n",
+            "y-yyy",
+            "",
+        ),
+        (
+            b"main add(0..10);",
+            b"node a b\nlink a b : 0\nthen link a b : 1\n",
+            "yyyyy",
+            "",
+        ),
+        (
+            b"main add(0..10);",
+            b"node a b\nlink a b : 0\nlink b a : 1\nthen drop a b\n",
+            "yyyyy",
+            "",
+        ),
+        (BAD_GADGET, b"", "yyyyy", ""),
+    ];
+    for (file, net, marks, lines) in cases {
+        let outcome = run_on(&rt, &["check", "f", "n"], *file, *net)?;
+        assert!(rt; has_said(outcome, *marks, *lines)?);
     }
     Ok(())
 }

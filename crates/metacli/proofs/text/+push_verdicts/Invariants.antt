@@ -1,5 +1,0 @@
-use Rattle.std.proofs.Common.{length}
-use Rattle.metacli.proofs.text.+push_verdicts.Given as goal
-
-abbrev pub decreases-push_verdicts : goal.decreases-push_verdicts
-decreases-push_verdicts l = length l.properties.now

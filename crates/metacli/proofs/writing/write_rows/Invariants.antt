@@ -1,0 +1,10 @@
+use Rattle.std.proofs.Common.{map, drop}
+use Rattle.net_graph.specs.Views.{pure_row}
+use Rattle.metacli.specs.Texts.{rows_text}
+use Rattle.metacli.proofs.Written.{HasLines}
+use Rattle.metacli.proofs.writing.write_rows.Given as goal
+
+-- the lines of the rows so far were appended
+abbrev pub invariant-loop-row : goal.invariant-loop-row
+invariant-loop-row g l =
+    HasLines (g.K.Sink.holds l.fn.out) (rows_text l.net (map pure_row l.rows)) (rows_text l.net (map pure_row (drop l.row-index l.rows))) (g.K.Sink.holds l.out)

@@ -1,0 +1,18 @@
+-- What a run does: what it promises of the files, of the end, and of what was written.
+use Rattle.std.specs.Prelude.{ℕ, List}
+use Rattle.meta_base.specs.Shelf.{Moment}
+use Rattle.meta_base.specs.Sink.{Held}
+use Rattle.metacli.specs.Answers.{pure_answer}
+use Rattle.metacli.specs.Outcome.{PureOutcome, answer_in, ComesTo, Shows}
+use Rattle.metacli.specs.Complete.{IsComplete}
+use Rattle.metacli.specs.Texts.{TextOf, Written}
+use Rattle.metacli.specs.declared.ended.Ended.{Ended}
+
+-- The words come to an outcome, by what was read. It is what the end shows, it has its cause, and its text is
+-- what was written.
+pub record Runs (words : List (List ℕ)) (old new : Moment) (before after : Held) (e : Ended) : Type 0 where
+  pub outcome : PureOutcome
+  pub shows : Shows e e.command outcome
+  pub comes_to : ComesTo words old new e.command outcome
+  pub complete : IsComplete words old new outcome
+  pub written : Written before (TextOf outcome) after (answer_in outcome) (pure_answer e.answer)

@@ -1,0 +1,36 @@
+// A network behind its changes.
+ghost use Rattle.std.specs.Prelude.{◌≡◌, IfOk, map};
+ghost use Rattle.net_graph.specs.Changes.{AreChanges, after_all};
+ghost use Rattle.net_graph.specs.Views.{pure_change};
+ghost use Rattle.metacli.specs.Behind.{last_of};
+
+use meta_base::NoMemory;
+use net_graph::{Change, Net};
+use std::alloc::Global;
+
+/// The network behind these changes, or `None` where there are none.
+pub fn net_behind(alloc: Global, net: &Net, changes: &[Change]) -> Result<Option<Net>, NoMemory>
+    requires { AreChanges net.now (map pure_change changes.now) }
+    ensures { IfOk result (λ behind. last_of behind net.now ≡ after_all net.now (map pure_change changes.now)) }
+{
+    match changes {
+        [] => Ok(None),
+        [change, rest @ ..] => {
+            let next = net.changed(alloc, change)?;
+            match net_behind(alloc, &next, rest)? {
+                Some(last) => Ok(Some(last)),
+                None => Ok(Some(next)),
+            }
+        }
+    }
+}
+
+/// That network, which is the one before the changes where there are none.
+pub fn last_of<'a>(behind: &'a Option<Net>, net: &'a Net) -> &'a Net
+    ensures { result.now ≡ last_of behind.now net.now }
+{
+    match behind {
+        Some(last) => last,
+        None => net,
+    }
+}
