@@ -37,36 +37,49 @@ fn class_of_zero(alloc: Global) -> Result<Class, Fail> {
     Ok(base_class(alloc, &alg, &Label::Number(0))?)
 }
 
-// The counts of classes of composed algebras: a lexical and a scoped product, a union, a sum and a plus.
-fn counts(alloc: Global) -> Result<[usize; 5], Fail> {
+fn count_of_lex(alloc: Global) -> Result<usize, Fail> {
+    let ones = classes_of_sums(alloc, 1, 1)?;
+    let both = classes_of_sums(alloc, 0, 1)?;
+    count(lex_class_list(alloc, &ones, &both))
+}
+
+fn count_of_scoped(alloc: Global) -> Result<usize, Fail> {
+    let ones = classes_of_sums(alloc, 1, 1)?;
+    count(scoped_class_list(alloc, &ones, &ones, &Carrier::Whole, &Carrier::Whole))
+}
+
+fn count_of_union(alloc: Global) -> Result<usize, Fail> {
+    let ones = classes_of_sums(alloc, 1, 1)?;
+    count(union_class_list(alloc, &ones, &ones))
+}
+
+fn count_of_sum(alloc: Global) -> Result<usize, Fail> {
+    let ones = classes_of_sums(alloc, 1, 1)?;
+    count(sum_class_list(alloc, &ones, &ones))
+}
+
+fn count_of_plus(alloc: Global) -> Result<usize, Fail> {
     let ones = classes_of_sums(alloc, 1, 1)?;
     let zeros = classes_of_sums(alloc, 0, 0)?;
-    let both = classes_of_sums(alloc, 0, 1)?;
-    let whole = Carrier::Whole;
-    Ok([
-        lex_class_list(alloc, &ones, &both)?.classes().len(),
-        scoped_class_list(alloc, &ones, &ones, &whole, &whole)?
-            .classes()
-            .len(),
-        union_class_list(alloc, &ones, &ones)?.classes().len(),
-        sum_class_list(alloc, &ones, &ones)?.classes().len(),
-        plus_class_list(alloc, &ones, &zeros)?.classes().len(),
-    ])
+    count(plus_class_list(alloc, &ones, &zeros))
+}
+
+// How many classes there are. It sees no contract of what made them.
+fn count(classes: Result<ClassList, NoMemory>) -> Result<usize, Fail> {
+    Ok(classes?.classes().len())
 }
 
 #[test]
 fn classes_are_counted(rt: HostRuntime) -> Result<(), Fail> {
     let alloc = rt.alloc();
     assert_eq!(rt; classes_of_sums(alloc, 0, 10)?.classes().len(), 2);
-    assert_eq!(rt; counts(alloc)?, [1, 2, 2, 1, 2]);
-    assert_eq!(rt;
-        left_class_list(alloc, &Carrier::UpTo(3))?.classes().len(),
-        2
-    );
-    assert_eq!(rt;
-        right_class_list(alloc, &Carrier::UpTo(3))?.classes().len(),
-        1
-    );
+    assert_eq!(rt; count_of_lex(alloc)?, 1);
+    assert_eq!(rt; count_of_scoped(alloc)?, 2);
+    assert_eq!(rt; count_of_union(alloc)?, 2);
+    assert_eq!(rt; count_of_sum(alloc)?, 1);
+    assert_eq!(rt; count_of_plus(alloc)?, 2);
+    assert_eq!(rt; count(left_class_list(alloc, &Carrier::UpTo(3)))?, 2);
+    assert_eq!(rt; count(right_class_list(alloc, &Carrier::UpTo(3)))?, 1);
     Ok(())
 }
 
