@@ -3,3 +3,4 @@ mod Nodes
 mod Texts
 mod Symbols
 mod Sets
+mod MadeImages

@@ -1,5 +1,5 @@
 -- What a label needs to act on a value, and what comes of it.
-use Rattle.std.specs.Prelude.{◌≡◌, Option, option_map}
+use Rattle.std.specs.Prelude.{◌≡◌, Option, Some, None, Bool, true, false, option_map}
 use Rattle.alg_model.specs.declared.edition.TheConstants.{MAX_LABEL_NUMBER}
 use Rattle.alg_model.specs.declared.alg.TheConstants.{MAX_VALUE_NUMBER}
 use Rattle.alg_model.specs.Expressions.{Expression, PureLabel, PureValue}
@@ -27,3 +27,8 @@ MayActOn a label value = MayAct a (pure_label label) (pure_value value)
 -- the image is what the algebra makes of the value
 abbrev pub IsImage : Expression → Label → Value → Option Value → Type 0
 IsImage a label value image = option_map pure_value image ≡ App a (pure_label label) (pure_value value)
+
+-- the thing in a place, where the call that may have put it there says so
+abbrev pub held : {A : Type 0} → Bool → A → Option A
+held true thing = Some thing
+held false thing = None

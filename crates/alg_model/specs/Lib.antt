@@ -19,3 +19,4 @@ pub mod ImageLaws
 pub mod PartLaws
 pub mod CarrierLaws
 pub mod Laws
+pub mod Names

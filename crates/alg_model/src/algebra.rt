@@ -6,8 +6,9 @@ ghost use Rattle.alg_model.specs.Views.{pure_value, pure_label};
 ghost use Rattle.alg_model.specs.Carriers.{carrier_of, In, Order};
 ghost use Rattle.alg_model.specs.Application.{IsLabel, App};
 ghost use Rattle.alg_model.specs.Bounds.{AtMost, LabelAtMost};
+ghost use Rattle.alg_model.specs.Actions.{held};
 
-use crate::{Alg, Label, Value, apply, order};
+use crate::{Alg, Label, Value, apply, apply_into, order};
 use meta_base::NoMemory;
 use std::alloc::Global;
 use std::cmp::Ordering;
@@ -19,7 +20,7 @@ pub trait Algebra: Sync {
     type Sig: Send + Drop;
 
     /// A label in that form.
-    type Lab: Send + Drop;
+    type Lab: Send + Sync + Drop;
 
     /// The algebra.
     ghost expression: { Self → Expression };
@@ -81,6 +82,26 @@ pub trait Algebra: Sync {
             option_map (sig_value self.now) image ≡ App (expression self.now) l (sig_value self.now sig.now)) }
         ensures bound { (n : ℕ) → AtMost n (sig_value self.now sig.now) →
             IfOk result (λ image. IfSome image (λ s. AtMost (n + MAX_LABEL_NUMBER) (sig_value self.now s))) };
+
+    /// What [`Algebra::apply`] makes, put into `out`: `true` where it stands there, and `false` where the label
+    /// prohibits the value. Where it isn't `true`, nothing is said of `out`. A mechanism that keeps few of
+    /// the values that it is offered makes them here, one after another in one place.
+    fn apply_into(
+        &self,
+        alloc: Global,
+        lab: &Self::Lab,
+        sig: &Self::Sig,
+        out: &mut Self::Sig,
+    ) -> Result<bool, NoMemory>
+        requires lab { (l : PureLabel) × stands_for self.now lab.now l }
+        requires sig { is_sig self.now sig.now }
+        requires small { AtMost MAX_VALUE_NUMBER (sig_value self.now sig.now) }
+        ensures sig { IfOk result (λ placed. IfSome (held placed out.new) (is_sig self.now)) }
+        ensures image { (l : PureLabel) → stands_for self.now lab.now l →
+            IfOk result (λ placed. option_map (sig_value self.now) (held placed out.new) ≡
+            App (expression self.now) l (sig_value self.now sig.now)) }
+        ensures bound { (n : ℕ) → AtMost n (sig_value self.now sig.now) → IfOk result (λ placed.
+            IfSome (held placed out.new) (λ s. AtMost (n + MAX_LABEL_NUMBER) (sig_value self.now s))) };
 
     // What stands for a value stands for one of the algebra.
     ghost sig_in: { (s : Self) (a : Self.Sig) → is_sig s a → In (carrier_of (expression s)) (sig_value s a) };
@@ -145,5 +166,15 @@ impl<'a> Algebra for TreeAlgebra<'a> {
 
     fn apply(&self, alloc: Global, lab: &Label, sig: &Value) -> Result<Option<Value>, NoMemory> {
         apply(alloc, self.alg, lab, sig)
+    }
+
+    fn apply_into(
+        &self,
+        alloc: Global,
+        lab: &Label,
+        sig: &Value,
+        out: &mut Value,
+    ) -> Result<bool, NoMemory> {
+        apply_into(alloc, self.alg, lab, sig, out)
     }
 }

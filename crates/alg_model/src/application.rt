@@ -41,7 +41,7 @@ pub fn apply(
 // What the label makes of the value in the tree's algebra. The rule on ranges keeps numbers of sets
 // below 64, and that on carriers makes the value one of both sides of a `plus`.
 #[cycle(image)]
-fn image(
+pub(crate) fn image(
     alloc: Global,
     tree: &Tree,
     label: &Label,

@@ -6,6 +6,7 @@ ghost use Rattle.alg_model.specs.Views.{expression_of};
 ghost use Rattle.alg_model.specs.Formation.{MeetsRanges, MeetsCarriers, MeetsNames, node_count, ranks_rise, are_ranks, is_place_or_none, is_row_over, is_table_count, is_table, is_table_name, are_distinct, are_named, row_name};
 
 use crate::carrier::have_same_carrier;
+use crate::names::Named;
 use crate::{MAX_MARKS, MAX_SIMPLE_SYMBOLS, MAX_TABLE_NAMES, TableRow, TableSpec, Tree};
 use meta_base::Text;
 use meta_base::bytes::is_word;
@@ -158,30 +159,6 @@ fn is_table_name(name: &[u8]) -> bool
     ensures { result ≡ is_table_name name.now }
 {
     is_word(name) && name != b"none".as_slice()
-}
-
-// What has a name in a table.
-trait Named {
-    ghost name_of: { Self → List ℕ };
-
-    fn name(&self) -> &[u8]
-        ensures { result.now ≡ name_of self.now };
-}
-
-impl Named for Text {
-    ghost name_of = { λ name. name };
-
-    fn name(&self) -> &[u8] {
-        self.as_str().as_bytes()
-    }
-}
-
-impl Named for TableRow {
-    ghost name_of = { row_name };
-
-    fn name(&self) -> &[u8] {
-        self.name.as_str().as_bytes()
-    }
 }
 
 // Whether one of them has this name.

@@ -13,6 +13,8 @@ mod edition;
 mod formation;
 mod laws;
 mod membership;
+mod names;
+mod placing;
 mod preference;
 mod tree;
 
@@ -29,5 +31,7 @@ pub use laws::{
     scoped_is_a_union_of_lexical_products, violations_refute,
 };
 pub use membership::{label_in, value_in};
+pub use names::{Named, place_of};
+pub use placing::apply_into;
 pub use preference::order;
 pub use tree::{Amount, Carrier, Label, TableRow, TableSpec, Tree, Value};

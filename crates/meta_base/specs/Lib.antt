@@ -6,3 +6,4 @@ pub mod MemShelves
 pub mod MemSinks
 pub mod Bytes
 pub mod Appending
+pub mod NodePaths

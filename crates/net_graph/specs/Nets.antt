@@ -1,5 +1,5 @@
 -- Networks as contracts speak of them: an algebra and four lists.
-use Rattle.std.specs.Prelude.{◌≡◌, ℕ, ◌+◌, ◌<◌, ◌≤◌, List, [], ◌∷◌, Bool, true, false, ◌==◌, ◌&&◌, ◌||◌, nat_le, Option, option_map, length, filter, find, position}
+use Rattle.std.specs.Prelude.{◌≡◌, ℕ, ◌+◌, ◌^◌, ◌<◌, ◌≤◌, List, [], ◌∷◌, Bool, true, false, ◌==◌, ◌&&◌, ◌||◌, nat_le, Option, option_map, length, filter, find, position}
 use Rattle.std.specs.List.{list_any, list_all, AllByRecursion}
 use Rattle.std.specs.Str.{bytes_eq}
 use Rattle.net_graph.specs.declared.limits.TheConstants.{MAX_ARCS}
@@ -63,6 +63,10 @@ label_between net tail head = option_map (λ (a : PureArc). a.label) (find (is_a
 -- the value of the node's origin of the destination, if it has one
 abbrev pub origin_value : PureNet → ℕ → ℕ → Option PureValue
 origin_value net dest node = option_map (λ (o : PureOrigin). o.value) (find (is_origin_at dest node) net.origins)
+
+-- so many things have a number each
+abbrev pub CanBeNumbered : ℕ → Type 0
+CanBeNumbered count = count < 2 ^ 32
 
 -- the number of the name in the list, if it is there
 abbrev pub number_of : List (List ℕ) → List ℕ → Option ℕ

@@ -1,5 +1,6 @@
 -- What arcs, origins, routes and rows of the program stand for.
 use Rattle.std.specs.Prelude.{List, map, option_map}
+use Rattle.meta_base.specs.NodePaths.{numbers}
 use Rattle.alg_model.specs.Views.{pure_value, pure_label}
 use Rattle.net_graph.specs.declared.parts.Arc.{Arc}
 use Rattle.net_graph.specs.declared.parts.Origin.{Origin}
@@ -24,7 +25,7 @@ pure_change (change.Link tail head l) = link tail.0 head.0 (pure_label l)
 pure_change (change.Drop tail head) = drop tail.0 head.0
 
 abbrev pub pure_route : Route → PureRoute
-pure_route r = record { value = pure_value r.value; path = map (λ n. n.0) r.path }
+pure_route r = record { value = pure_value r.value; path = numbers r.path }
 
 abbrev pub pure_row : RouteRow → PureRow
 pure_row row = record { node = row.node.0; dest = row.dest.0; route = option_map pure_route row.route }

@@ -1,5 +1,5 @@
-ghost use Rattle.std.specs.Prelude.{◌≡◌, ◌<◌, ◌^◌, ◌++◌, ◌∷◌, [], ℕ, List, Some, None, length, slice_get, true, IfOk, OnOk, OnErr};
-ghost use Rattle.net_graph.specs.Nets.{is_name, number_of};
+ghost use Rattle.std.specs.Prelude.{◌≡◌, ◌<◌, ◌++◌, ◌∷◌, [], ℕ, List, Some, None, length, slice_get, true, IfOk, OnOk, OnErr};
+ghost use Rattle.net_graph.specs.Nets.{CanBeNumbered, is_name, number_of};
 
 use indexmap::IndexSet;
 use meta_base::{NoMemory, Text};
@@ -45,7 +45,7 @@ impl Names {
 
     // The number of a name, if it is there.
     pub fn named(&self, name: &[u8]) -> Option<u32>
-        requires { length self.now < 2 ^ 32 }
+        requires { CanBeNumbered (length self.now) }
         ensures { result ≡ number_of self.now name.now }
     {
         match self.names.get_index_of(name) {

@@ -1,5 +1,5 @@
-ghost use Rattle.std.specs.Prelude.{◌≡◌, ◌<◌, ◌^◌, ◌++◌, ◌∷◌, [], ℕ, false, length, option_map, IfOk, OnOk, OnErr, true};
-ghost use Rattle.net_graph.specs.Nets.{is_name, number_of};
+ghost use Rattle.std.specs.Prelude.{◌≡◌, ◌++◌, ◌∷◌, [], ℕ, false, length, option_map, IfOk, OnOk, OnErr, true};
+ghost use Rattle.net_graph.specs.Nets.{CanBeNumbered, is_name, number_of};
 ghost use Rattle.net_graph.specs.Dests.{dests_with, dest_number};
 ghost use Rattle.net_graph.specs.Pairs.{has_pair};
 
@@ -69,7 +69,7 @@ impl Known {
 
     // The node of that name.
     pub fn node_named(&self, name: &[u8]) -> Option<NodeId>
-        requires { length self.now.nodes < 2 ^ 32 }
+        requires { CanBeNumbered (length self.now.nodes) }
         ensures { option_map (λ node. node.0) result ≡ number_of self.now.nodes name.now }
     {
         self.nodes.named(name).map(NodeId)
@@ -77,7 +77,7 @@ impl Known {
 
     // The destination of that name.
     pub fn dest_named(&self, name: &[u8]) -> Option<DestId>
-        requires { length self.now.dests < 2 ^ 32 }
+        requires { CanBeNumbered (length self.now.dests) }
         ensures { option_map (λ dest. dest.0) result ≡ number_of self.now.dests name.now }
     {
         self.dests.named(name).map(DestId)
@@ -106,7 +106,7 @@ impl Known {
         node: NodeId,
     ) -> Result<DestId, NoMemory>
         requires name { is_name dest.now ≡ true }
-        requires room { length self.old.dests < 2 ^ 32 }
+        requires room { CanBeNumbered (length self.old.dests) }
         requires absent { has_pair self.old.origin_pairs (dest_number self.old.dests dest.now) node.0 ≡ false }
         ensures number { IfOk result (λ d. d.0 ≡ dest_number self.old.dests dest.now) }
         ensures ok { OnOk result (self.new ≡ record self.old {

@@ -1,8 +1,12 @@
 -- Places in a text: the line and the column, both from 1.
-use Rattle.std.specs.Prelude.{ℕ, ◌+◌, List, [], ◌∷◌, not, count_by, if◌then◌else◌}
+use Rattle.std.specs.Prelude.{ℕ, ◌+◌, ◌<◌, ◌^◌, List, [], ◌∷◌, not, count_by, if◌then◌else◌}
 use Rattle.std.specs.List.{suffix_len}
 use Rattle.meta_base.specs.declared.ids.Place.{Place}
 use Rattle.meta_base.specs.Bytes.{is_line_feed}
+
+-- a line, a column, or a number of bytes that a place can tell
+abbrev pub FitsPlace : ℕ → Type 0
+FitsPlace n = n < 2 ^ 32
 
 -- the place behind these bytes: one line more than they have line feeds, one column more than the bytes
 -- since the last of those

@@ -1,5 +1,6 @@
 // Where a reader of tokens stands.
-ghost use Rattle.std.specs.Prelude.{◌≡◌, ◌+◌, ◌<◌, ◌≤◌, ◌^◌};
+ghost use Rattle.std.specs.Prelude.{◌≡◌, ◌+◌, ◌≤◌};
+ghost use Rattle.raml_lex.specs.Places.{FitsPlace};
 ghost use Rattle.raml_lex.specs.Sources.{place_at};
 
 use meta_base::Place;
@@ -28,7 +29,7 @@ impl Cursor {
     // The place there.
     pub fn place(self) -> Place
         requires start { self.line_start ≤ self.at }
-        requires end { self.at + 1 < 2 ^ 32 }
+        requires end { FitsPlace (self.at + 1) }
         ensures { result ≡ place_at self }
     {
         Place {
@@ -39,7 +40,7 @@ impl Cursor {
 
     // So many bytes on, none of which is a line feed.
     pub fn behind(self, count: usize) -> Cursor
-        requires { self.at + count < 2 ^ 32 }
+        requires { FitsPlace (self.at + count) }
         ensures { result ≡ record self { at = self.at + count } }
     {
         Cursor {
@@ -51,8 +52,8 @@ impl Cursor {
 
     // Behind a line feed.
     pub fn on_next_line(self) -> Cursor
-        requires byte { self.at + 1 < 2 ^ 32 }
-        requires line { self.line + 1 < 2 ^ 32 }
+        requires byte { FitsPlace (self.at + 1) }
+        requires line { FitsPlace (self.line + 1) }
         ensures { result ≡ record { at = self.at + 1; line = self.line + 1; line_start = self.at + 1 } }
     {
         Cursor {

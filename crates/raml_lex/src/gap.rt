@@ -3,6 +3,7 @@ ghost use Rattle.std.specs.Prelude.{◌≡◌, ◌+◌, ◌<◌, ◌≤◌, ◌^
 ghost use Rattle.std.specs.List.{list_all};
 ghost use Rattle.meta_base.specs.Bytes.{is_space, is_line_feed};
 ghost use Rattle.raml_lex.specs.Gaps.{passed_at, gap_of, behind_gap, IsLine};
+ghost use Rattle.raml_lex.specs.Places.{FitsPlace};
 ghost use Rattle.raml_lex.specs.Sources.{IsCursor};
 
 use crate::cursor::Cursor;
@@ -50,7 +51,7 @@ fn are_spaces(bytes: &[u8]) -> bool
 
 // How many line feeds there are.
 fn line_feeds(bytes: &[u8]) -> u32
-    requires { length bytes.now < 2 ^ 32 }
+    requires { FitsPlace (length bytes.now) }
     ensures { result ≡ count_by is_line_feed bytes.now }
 {
     let mut count = 0;

@@ -20,7 +20,8 @@ use Rattle.raml_syntax.specs.declared.file.Keyword.{Keyword}
 use Rattle.raml_syntax.specs.declared.file.Keyword.TheVariants as k
 use Rattle.raml_syntax.specs.Syntax.{Ranged, cap_head, worst_head, width_head, Counted, lp_head, op_head, seq_head, simseq_head, tags_head, guard_head, Paired, lex_head, scoped_head, union_head, sum_head, plus_head, Single, left_head, right_head}
 use Rattle.raml_syntax.specs.Syntax.{is_among, is_none, ranged_word, counted_word, ValueSyntax, MapSyntax, RowSyntax, TableSyntax, Syntax, named, add_syntax, ranged, counted, gate_syntax, table_syntax, paired, single, LetSyntax}
-use Rattle.raml_syntax.specs.Meaning.{Definition, lookup, known, ranged_meaning, counted_meaning, paired_meaning, single_meaning, value_names, ranks_from, place_of, target_of, all_maps, image_place, row_meaning, table_meaning, meaning, with_let, with_lets, edition_of}
+use Rattle.alg_model.specs.Names.{place_of}
+use Rattle.raml_syntax.specs.Meaning.{Definition, lookup, known, ranged_meaning, counted_meaning, paired_meaning, single_meaning, value_names, ranks_from, target_of, all_maps, image_place, row_meaning, table_meaning, meaning, with_let, with_lets, edition_of}
 use Rattle.raml_syntax.specs.Marks.{Mark, plain, header_marks, tested, name_mark, own_name, values_marks, maps_marks, rows_marks, table_marks, closing, marks, rest_marks}
 use Rattle.raml_syntax.specs.Tests.{is_in_range, is_same_carrier}
 use Rattle.raml_syntax.specs.Productions.{clean, toks}

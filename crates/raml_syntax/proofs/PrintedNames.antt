@@ -4,7 +4,7 @@ use Rattle.std.specs.List.{list_all, position_or_len}
 use Rattle.std.proofs.lemmas.Bool.{lt-ltb, and_parts, or_parts, or_left, or_right, not_from_true, not_from_false, cond-true, cond-false, false≢true}
 use Rattle.alg_model.specs.Formation.{are_distinct}
 use Rattle.raml_syntax.specs.Syntax.{is_among}
-use Rattle.raml_syntax.specs.Meaning.{place_of}
+use Rattle.alg_model.specs.Names.{place_of}
 use Rattle.raml_syntax.proofs.TestLaws.{bytes_same, bytes_self}
 use Rattle.raml_syntax.proofs.Printing.{off}
 

@@ -9,7 +9,8 @@ use Rattle.raml_lex.specs.Lexers.{Lexer}
 use Rattle.raml_lex.specs.Tokens.{Tok, word, Step, end, bad, token, number_at, pair_at, mark_at, token_at}
 use Rattle.alg_model.specs.declared.tree.TableRow.{TableRow}
 use Rattle.raml_syntax.specs.Syntax.{MapSyntax, is_among}
-use Rattle.raml_syntax.specs.Meaning.{place_of, target_of, image_place}
+use Rattle.alg_model.specs.Names.{place_of}
+use Rattle.raml_syntax.specs.Meaning.{target_of, image_place}
 use Rattle.raml_syntax.specs.Reading.{TakesOne}
 use Rattle.raml_syntax.specs.Maps.{sources}
 use Rattle.raml_syntax.specs.Rows.{row_names}

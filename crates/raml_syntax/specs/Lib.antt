@@ -19,5 +19,4 @@ pub mod Forest
 pub mod Definitions
 pub mod Statements
 pub mod Headers
-pub mod Plain
 pub mod Printed

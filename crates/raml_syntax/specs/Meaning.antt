@@ -1,6 +1,7 @@
 -- What a tree of the grammar means, where each name stands for the expression of its `let`.
-use Rattle.std.specs.Prelude.{ℕ, ◌+◌, ◌==◌, List, [], ◌∷◌, map, Option, Some, None, option_and_then, position, if◌then◌else◌}
+use Rattle.std.specs.Prelude.{ℕ, ◌+◌, ◌==◌, List, [], ◌∷◌, map, Option, Some, None, option_and_then, if◌then◌else◌}
 use Rattle.std.specs.Str.{bytes_eq}
+use Rattle.alg_model.specs.Names.{place_of}
 use Rattle.alg_model.specs.declared.tree.TableSpec.{TableSpec}
 use Rattle.alg_model.specs.declared.tree.TableRow.{TableRow}
 use Rattle.alg_model.specs.declared.edition.Edition.{Edition}
@@ -56,10 +57,6 @@ value_names t = t.first ∷ map (λ (v : ValueSyntax). v.name) t.others
 abbrev pub ranks_from : ℕ → List ValueSyntax → List ℕ
 ranks_from rank [] = []
 ranks_from rank (v ∷ vs) = if v.is_tied then rank ∷ ranks_from rank vs else (rank + 1) ∷ ranks_from (rank + 1) vs
-
--- the place of a value's name
-abbrev pub place_of : List (List ℕ) → List ℕ → Option ℕ
-place_of names w = position (λ name. bytes_eq name w) names
 
 -- the name that maps give for a value: without a map there is none
 abbrev pub target_of : List MapSyntax → List ℕ → Option (List ℕ)

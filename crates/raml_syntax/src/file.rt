@@ -1,5 +1,5 @@
 // Expression files: a header, if there is one, then `let`s, and then `main`.
-ghost use Rattle.std.specs.Prelude.{◌≡◌, ◌≤◌, ◌↔◌, true, false, [], length, Some, MatchOption, IfSome, IfNone, IfOk, IfErr, OnOk};
+ghost use Rattle.std.specs.Prelude.{◌≡◌, ◌≤◌, true, false, [], length, Some, MatchOption, IfSome, IfNone, IfOk, IfErr, OnOk};
 ghost use Rattle.meta_base.specs.declared.limits.TheConstants.{MAX_FILE_BYTES};
 ghost use Rattle.raml_lex.specs.Tokens.{end, step_of};
 ghost use Rattle.alg_model.specs.Views.{expression_of};
@@ -13,7 +13,6 @@ ghost use Rattle.raml_syntax.specs.Forest.{IsTree, tree_at};
 ghost use Rattle.raml_syntax.specs.Definitions.{names_of, Keeps};
 ghost use Rattle.raml_syntax.specs.Statements.{is_keyword, is_reserved, keyword_word, start, Opens, Body, Let, Statement, IsAlgError};
 ghost use Rattle.raml_syntax.specs.Headers.{is_opening, opening_word, alg_read, Starts, Profile, ReadsText, LeadsText};
-ghost use Rattle.raml_syntax.specs.Plain.{IsPlainAdd};
 
 use crate::definitions::Definitions;
 use crate::expect::{kind_of, refused, take_mark, take_number, take_word};
@@ -270,11 +269,4 @@ pub fn read_alg(alloc: Global, source: &[u8]) -> Result<Alg, AlgError>
         // What breaks a rule was refused at its own token.
         Err(_) => unreachable!(),
     }
-}
-
-/// Whether the algebra is a single `add`, whose values are numbers that are added up.
-pub fn is_plain_add(alg: &Alg) -> bool
-    ensures { (result ≡ true) ↔ IsPlainAdd alg.now.expression }
-{
-    matches!(alg.tree(), Tree::Add { .. })
 }

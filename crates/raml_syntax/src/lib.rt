@@ -19,7 +19,7 @@ mod table;
 mod values;
 
 pub use faults::{AlgError, ExprFault, ExprKind};
-pub use file::{is_plain_add, read_alg};
+pub use file::read_alg;
 pub use laws::{
     no_fault_beside_an_algebra, one_text_one_algebra, one_text_one_fault,
     printed_text_means_the_algebra, texts_mean_algebras,

@@ -7,7 +7,7 @@ ghost use Rattle.raml_lex.specs.Lexers.{Lexer};
 ghost use Rattle.raml_lex.specs.Tokens.{word};
 ghost use Rattle.raml_syntax.specs.Leaves.{IsReady};
 ghost use Rattle.raml_syntax.specs.Maps.{Maps, Target, after_map, after_row, is_new_source, sources, target_mark};
-ghost use Rattle.raml_syntax.specs.Meaning.{image_place, place_of};
+ghost use Rattle.raml_syntax.specs.Meaning.{image_place};
 ghost use Rattle.raml_syntax.specs.Sequences.{One, Reads, map_ok};
 ghost use Rattle.raml_syntax.specs.Syntax.{is_among, is_none};
 ghost use Rattle.raml_syntax.specs.Tested.{ReadsBehind};
@@ -15,6 +15,7 @@ ghost use Rattle.raml_syntax.specs.Tested.{ReadsBehind};
 use crate::expect::{refused, take, take_mark, take_word};
 use crate::values::{is_among, is_none};
 use crate::{AlgError, ExprKind};
+use alg_model::place_of;
 use meta_base::{List, NoMemory, Text};
 use raml_lex::{Token, TokenKind, Tokens};
 use std::alloc::Global;
@@ -87,23 +88,6 @@ fn is_target(names: &[Text], word: &[u8]) -> bool
     ensures { result ≡ (is_none word.now || is_among names.now word.now) }
 {
     is_none(word) || is_among(names, word)
-}
-
-fn position(names: &[Text], word: &[u8]) -> Option<usize>
-    ensures place { result ≡ place_of names.now word.now }
-    ensures within { IfSome result (λ place. place < length names.now) }
-{
-    names
-        .iter()
-        .position(|name| name.as_str().as_bytes() == word)
-}
-
-fn place_of(names: &[Text], word: &[u8]) -> Option<u8>
-    requires { length names.now ≤ MAX_TABLE_NAMES }
-    ensures { result ≡ place_of names.now word.now }
-{
-    let place = position(names, word)?;
-    Some(place as u8)
 }
 
 // The map of this source.

@@ -4,6 +4,7 @@ use Rattle.std.specs.Prelude.{codes, option_map, option_and_then}
 use Rattle.std.specs.List.{list_all}
 use Rattle.std.specs.Str.{bytes_eq}
 use Rattle.std.proofs.lemmas.Slice.Eq.{bytes_eq-Decides}
+use Rattle.alg_model.specs.Names.{place_of}
 use Rattle.alg_model.specs.Expressions.{PureCarrier, whole, up_to, down_from, seqs, simseqs, sets, one, named, pairs, sides}
 use Rattle.alg_model.specs.Expressions.{PureValue, number, symbols, marks, unit, name, pair, first, second}
 use Rattle.alg_model.specs.Carriers.{distinct}
@@ -14,7 +15,7 @@ use Rattle.sig_text.specs.declared.parts.Side.TheVariants.{First, Second}
 use Rattle.sig_text.specs.Parts.{Part, word, mark}
 use Rattle.sig_text.specs.Shapes.{ValueShape, number_shape, list_shape, set_shape, word_shape, pair_shape, first_shape, second_shape, value_parts, HasValueShape}
 use Rattle.sig_text.specs.Literals.{where_true, both_of, one_of, set_of, placed, value_of}
-use Rattle.sig_text.specs.Reading.{take_mark, take_number, take_word, take_list, take_side, side_of, on_side, kept, take_pair, set_from, set_at, unit_at, place_of, value_at}
+use Rattle.sig_text.specs.Reading.{take_mark, take_number, take_word, take_list, take_side, side_of, on_side, kept, take_pair, set_from, set_at, unit_at, value_at}
 use Rattle.sig_text.proofs.Fronts.{kept_is, and_then_is, map_is, test_is, take_mark_is, take_number_is, take_word_is, takes_number, takes_list, takes_pair, pair_regroup, pair_is, list_is}
 
 -- a shape at the front of the parts, and what it spells

@@ -1,5 +1,5 @@
 -- What stands at the front of a list of parts: a value or a label, and the parts behind it.
-use Rattle.std.specs.Prelude.{◌≡◌, ℕ, List, [], ◌∷◌, ◌++◌, ◌&&◌, ◌||◌, ◌==◌, nat_le, nat_lt, Option, Some, None, option_map, option_and_then, if◌then◌else◌, Result, Ok, codes, position}
+use Rattle.std.specs.Prelude.{◌≡◌, ℕ, List, [], ◌∷◌, ◌++◌, ◌&&◌, ◌||◌, ◌==◌, nat_le, nat_lt, Option, Some, None, option_map, option_and_then, if◌then◌else◌, Result, Ok, codes}
 use Rattle.std.specs.List.{list_all}
 use Rattle.std.specs.Str.{bytes_eq}
 use Rattle.alg_model.specs.Expressions.{PureCarrier, whole, up_to, down_from, seqs, simseqs, sets, one, named, pairs, sides}
@@ -8,6 +8,8 @@ use Rattle.alg_model.specs.Expressions.{PureLabel, number_label, keep, symbol_la
 use Rattle.alg_model.specs.Expressions.{Expression, add, cap, worst, width, pref, orig, seq, simseq, tags, guard, gate, table, lex, scoped, union, sum, plus, left, right}
 use Rattle.alg_model.specs.declared.tree.TableRow.{TableRow}
 use Rattle.alg_model.specs.Carriers.{carrier_of, distinct}
+use Rattle.alg_model.specs.Formation.{row_name}
+use Rattle.alg_model.specs.Names.{place_among, place_of}
 use Rattle.sig_text.specs.declared.faults.LitFault.{LitFault}
 use Rattle.sig_text.specs.declared.faults.LitFault.TheVariants.{NotInCarrier, NotALabel}
 use Rattle.sig_text.specs.declared.parts.Side.{Side}
@@ -97,9 +99,6 @@ abbrev pub unit_at : List ℕ × List Part → Option (Result PureValue LitFault
 unit_at r = if bytes_eq r.0 (codes "unit") then Some (Ok unit, r.1) else None
 
 -- the place of a name, if it is there
-abbrev pub place_of : List (List ℕ) → List ℕ → Option ℕ
-place_of names w = position (λ (other : List ℕ). bytes_eq other w) names
-
 abbrev pub name_at : List (List ℕ) → List Part → Option (Result PureValue LitFault × List Part)
 name_at names ps = kept (λ w. placed name NotInCarrier (place_of names w)) (take_word ps)
 
@@ -171,7 +170,7 @@ gate_at r =
 
 -- the place of the row of this name, if it is there
 abbrev pub row_of : List TableRow → List ℕ → Option ℕ
-row_of rows w = position (λ (row : TableRow). bytes_eq row.name w) rows
+row_of rows w = place_among row_name rows w
 
 abbrev pub row_at : List TableRow → List Part → Option (Result PureLabel LitFault × List Part)
 row_at rows ps = kept (λ w. placed row_label NotALabel (row_of rows w)) (take_word ps)

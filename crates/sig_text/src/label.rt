@@ -9,7 +9,7 @@ ghost use Rattle.sig_text.specs.Literals.{where_true, both_of, one_of, tag_label
 ghost use Rattle.sig_text.specs.Sequences.{parts_of};
 ghost use Rattle.sig_text.specs.Views.{value_outcome, label_outcome, Takes, TakesLabel, TakesTwo, TakesOuter, TakesInner};
 ghost use Rattle.sig_text.specs.declared.bytes.TheConstants.{MAX_LITERAL_NUMBER};
-ghost use Rattle.sig_text.specs.Reading.{take_word, keep_at, gate_at, row_of, row_at, ranged_at, symbol_at, tag_at, guard_at};
+ghost use Rattle.sig_text.specs.Reading.{take_word, keep_at, gate_at, row_at, ranged_at, symbol_at, tag_at, guard_at};
 
 use crate::LitFault;
 use crate::faults::{Stop, both, boxed};
@@ -17,7 +17,7 @@ use crate::parts::{
     Next, Scope, Side, mark_at, marked_at, next_part, number_at, scope_at, side_at, word_at,
 };
 use crate::value::value_at;
-use alg_model::{Amount, Label, MAX_MARKS, MAX_TABLE_NAMES, TableRow, Tree, Value};
+use alg_model::{Amount, Label, MAX_MARKS, MAX_TABLE_NAMES, TableRow, Tree, Value, place_of};
 use meta_base::NoMemory;
 use std::alloc::Global;
 
@@ -352,26 +352,11 @@ fn row_at<'a>(
     ensures { Takes label_outcome (row_at rows.now (parts_of text.now)) result }
 {
     let (word, rest) = word_at(text)?;
-    let label = match row_of(rows, word) {
+    let label = match place_of(rows, word) {
         Some(place) => Ok(Label::Row(place)),
         None => Err(LitFault::NotALabel),
     };
     Ok((label, rest))
-}
-
-fn row_of(rows: &[TableRow], word: &[u8]) -> Option<u8>
-    requires { length rows.now ≤ MAX_TABLE_NAMES }
-    ensures { result ≡ row_of rows.now word.now }
-{
-    Some(place_among(rows, word)? as u8)
-}
-
-fn place_among(rows: &[TableRow], word: &[u8]) -> Option<usize>
-    ensures place { result ≡ row_of rows.now word.now }
-    ensures bound { IfSome result (λ place. place < length rows.now) }
-{
-    rows.iter()
-        .position(|row| row.name.as_str().as_bytes() == word)
 }
 
 fn pair_of(

@@ -95,6 +95,7 @@ fn push_tree_value(out: &mut String, tree: &Tree, value: &Value) -> Result<(), N
     }
 }
 
+#[cycle(push_tree_label)]
 fn push_tree_label(out: &mut String, tree: &Tree, label: &Label) -> Result<(), NoMemory>
     requires ranges { MeetsRanges (expression_of tree.now) }
     requires label { IsLabel (expression_of tree.now) (pure_label label.now) }
@@ -123,43 +124,70 @@ fn push_tree_label(out: &mut String, tree: &Tree, label: &Label) -> Result<(), N
         (Tree::Gate, Label::Allow) => push_word(out, "allow"),
         (Tree::Gate, Label::Deny) => push_word(out, "deny"),
         (Tree::Table(table), Label::Row(place)) => push_row(out, table.rows.as_slice(), *place),
-        (Tree::Lex(a, b), Label::Pair(l, m)) => {
-            out.push_str("(")?;
-            push_tree_label(out, a, l)?;
-            out.push_str(",")?;
-            push_tree_label(out, b, m)?;
-            push_word(out, ")")
-        }
-        (Tree::Sum(a, b), Label::Both(l, m)) => {
-            out.push_str("(")?;
-            push_tree_label(out, a, l)?;
-            out.push_str("|")?;
-            push_tree_label(out, b, m)?;
-            push_word(out, ")")
-        }
-        (Tree::Scoped(a, b), Label::Outer(l, v)) => {
-            out.push_str("out(")?;
-            push_tree_label(out, a, l)?;
-            out.push_str(",")?;
-            push_tree_value(out, b, v)?;
-            push_word(out, ")")
-        }
+        (Tree::Lex(a, b), Label::Pair(l, m)) => push_pair(out, a, l, ",", b, m),
+        (Tree::Sum(a, b), Label::Both(l, m)) => push_pair(out, a, l, "|", b, m),
+        (Tree::Scoped(a, b), Label::Outer(l, v)) => push_outer(out, a, l, b, v),
         (Tree::Scoped(_, b), Label::Inner(m)) => {
-            out.push_str("in(")?;
-            push_tree_label(out, b, m)?;
+            push_behind(out, "in(", b, m)?;
             push_word(out, ")")
         }
-        (Tree::Union(a, _) | Tree::Plus(a, _), Label::First(l)) => {
-            out.push_str("l:")?;
-            push_tree_label(out, a, l)
-        }
-        (Tree::Union(_, b) | Tree::Plus(_, b), Label::Second(m)) => {
-            out.push_str("r:")?;
-            push_tree_label(out, b, m)
-        }
+        (Tree::Union(a, _) | Tree::Plus(a, _), Label::First(l)) => push_behind(out, "l:", a, l),
+        (Tree::Union(_, b) | Tree::Plus(_, b), Label::Second(m)) => push_behind(out, "r:", b, m),
         (Tree::Left(a), Label::Const(v)) => push_tree_value(out, a, v),
         _ => unreachable!(),
     }
+}
+
+// Two labels in parentheses, with a mark between them.
+#[cycle(push_tree_label)]
+fn push_pair(
+    out: &mut String,
+    a: &Tree,
+    l: &Label,
+    mark: &str,
+    b: &Tree,
+    m: &Label,
+) -> Result<(), NoMemory>
+    requires first_ranges { MeetsRanges (expression_of a.now) }
+    requires first { IsLabel (expression_of a.now) (pure_label l.now) }
+    requires second_ranges { MeetsRanges (expression_of b.now) }
+    requires second { IsLabel (expression_of b.now) (pure_label m.now) }
+    ensures { OnOk result (Gains out.old (codes "(" ++ label_text (expression_of a.now) (pure_label l.now) ++ mark.now
+        ++ label_text (expression_of b.now) (pure_label m.now) ++ codes ")") out.new) }
+{
+    out.push_str("(")?;
+    push_tree_label(out, a, l)?;
+    out.push_str(mark)?;
+    push_tree_label(out, b, m)?;
+    push_word(out, ")")
+}
+
+// A label behind what begins it.
+#[cycle(push_tree_label)]
+fn push_behind(out: &mut String, start: &str, tree: &Tree, label: &Label) -> Result<(), NoMemory>
+    requires ranges { MeetsRanges (expression_of tree.now) }
+    requires label { IsLabel (expression_of tree.now) (pure_label label.now) }
+    ensures { OnOk result (Gains out.old (start.now ++ label_text (expression_of tree.now) (pure_label label.now)) out.new) }
+{
+    out.push_str(start)?;
+    push_tree_label(out, tree, label)
+}
+
+// The label of a whole route: one of the first side, and a value of the second.
+#[cycle(push_tree_label)]
+fn push_outer(out: &mut String, a: &Tree, l: &Label, b: &Tree, v: &Value) -> Result<(), NoMemory>
+    requires first_ranges { MeetsRanges (expression_of a.now) }
+    requires second_ranges { MeetsRanges (expression_of b.now) }
+    requires label { IsLabel (expression_of a.now) (pure_label l.now) }
+    requires value { In (carrier_of (expression_of b.now)) (pure_value v.now) }
+    ensures { OnOk result (Gains out.old (codes "out(" ++ label_text (expression_of a.now) (pure_label l.now) ++ codes ","
+        ++ value_text (carrier_of (expression_of b.now)) (pure_value v.now) ++ codes ")") out.new) }
+{
+    out.push_str("out(")?;
+    push_tree_label(out, a, l)?;
+    out.push_str(",")?;
+    push_tree_value(out, b, v)?;
+    push_word(out, ")")
 }
 
 fn push_word(out: &mut String, word: &str) -> Result<(), NoMemory>

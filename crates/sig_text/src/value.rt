@@ -13,12 +13,12 @@ ghost use Rattle.sig_text.specs.Shapes.{list_shape};
 ghost use Rattle.sig_text.specs.Sequences.{parts_of};
 ghost use Rattle.sig_text.specs.Views.{value_outcome, Takes, TakesValue};
 ghost use Rattle.sig_text.specs.declared.bytes.TheConstants.{MAX_LITERAL_NUMBER};
-ghost use Rattle.sig_text.specs.Reading.{take_word, set_from, unit_at, place_of, name_at};
+ghost use Rattle.sig_text.specs.Reading.{take_word, set_from, unit_at, name_at};
 
 use crate::LitFault;
 use crate::faults::{Stop, both, boxed};
 use crate::parts::{Side, list_at, mark_at, number_at, side_at, word_at};
-use alg_model::{Amount, MAX_MARKS, MAX_TABLE_NAMES, Tree, Value};
+use alg_model::{Amount, MAX_MARKS, MAX_TABLE_NAMES, Tree, Value, place_of};
 use meta_base::{List, NoMemory, Text};
 use std::alloc::Global;
 use std::collections::BTreeSet;
@@ -296,22 +296,6 @@ fn name_at<'a>(names: &[Text], text: &'a [u8]) -> Result<(Result<Value, LitFault
         None => Err(LitFault::NotInCarrier),
     };
     Ok((value, rest))
-}
-
-fn place_of(names: &[Text], word: &[u8]) -> Option<u8>
-    requires { length names.now ≤ MAX_TABLE_NAMES }
-    ensures { result ≡ place_of names.now word.now }
-{
-    Some(place_among(names, word)? as u8)
-}
-
-fn place_among(names: &[Text], word: &[u8]) -> Option<usize>
-    ensures place { result ≡ place_of names.now word.now }
-    ensures bound { IfSome result (λ place. place < length names.now) }
-{
-    names
-        .iter()
-        .position(|name| name.as_str().as_bytes() == word)
 }
 
 fn pair_of(

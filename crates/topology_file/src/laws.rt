@@ -29,6 +29,7 @@ pub fn changes_of_texts_may_be_made()
     ensures may { (text : List ℕ) (alg : PureAlg) (f : PureNetFile) → NetText text alg f →
         AreChanges f.net f.changes }
 {
+    // The labels of changes are the algebra's.
     labels_are_told();
     spelled_labels_are_labels();
 }
