@@ -39,7 +39,7 @@ grown_none P S old = record {
 }
 
 -- the profiles of T, and then those of U
-grown_then : (P : Class → Type 0) (T U V : Profile → Type 0) (old mid new : List Class) → ((r : Profile) → V r → T r ⊎ U r)
+pub grown_then : (P : Class → Type 0) (T U V : Profile → Type 0) (old mid new : List Class) → ((r : Profile) → V r → T r ⊎ U r)
     → Grown P T old mid → Grown P U mid new → Grown P V old new
 grown_then P T U V old mid new either g h = record {
   kept = λ r has. h.kept r (g.kept r has);

@@ -20,5 +20,3 @@ pub mod PairLaws
 pub mod ListLaws
 pub mod Growth
 pub mod GrowthLaws
-pub mod Gains
-pub mod GainLaws

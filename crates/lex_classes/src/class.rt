@@ -1,8 +1,12 @@
 ghost use Rattle.std.specs.Prelude.{◌≡◌, IfOk};
+ghost use Rattle.alg_model.specs.Expressions.{Expression, lex};
 ghost use Rattle.alg_model.specs.Expressions as pure;
+ghost use Rattle.alg_model.specs.Formation.{IsFormed};
 ghost use Rattle.alg_model.specs.Views.{pure_label};
+ghost use Rattle.alg_model.specs.declared.edition.Edition.{Edition};
+ghost use Rattle.alg_classes.specs.Classes.{ClassOf, alg_in};
 ghost use Rattle.alg_classes.specs.Pairs as rule;
-ghost use Rattle.lex_classes.specs.Lexical.{IsLexProfile, IsLexClass};
+ghost use Rattle.lex_classes.specs.Lexical.{IsLexProfile};
 
 use alg_classes::{Class, Profile, pair_examples, pair_profile};
 use alg_model::Label;
@@ -23,7 +27,8 @@ pub fn lex_class(alloc: Global, x: &Class, y: &Class) -> Result<Class, NoMemory>
     ensures profile { IfOk result (λ z. z.profile ≡ rule.pair_profile x.now.profile y.now.profile) }
     ensures label { IfOk result (λ z.
         pure_label z.label ≡ pure.pair_label (pure_label x.now.label) (pure_label y.now.label)) }
-    ensures class { IfOk result (λ z. IsLexClass x.now y.now z) }
+    ensures class { (a b : Expression) (e : Edition) → IsFormed (lex a b) →
+        ClassOf (alg_in a e) x.now → ClassOf (alg_in b e) y.now → IfOk result (ClassOf (alg_in (lex a b) e)) }
 {
     Ok(Class {
         profile: lex_profile(&x.profile, &y.profile),

@@ -1,5 +1,5 @@
 -- The laws of classes that cover labels of a list, one label after another.
-use Rattle.std.proofs.Common.{◌≡◌, List, [], ◌∷◌, ◌++◌, Result, Ok, Err, OnOk, arith, sym, subst, refl, ⊎_elim, inl}
+use Rattle.std.proofs.Common.{◌≡◌, List, [], ◌∷◌, ◌++◌, Result, Ok, Err, IfOk, OnOk, arith, sym, subst, refl, ⊎_elim, inl}
 use Rattle.std.proofs.lemmas.List.Elements.{Contains-append_left, Contains-push, Contains-push_cases}
 use Rattle.std.specs.List.{AllByRecursion, Contains}
 use Rattle.alg_model.specs.Expressions.{PureAlg, PureLabel}
@@ -66,3 +66,8 @@ pub covers_if_grown : (a : PureAlg) (labels : List PureLabel) (l : PureLabel) (o
     → pure_label class.label ≡ l → OnOk r (IsGrownBy old class new) → CoversLabels a labels old → OnOk r (CoversLabels a (labels ++ l ∷ []) new)
 covers_if_grown a labels l old new class (Ok u) is same g c = covers_grown a labels l old new class is same g c
 covers_if_grown a labels l old new class (Err e) is same g c = tt
+
+-- a class has the label that was asked for, where that is the one which the rule makes
+pub label_is : {E : Type 0} (r : Result Class E) (k l : PureLabel) → k ≡ l → IfOk r (λ class. pure_label class.label ≡ k)
+    → IfOk r (λ class. pure_label class.label ≡ l)
+label_is r k l e h = subst (λ m. IfOk r (λ class. pure_label class.label ≡ m)) e h

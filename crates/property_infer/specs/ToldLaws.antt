@@ -1,16 +1,16 @@
 -- What classes tell is exact: for all labels where they cover the algebra, and for one where it is the class's.
-use Rattle.std.proofs.Common.{◌≡◌, ◌&&◌, ℕ, arith, refl, sym, ap, subst, ◌∙◌, List, [], ◌∷◌, Option, Some, None, Bool, true, false, inl, ⊎_elim}
+use Rattle.std.proofs.Common.{◌≡◌, ℕ, arith, refl, sym, subst, ◌∙◌, List, [], ◌∷◌, Option, Some, None, Bool, true, false, inl, ⊎_elim}
 use Rattle.std.proofs.lemmas.Bool.Decides.{nat_tests}
 use Rattle.std.specs.Prelude.{option_map}
 use Rattle.std.specs.Option.{option_or}
 use Rattle.std.specs.List.{AllByRecursion, Contains}
-use Rattle.alg_model.specs.Expressions.{Expression, PureAlg, PureLabel, PureValue}
+use Rattle.alg_model.specs.Expressions.{Expression, PureAlg, PureLabel}
 use Rattle.alg_model.specs.Carriers.{carrier_of}
 use Rattle.alg_model.specs.Application.{IsLabel, App}
 use Rattle.alg_model.specs.Bounds.{LabelAtMost, greatest_number}
 use Rattle.alg_model.specs.declared.alg.TheConstants.{MAX_INSTANCE_NUMBER}
 use Rattle.alg_model.specs.Properties.{PureProperty, monotone, strict, isotone, cancellative, total, Has}
-use Rattle.alg_model.specs.Verdicts.{PureInstance, Violates, IsExact, ExactFor, verdict_on, PureVerdict, holds, fails}
+use Rattle.alg_model.specs.Verdicts.{PureInstance, Violates, IsExact, ExactFor, verdict_on, fails}
 use Rattle.alg_model.specs.Instances.{InstanceAtMost, VerdictAtMost, VerdictsAtMost}
 use Rattle.alg_model.specs.Views.{pure_label}
 use Rattle.alg_classes.specs.declared.profile.Profile.{Profile}

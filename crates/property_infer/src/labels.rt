@@ -3,8 +3,8 @@ ghost use Rattle.std.specs.Prelude.{◌≡◌, ◌++◌, ◌∷◌, [], List, If
 ghost use Rattle.alg_classes.specs.Classes.{ClassOf, alg_in};
 ghost use Rattle.alg_classes.specs.Profiles.{ProfileOf};
 ghost use Rattle.alg_model.specs.Application.{IsLabel};
-ghost use Rattle.property_infer.specs.Labels.{CoversLabels};
-ghost use Rattle.alg_model.specs.Expressions.{PureLabel};
+ghost use Rattle.property_infer.specs.Labels.{CoversLabels, MayBeClassed};
+ghost use Rattle.alg_model.specs.Expressions.{PureLabel, lex, scoped, union, sum, plus, left};
 ghost use Rattle.alg_model.specs.Bounds.{LabelAtMost, greatest_number};
 ghost use Rattle.alg_model.specs.Formation.{IsAlg, IsFormed};
 ghost use Rattle.alg_model.specs.Views.{expression_of, pure_label};
@@ -32,25 +32,13 @@ pub fn label_profile(alg: &Alg, label: &Label) -> Profile
     part_profile(alg.tree(), label)
 }
 
-// The same of a part.
+// The same of a part. What is neither an operator nor a table is one of the eleven base algebras.
 fn part_profile(part: &Tree, label: &Label) -> Profile
     requires formed { IsFormed (expression_of part.now) }
     requires label { IsLabel (expression_of part.now) (pure_label label.now) }
     ensures { ProfileOf (expression_of part.now) (pure_label label.now) result }
 {
     match part {
-        Tree::Add { .. }
-        | Tree::Cap { .. }
-        | Tree::Worst { .. }
-        | Tree::Width { .. }
-        | Tree::Pref { .. }
-        | Tree::Orig { .. }
-        | Tree::Seq { .. }
-        | Tree::SimSeq { .. }
-        | Tree::Tags { .. }
-        | Tree::Guard { .. }
-        | Tree::Gate => base_tree_profile(part, label),
-        Tree::Table(_) => table_tree_profile(part, label),
         Tree::Lex(a, b) => match label {
             Label::Pair(l, m) => lex_profile(&part_profile(a, l), &part_profile(b, m)),
             _ => unreachable!(),
@@ -79,6 +67,8 @@ fn part_profile(part: &Tree, label: &Label) -> Profile
             _ => unreachable!(),
         },
         Tree::Right(a) => keep_profile(&**a),
+        Tree::Table(_) => table_tree_profile(part, label),
+        base => base_tree_profile(base, label),
     }
 }
 
@@ -93,79 +83,152 @@ pub fn label_class(alloc: Global, alg: &Alg, label: &Label) -> Result<Class, NoM
 }
 
 // The same of a part of the algebra.
+// What is neither an operator nor a table is one of the eleven base algebras.
+#[cycle(part_class)]
 fn part_class(alloc: Global, alg: &Alg, part: &Tree, label: &Label) -> Result<Class, NoMemory>
-    requires part { IsAlg (alg_in (expression_of part.now) alg.now.edition) }
-    requires label { IsLabel (expression_of part.now) (pure_label label.now) }
-    requires small { LabelAtMost (greatest_number alg.now.edition) (pure_label label.now) }
+    requires { MayBeClassed (alg_in (expression_of part.now) alg.now.edition) label.now }
     ensures class { IfOk result (ClassOf (alg_in (expression_of part.now) alg.now.edition)) }
     ensures label { IfOk result (λ class. pure_label class.label ≡ pure_label label.now) }
 {
     match part {
-        Tree::Add { .. }
-        | Tree::Cap { .. }
-        | Tree::Worst { .. }
-        | Tree::Width { .. }
-        | Tree::Pref { .. }
-        | Tree::Orig { .. }
-        | Tree::Seq { .. }
-        | Tree::SimSeq { .. }
-        | Tree::Tags { .. }
-        | Tree::Guard { .. }
-        | Tree::Gate => base_class(alloc, &alg.copy_part(alloc, part)?, label),
-        Tree::Table(_) => table_class(alloc, &alg.copy_part(alloc, part)?, label),
-        Tree::Lex(a, b) => match label {
-            Label::Pair(l, m) => lex_class(
-                alloc,
-                &part_class(alloc, alg, a, l)?,
-                &part_class(alloc, alg, b, m)?,
-            ),
-            _ => unreachable!(),
-        },
-        Tree::Scoped(a, b) => match label {
-            Label::Outer(l, v) => outer_class(
-                alloc,
-                &part_class(alloc, alg, a, l)?,
-                &part_carrier(alloc, b)?,
-                v,
-            ),
-            Label::Inner(m) => inner_class(
-                alloc,
-                &part_carrier(alloc, a)?,
-                &part_class(alloc, alg, b, m)?,
-            ),
-            _ => unreachable!(),
-        },
-        Tree::Union(a, b) => match label {
-            Label::First(l) => union_first_class(
-                alloc,
-                &part_class(alloc, alg, a, l)?,
-                &part_carrier(alloc, b)?,
-            ),
-            Label::Second(m) => union_second_class(
-                alloc,
-                &part_class(alloc, alg, b, m)?,
-                &part_carrier(alloc, a)?,
-            ),
-            _ => unreachable!(),
-        },
-        Tree::Sum(a, b) => match label {
-            Label::Both(l, m) => sum_class(
-                alloc,
-                &part_class(alloc, alg, a, l)?,
-                &part_class(alloc, alg, b, m)?,
-            ),
-            _ => unreachable!(),
-        },
-        Tree::Plus(a, b) => match label {
-            Label::First(l) => plus_first_class(alloc, &part_class(alloc, alg, a, l)?),
-            Label::Second(m) => plus_second_class(alloc, &part_class(alloc, alg, b, m)?),
-            _ => unreachable!(),
-        },
-        Tree::Left(a) => match label {
-            Label::Const(v) => const_class(alloc, &part_carrier(alloc, a)?, v),
-            _ => unreachable!(),
-        },
+        Tree::Lex(a, b) => class_of_lex(alloc, alg, a, b, label),
+        Tree::Scoped(a, b) => class_of_scoped(alloc, alg, a, b, label),
+        Tree::Union(a, b) => class_of_union(alloc, alg, a, b, label),
+        Tree::Sum(a, b) => class_of_sum(alloc, alg, a, b, label),
+        Tree::Plus(a, b) => class_of_plus(alloc, alg, a, b, label),
+        Tree::Left(a) => class_of_left(alloc, alg, a, label),
         Tree::Right(a) => keep_class(alloc, &part_carrier(alloc, a)?),
+        Tree::Table(_) => table_class(alloc, &alg.copy_part(alloc, part)?, label),
+        base => base_class(alloc, &alg.copy_part(alloc, base)?, label),
+    }
+}
+
+#[cycle(part_class)]
+fn class_of_lex(
+    alloc: Global,
+    alg: &Alg,
+    a: &Tree,
+    b: &Tree,
+    label: &Label,
+) -> Result<Class, NoMemory>
+    requires { MayBeClassed (alg_in (lex (expression_of a.now) (expression_of b.now)) alg.now.edition) label.now }
+    ensures class { IfOk result
+        (ClassOf (alg_in (lex (expression_of a.now) (expression_of b.now)) alg.now.edition)) }
+    ensures label { IfOk result (λ class. pure_label class.label ≡ pure_label label.now) }
+{
+    match label {
+        Label::Pair(l, m) => {
+            let x = part_class(alloc, alg, a, l)?;
+            let y = part_class(alloc, alg, b, m)?;
+            lex_class(alloc, &x, &y)
+        }
+        _ => unreachable!(),
+    }
+}
+
+#[cycle(part_class)]
+fn class_of_scoped(
+    alloc: Global,
+    alg: &Alg,
+    a: &Tree,
+    b: &Tree,
+    label: &Label,
+) -> Result<Class, NoMemory>
+    requires { MayBeClassed (alg_in (scoped (expression_of a.now) (expression_of b.now)) alg.now.edition) label.now }
+    ensures class { IfOk result
+        (ClassOf (alg_in (scoped (expression_of a.now) (expression_of b.now)) alg.now.edition)) }
+    ensures label { IfOk result (λ class. pure_label class.label ≡ pure_label label.now) }
+{
+    match label {
+        Label::Outer(l, v) => {
+            let x = part_class(alloc, alg, a, l)?;
+            outer_class(alloc, &x, &part_carrier(alloc, b)?, v)
+        }
+        Label::Inner(m) => {
+            let y = part_class(alloc, alg, b, m)?;
+            inner_class(alloc, &part_carrier(alloc, a)?, &y)
+        }
+        _ => unreachable!(),
+    }
+}
+
+#[cycle(part_class)]
+fn class_of_union(
+    alloc: Global,
+    alg: &Alg,
+    a: &Tree,
+    b: &Tree,
+    label: &Label,
+) -> Result<Class, NoMemory>
+    requires { MayBeClassed (alg_in (union (expression_of a.now) (expression_of b.now)) alg.now.edition) label.now }
+    ensures class { IfOk result
+        (ClassOf (alg_in (union (expression_of a.now) (expression_of b.now)) alg.now.edition)) }
+    ensures label { IfOk result (λ class. pure_label class.label ≡ pure_label label.now) }
+{
+    match label {
+        Label::First(l) => {
+            let x = part_class(alloc, alg, a, l)?;
+            union_first_class(alloc, &x, &part_carrier(alloc, b)?)
+        }
+        Label::Second(m) => {
+            let y = part_class(alloc, alg, b, m)?;
+            union_second_class(alloc, &y, &part_carrier(alloc, a)?)
+        }
+        _ => unreachable!(),
+    }
+}
+
+#[cycle(part_class)]
+fn class_of_sum(
+    alloc: Global,
+    alg: &Alg,
+    a: &Tree,
+    b: &Tree,
+    label: &Label,
+) -> Result<Class, NoMemory>
+    requires { MayBeClassed (alg_in (sum (expression_of a.now) (expression_of b.now)) alg.now.edition) label.now }
+    ensures class { IfOk result
+        (ClassOf (alg_in (sum (expression_of a.now) (expression_of b.now)) alg.now.edition)) }
+    ensures label { IfOk result (λ class. pure_label class.label ≡ pure_label label.now) }
+{
+    match label {
+        Label::Both(l, m) => {
+            let x = part_class(alloc, alg, a, l)?;
+            let y = part_class(alloc, alg, b, m)?;
+            sum_class(alloc, &x, &y)
+        }
+        _ => unreachable!(),
+    }
+}
+
+#[cycle(part_class)]
+fn class_of_plus(
+    alloc: Global,
+    alg: &Alg,
+    a: &Tree,
+    b: &Tree,
+    label: &Label,
+) -> Result<Class, NoMemory>
+    requires { MayBeClassed (alg_in (plus (expression_of a.now) (expression_of b.now)) alg.now.edition) label.now }
+    ensures class { IfOk result
+        (ClassOf (alg_in (plus (expression_of a.now) (expression_of b.now)) alg.now.edition)) }
+    ensures label { IfOk result (λ class. pure_label class.label ≡ pure_label label.now) }
+{
+    match label {
+        Label::First(l) => plus_first_class(alloc, &part_class(alloc, alg, a, l)?),
+        Label::Second(m) => plus_second_class(alloc, &part_class(alloc, alg, b, m)?),
+        _ => unreachable!(),
+    }
+}
+
+fn class_of_left(alloc: Global, alg: &Alg, a: &Tree, label: &Label) -> Result<Class, NoMemory>
+    requires { MayBeClassed (alg_in (left (expression_of a.now)) alg.now.edition) label.now }
+    ensures class { IfOk result (ClassOf (alg_in (left (expression_of a.now)) alg.now.edition)) }
+    ensures label { IfOk result (λ class. pure_label class.label ≡ pure_label label.now) }
+{
+    match label {
+        Label::Const(v) => const_class(alloc, &part_carrier(alloc, a)?, v),
+        _ => unreachable!(),
     }
 }
 

@@ -1,10 +1,13 @@
 ghost use Rattle.std.specs.Prelude.{◌≡◌, IfOk};
-ghost use Rattle.alg_model.specs.Bounds.{AtMost};
-ghost use Rattle.alg_model.specs.Carriers.{In};
+ghost use Rattle.alg_model.specs.Bounds.{AtMost, greatest_number};
+ghost use Rattle.alg_model.specs.Carriers.{carrier_of, In};
+ghost use Rattle.alg_model.specs.Expressions.{Expression, scoped};
 ghost use Rattle.alg_model.specs.Expressions as pure;
-ghost use Rattle.alg_model.specs.Formation.{IsCarrier};
+ghost use Rattle.alg_model.specs.Formation.{IsFormed, IsCarrier};
 ghost use Rattle.alg_model.specs.Views.{pure_carrier, pure_label, pure_value};
+ghost use Rattle.alg_model.specs.declared.edition.Edition.{Edition};
 ghost use Rattle.alg_model.specs.declared.edition.TheConstants.{MAX_LABEL_NUMBER};
+ghost use Rattle.alg_classes.specs.Classes.{ClassOf, alg_in};
 ghost use Rattle.scoped_classes.specs.Scoped as rule;
 
 use alg_classes::{
@@ -50,7 +53,9 @@ pub fn outer_class(
         z.profile ≡ rule.outer_rule (pure_carrier second.now) (pure_value value.now) x.now.profile) }
     ensures label { IfOk result (λ z.
         pure_label z.label ≡ pure.outer (pure_label x.now.label) (pure_value value.now)) }
-    ensures class { IfOk result (rule.IsOuterClass (pure_carrier second.now) (pure_value value.now) x.now) }
+    ensures class { (a b : Expression) (e : Edition) → IsFormed (scoped a b) → pure_carrier second.now ≡ carrier_of b →
+        AtMost (greatest_number e) (pure_value value.now) → ClassOf (alg_in a e) x.now →
+        IfOk result (ClassOf (alg_in (scoped a b) e)) }
 {
     let set = constant_examples(alloc, second, value)?;
     Ok(Class {
@@ -66,7 +71,8 @@ pub fn inner_class(alloc: Global, first: &Carrier, y: &Class) -> Result<Class, N
     requires { IsCarrier (pure_carrier first.now) }
     ensures profile { IfOk result (λ z. z.profile ≡ rule.inner_rule (pure_carrier first.now) y.now.profile) }
     ensures label { IfOk result (λ z. pure_label z.label ≡ pure.inner (pure_label y.now.label)) }
-    ensures class { IfOk result (rule.IsInnerClass (pure_carrier first.now) y.now) }
+    ensures class { (a b : Expression) (e : Edition) → IsFormed (scoped a b) → pure_carrier first.now ≡ carrier_of a →
+        ClassOf (alg_in b e) y.now → IfOk result (ClassOf (alg_in (scoped a b) e)) }
 {
     let kept = kept_examples(alloc, first)?;
     Ok(Class {

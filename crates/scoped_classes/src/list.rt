@@ -1,11 +1,16 @@
-ghost use Rattle.std.specs.Prelude.{[], ◌∷◌, IfOk, OnOk};
-ghost use Rattle.alg_model.specs.Bounds.{AtMost};
-ghost use Rattle.alg_model.specs.Carriers.{In};
-ghost use Rattle.alg_model.specs.Formation.{IsCarrier};
+ghost use Rattle.std.specs.Prelude.{◌≡◌, IfOk, OnOk};
+ghost use Rattle.std.specs.List.{AllByRecursion};
+ghost use Rattle.alg_model.specs.Bounds.{AtMost, ExpressionAtMost, greatest_number};
+ghost use Rattle.alg_model.specs.Carriers.{carrier_of, In};
+ghost use Rattle.alg_model.specs.Expressions.{Expression, scoped};
+ghost use Rattle.alg_model.specs.Formation.{IsFormed, IsCarrier};
 ghost use Rattle.alg_model.specs.Views.{pure_carrier, pure_value};
+ghost use Rattle.alg_model.specs.declared.edition.Edition.{Edition};
 ghost use Rattle.alg_model.specs.declared.edition.TheConstants.{MAX_LABEL_NUMBER};
-ghost use Rattle.alg_classes.specs.Worst.{IsWithin};
-ghost use Rattle.scoped_classes.specs.Scoped.{IsScopedList, HasOuter, HasOuters, HasInners};
+ghost use Rattle.alg_classes.specs.Classes.{ClassOf, Covers, alg_in};
+ghost use Rattle.alg_classes.specs.Growth.{Grown, Only, Over};
+ghost use Rattle.scoped_classes.specs.Scoped.{OfOuters};
+ghost use Rattle.scoped_classes.specs.Scoped as rule;
 
 use crate::{inner_class, inner_profile, outer_class, outer_profile};
 use alg_classes::{Class, ClassList, best, worst};
@@ -24,7 +29,9 @@ pub fn scoped_class_list(
 ) -> Result<ClassList, NoMemory>
     requires first { IsCarrier (pure_carrier first.now) }
     requires second { IsCarrier (pure_carrier second.now) }
-    ensures { IfOk result (IsScopedList (pure_carrier first.now) (pure_carrier second.now) a.now b.now) }
+    ensures { (c d : Expression) (e : Edition) → IsFormed (scoped c d) → ExpressionAtMost (greatest_number e) d →
+        pure_carrier first.now ≡ carrier_of c → pure_carrier second.now ≡ carrier_of d →
+        Covers (alg_in c e) a.now → Covers (alg_in d e) b.now → IfOk result (Covers (alg_in (scoped c d) e)) }
 {
     let mut list = ClassList::new(alloc);
     add_outers(alloc, &mut list, a.classes(), second)?;
@@ -41,7 +48,9 @@ fn add_outers(
     second: &Carrier,
 ) -> Result<(), NoMemory>
     requires { IsCarrier (pure_carrier second.now) }
-    ensures { OnOk result (HasOuters (pure_carrier second.now) xs.now list.old list.new) }
+    ensures { (a b : Expression) (e : Edition) → IsFormed (scoped a b) → ExpressionAtMost (greatest_number e) b →
+        pure_carrier second.now ≡ carrier_of b → AllByRecursion (ClassOf (alg_in a e)) xs.now → OnOk result
+        (Grown (ClassOf (alg_in (scoped a b) e)) (Over (OfOuters (pure_carrier second.now)) xs.now) list.old list.new) }
 {
     add_outers_to(alloc, list, xs, second, &best(alloc, second)?)?;
     match worst(alloc, second)? {
@@ -60,9 +69,12 @@ fn add_outers_to(
 ) -> Result<(), NoMemory>
     requires carrier { IsCarrier (pure_carrier second.now) }
     requires value { In (pure_carrier second.now) (pure_value value.now) }
-    requires within { IsWithin (pure_carrier second.now) (pure_value value.now) }
     requires small { AtMost MAX_LABEL_NUMBER (pure_value value.now) }
-    ensures { OnOk result (HasOuter (pure_carrier second.now) (pure_value value.now) xs.now list.old list.new) }
+    ensures { (a b : Expression) (e : Edition) → IsFormed (scoped a b) → pure_carrier second.now ≡ carrier_of b →
+        AtMost (greatest_number e) (pure_value value.now) → AllByRecursion (ClassOf (alg_in a e)) xs.now → OnOk result
+        (Grown (ClassOf (alg_in (scoped a b) e))
+        (Over (λ p. Only (rule.outer_rule (pure_carrier second.now) (pure_value value.now) p)) xs.now)
+        list.old list.new) }
 {
     for x in xs {
         add_outer(alloc, list, x, second, value)?;
@@ -80,10 +92,11 @@ fn add_outer(
 ) -> Result<(), NoMemory>
     requires carrier { IsCarrier (pure_carrier second.now) }
     requires value { In (pure_carrier second.now) (pure_value value.now) }
-    requires within { IsWithin (pure_carrier second.now) (pure_value value.now) }
     requires small { AtMost MAX_LABEL_NUMBER (pure_value value.now) }
-    ensures { OnOk result
-        (HasOuter (pure_carrier second.now) (pure_value value.now) (x.now ∷ []) list.old list.new) }
+    ensures { (a b : Expression) (e : Edition) → IsFormed (scoped a b) → pure_carrier second.now ≡ carrier_of b →
+        AtMost (greatest_number e) (pure_value value.now) → ClassOf (alg_in a e) x.now → OnOk result
+        (Grown (ClassOf (alg_in (scoped a b) e))
+        (Only (rule.outer_rule (pure_carrier second.now) (pure_value value.now) x.now.profile)) list.old list.new) }
 {
     if list.has(&outer_profile(&x.profile, second, value)) {
         return Ok(());
@@ -99,7 +112,10 @@ fn add_inners(
     ys: &[Class],
 ) -> Result<(), NoMemory>
     requires { IsCarrier (pure_carrier first.now) }
-    ensures { OnOk result (HasInners (pure_carrier first.now) ys.now list.old list.new) }
+    ensures { (a b : Expression) (e : Edition) → IsFormed (scoped a b) → pure_carrier first.now ≡ carrier_of a →
+        AllByRecursion (ClassOf (alg_in b e)) ys.now → OnOk result
+        (Grown (ClassOf (alg_in (scoped a b) e))
+        (Over (λ q. Only (rule.inner_rule (pure_carrier first.now) q)) ys.now) list.old list.new) }
 {
     for y in ys {
         add_inner(alloc, list, first, y)?;
@@ -115,7 +131,10 @@ fn add_inner(
     y: &Class,
 ) -> Result<(), NoMemory>
     requires { IsCarrier (pure_carrier first.now) }
-    ensures { OnOk result (HasInners (pure_carrier first.now) (y.now ∷ []) list.old list.new) }
+    ensures { (a b : Expression) (e : Edition) → IsFormed (scoped a b) → pure_carrier first.now ≡ carrier_of a →
+        ClassOf (alg_in b e) y.now → OnOk result
+        (Grown (ClassOf (alg_in (scoped a b) e))
+        (Only (rule.inner_rule (pure_carrier first.now) y.now.profile)) list.old list.new) }
 {
     if list.has(&inner_profile(first, &y.profile)) {
         return Ok(());

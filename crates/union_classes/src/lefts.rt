@@ -96,7 +96,7 @@ fn add_consts(alloc: Global, lefts: &mut ClassList, carrier: &Carrier) -> Result
 /// They are refused for want of memory alone.
 pub fn left_class_list(alloc: Global, carrier: &Carrier) -> Result<ClassList, NoMemory>
     requires { IsCarrier (pure_carrier carrier.now) }
-    ensures { (a : Expression) (e : Edition) → IsFormed (left a) → ExpressionAtMost (greatest_number e) a →
+    ensures { (a : Expression) (e : Edition) → ExpressionAtMost (greatest_number e) a →
         pure_carrier carrier.now ≡ carrier_of a → IfOk result (Covers (alg_in (left a) e)) }
 {
     let mut lefts = ClassList::new(alloc);

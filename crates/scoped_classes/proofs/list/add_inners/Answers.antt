@@ -1,7 +1,26 @@
+use Rattle.std.proofs.Common.{arith}
+use Rattle.alg_model.specs.Expressions.{scoped}
 use Rattle.alg_model.specs.Views.{pure_carrier}
-use Rattle.scoped_classes.specs.ScopedLaws.{inner_next}
+use Rattle.alg_classes.specs.Classes.{ClassOf, alg_in}
+use Rattle.alg_classes.specs.ListLaws.{one_of_all}
+use Rattle.alg_classes.specs.Growth.{Only}
+use Rattle.alg_classes.specs.GrowthLaws.{grown_none, grown_more, grown_all}
+use Rattle.scoped_classes.specs.Scoped.{inner_rule}
 use Rattle.scoped_classes.proofs.list.add_inners.Goals as goal
 
+pub loop-y-init : goal.loop-y-init
+loop-y-init c = λ a b e formed same are.
+    grown_none (ClassOf (alg_in (scoped a b) e)) (λ q. Only (inner_rule (pure_carrier c.args.first.now) q)) c.args.list.now
+
 pub loop-y-preserved : goal.loop-y-preserved
-loop-y-preserved c = inner_next (pure_carrier c.args.first.now) c.args.ys.now c.loop-y.y-index c.y-item.result
-    c.args.list.now c.loop-y.list c.add_inner.new.list c.loop-y-test.true c.y-item.is c.loop-y.invariant c.in_ok-add_inner.ensures
+loop-y-preserved c = λ a b e formed same are.
+    let y = c.y-item.result in
+    let is = one_of_all (ClassOf (alg_in b e)) c.args.ys.now c.loop-y.y-index y are (omega arith) c.y-item.is in
+    grown_more (ClassOf (alg_in (scoped a b) e)) (λ q. Only (inner_rule (pure_carrier c.args.first.now) q)) c.args.ys.now c.loop-y.y-index y
+    c.args.list.now c.loop-y.list c.add_inner.new.list (omega arith) c.y-item.is
+    (c.loop-y.invariant a b e formed same are) (c.in_ok-add_inner.ensures a b e formed same is)
+
+pub returns : goal.returns
+returns c = λ a b e formed same are.
+    grown_all (ClassOf (alg_in (scoped a b) e)) (λ q. Only (inner_rule (pure_carrier c.args.first.now) q)) c.args.ys.now c.loop-y.y-index
+    c.args.list.now c.loop-y.list (omega arith) (c.loop-y.invariant a b e formed same are)

@@ -1,11 +1,15 @@
-use Rattle.std.proofs.Common.{sym, subst}
+use Rattle.std.proofs.Common.{sym, ap, subst, ◌∙◌, option_map}
+use Rattle.std.proofs.lemmas.Result.{on_ok_weaker}
 use Rattle.alg_model.specs.Carriers.{In}
+use Rattle.alg_model.specs.Expressions.{scoped}
 use Rattle.alg_model.specs.Views.{pure_carrier, pure_value}
+use Rattle.alg_classes.specs.Classes.{ClassOf, alg_in}
 use Rattle.alg_classes.specs.FlatLaws.{best_in}
+use Rattle.alg_classes.specs.Growth.{Grown, Only, Over}
 use Rattle.alg_classes.specs.Worst.{IsWithin}
 use Rattle.alg_classes.specs.WorstLaws.{best_within, worst_within}
-use Rattle.scoped_classes.specs.Scoped.{HasOuter}
-use Rattle.scoped_classes.specs.ScopedLaws.{worst_of_some, worst_of_none, outers_added, outers_by_one}
+use Rattle.scoped_classes.specs.Scoped.{outer_rule}
+use Rattle.scoped_classes.specs.ScopedLaws.{within_edition, grown_by_best, grown_by_both}
 use Rattle.scoped_classes.proofs.list.add_outers.Goals as goal
 
 pub add_outers_to-requires-clause-value : goal.add_outers_to-requires-clause-value
@@ -13,27 +17,31 @@ add_outers_to-requires-clause-value c =
     let d = pure_carrier c.args.second.now in
     subst (In d) (sym c.in_ok-best.ensures.value) (best_in d c.requires)
 
-pub add_outers_to-requires-clause-within : goal.add_outers_to-requires-clause-within
-add_outers_to-requires-clause-within c =
-    let d = pure_carrier c.args.second.now in
-    subst (IsWithin d) (sym c.in_ok-best.ensures.value) (best_within d)
-
-pub add_outers_to-requires-in-Some-clause-within : goal.add_outers_to-requires-in-Some-clause-within
-add_outers_to-requires-in-Some-clause-within c =
-    let d = pure_carrier c.args.second.now in
-    worst_within d (pure_value c.in-Some.value) (worst_of_some d c.in_ok-value.field-0 c.in-Some.value c.in_ok-value.ensures.value c.in-Some.is)
-
 pub returns-in-Some : goal.returns-in-Some
-returns-in-Some c =
+returns-in-Some c = λ a b e formed bound same are.
+    let P = ClassOf (alg_in (scoped a b) e) in
     let d = pure_carrier c.args.second.now in
-    outers_added c.add_outers_to-in-Some.result d (pure_value c.in_ok-best.field-0) (pure_value c.in-Some.value)
-    c.args.xs.now c.args.list.now c.add_outers_to.new.list c.add_outers_to-in-Some.new.list c.requires c.in_ok-best.ensures.value
-    (worst_of_some d c.in_ok-value.field-0 c.in-Some.value c.in_ok-value.ensures.value c.in-Some.is)
-    c.in_ok-add_outers_to.ensures c.add_outers_to-in-Some.ensures
+    let u = pure_value c.in_ok-best.field-0 in
+    let w = pure_value c.in-Some.value in
+    let xs = c.args.xs.now in
+    let best_is = c.in_ok-best.ensures.value in
+    let worst_is = sym c.in_ok-value.ensures.value ∙ ap (option_map pure_value) c.in-Some.is in
+    let first = c.in_ok-add_outers_to.ensures a b e formed same
+    (within_edition b e d u bound same (subst (IsWithin d) (sym best_is) (best_within d))) are in
+    on_ok_weaker c.add_outers_to-in-Some.result
+    (grown_by_both P d w xs c.args.list.now c.add_outers_to.new.list c.add_outers_to-in-Some.new.list c.requires worst_is
+    (subst (λ v. Grown P (Over (λ p. Only (outer_rule d v p)) xs) c.args.list.now c.add_outers_to.new.list) best_is first))
+    (c.add_outers_to-in-Some.ensures a b e formed same (within_edition b e d w bound same (worst_within d w worst_is)) are)
 
 pub returns-in-None : goal.returns-in-None
-returns-in-None c =
+returns-in-None c = λ a b e formed bound same are.
+    let P = ClassOf (alg_in (scoped a b) e) in
     let d = pure_carrier c.args.second.now in
-    outers_by_one d c.args.xs.now c.args.list.now c.add_outers_to.new.list c.requires
-    (worst_of_none d c.in_ok-value.field-0 c.in_ok-value.ensures.value c.in-None.is)
-    (subst (λ v. HasOuter d v c.args.xs.now c.args.list.now c.add_outers_to.new.list) c.in_ok-best.ensures.value c.in_ok-add_outers_to.ensures)
+    let u = pure_value c.in_ok-best.field-0 in
+    let xs = c.args.xs.now in
+    let best_is = c.in_ok-best.ensures.value in
+    let worst_is = sym c.in_ok-value.ensures.value ∙ ap (option_map pure_value) c.in-None.is in
+    let first = c.in_ok-add_outers_to.ensures a b e formed same
+    (within_edition b e d u bound same (subst (IsWithin d) (sym best_is) (best_within d))) are in
+    grown_by_best P d xs c.args.list.now c.add_outers_to.new.list c.requires worst_is
+    (subst (λ v. Grown P (Over (λ p. Only (outer_rule d v p)) xs) c.args.list.now c.add_outers_to.new.list) best_is first)

@@ -9,7 +9,7 @@ use Rattle.union_classes.proofs.ConstLaws.{left_covers}
 use Rattle.union_classes.proofs.lefts.left_class_list.Goals as goal
 
 pub returns : goal.returns
-returns c = λ a e formed bound same.
+returns c = λ a e bound same.
     let zs = c.add_consts.new.lefts in
     left_covers a e zs (subst IsCarrier same c.requires)
     (subst (λ d. Grown (ClassOf (alg_in (left a) e)) (OfConstants d) [] zs) same
