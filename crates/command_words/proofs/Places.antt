@@ -1,0 +1,81 @@
+-- The places of a command are places of words.
+use Rattle.std.proofs.Common.{◌≡◌, refl, nat_le, ◌&&◌, lit≤, ℕ, zero, suc, ◌<◌, ◌≤◌, ◌+◌, List, [], ◌∷◌, length, Bool, true, false, Option, Some, None, IfSome, Err, IfOk, if◌then◌else◌, arith, slice_get, slice_index}
+use Rattle.std.specs.Prelude.{find}
+use Rattle.std.specs.Option.{option_map, option_and_then, ok_or}
+use Rattle.std.proofs.lemmas.Bool.Decides.{nat_tests}
+use Rattle.meta_base.specs.Bytes.{number_from}
+use Rattle.command_words.specs.Numbers.{is_number, number_within}
+use Rattle.command_words.specs.declared.command.Command.{Command}
+use Rattle.command_words.specs.declared.usage.Kind.{Kind}
+use Rattle.command_words.specs.declared.usage.Kind.TheVariants as kind
+use Rattle.command_words.specs.declared.command.Command.TheVariants.{Route}
+use Rattle.command_words.specs.declared.command.WordsFault.TheVariants.{BadFlag, WrongCount, BadNumber}
+use Rattle.command_words.specs.declared.usage.Flag.TheVariants.{Workers}
+use Rattle.command_words.specs.Usages.{usage_of, has_word, kinds}
+use Rattle.command_words.specs.Parts.{PurePart, argument, flag, is_flag, gives, value_of, parts_from, places}
+use Rattle.command_words.specs.Words.{Words, HasItsWords, AreWorkers, has_bad_flag, has_wrong_count, number_given, number_of, command_of, meaning_of}
+
+-- each place is below the bound
+abbrev AllBelow : ℕ → List ℕ → Type 0
+AllBelow bound [] = Unit {0}
+AllBelow bound (place ∷ rest) = (place < bound) × AllBelow bound rest
+
+-- the parts of words that end before the bound
+places_below : (bound place : ℕ) (words : List (List ℕ)) → place + length words ≤ bound → AllBelow bound (places (parts_from place words))
+places_below bound place [] h = tt
+places_below bound place (word ∷ []) h =
+    elim (is_flag word) as (λ b. AllBelow bound (places (if b then flag word None ∷ [] else argument place ∷ []))) [ true ↦ tt | false ↦ (omega arith, tt) ]
+places_below bound place (word ∷ next ∷ rest) h =
+    elim (is_flag word) as (λ b. AllBelow bound (places (if b then flag word (Some next) ∷ parts_from (place + 2) rest else argument place ∷ parts_from (place + 1) (next ∷ rest))))
+    [ true ↦ places_below bound (place + 2) rest (omega arith) | false ↦ (omega arith, places_below bound (place + 1) (next ∷ rest) (omega arith)) ]
+
+-- past the end the place is 0, which is below the bound too
+below_at : (bound : ℕ) (ps : List ℕ) (k : ℕ) → 0 < bound → AllBelow bound ps → slice_index ps k < bound
+below_at bound [] k some h = some
+below_at bound (p ∷ ps) zero some h = h.0
+below_at bound (p ∷ ps) (suc k) some h = below_at bound ps k some h.1
+
+below_get : (bound : ℕ) (ps : List ℕ) (k : ℕ) → AllBelow bound ps → IfSome (slice_get ps k) (λ p. p < bound)
+below_get bound [] k h = tt
+below_get bound (p ∷ ps) zero h = h.0
+below_get bound (p ∷ ps) (suc k) h = below_get bound ps k h.1
+
+number_bounded : (least greatest : ℕ) (word : List ℕ) → IfSome (number_within least greatest word) (λ n. (least ≤ n) × (n ≤ greatest))
+number_bounded least greatest word =
+    let n = number_from 0 word in
+    by n (is_number word) (nat_le least n) (nat_le n greatest) (λ e. grind (arith, nat_tests)) (λ e. grind (arith, nat_tests))
+  where
+    by : (n : ℕ) (b c d : Bool) → (c ≡ true → least ≤ n) → (d ≡ true → n ≤ greatest) → IfSome (if b && c && d then Some n else None) (λ n. (least ≤ n) × (n ≤ greatest))
+    by n true true true f g = (f refl, g refl)
+    by n true true false f g = tt
+    by n true false d f g = tt
+    by n false c d f g = tt
+
+given_bounded : (value : Option (List ℕ)) → IfSome (number_given Workers value) AreWorkers
+given_bounded None = (lit≤ tt, lit≤ tt)
+given_bounded (Some word) = number_bounded 1 16 word
+
+command_of_below : (words : List (List ℕ)) (k : Kind) (parts : List PurePart) → 0 < length words → AllBelow (length words) (places parts) → IfSome (command_of k parts) (HasItsWords words)
+command_of_below words kind.Check parts some below = (below_at (length words) (places parts) 0 some below, below_get (length words) (places parts) 1 below)
+command_of_below words kind.Route parts some below =
+    by (number_of Workers parts) (given_bounded (option_and_then value_of (find (gives Workers) parts)))
+  where
+    by : (n : Option ℕ) → IfSome n AreWorkers → IfSome (option_map (Route (slice_index (places parts) 0) (slice_index (places parts) 1)) n) (HasItsWords words)
+    by None h = tt
+    by (Some n) h = (below_at (length words) (places parts) 0 some below, below_at (length words) (places parts) 1 some below, h)
+
+meaning_of_below : (words : List (List ℕ)) (k : Option Kind) (parts : List PurePart) → 0 < length words → AllBelow (length words) (places parts) → IfOk (meaning_of k parts) (HasItsWords words)
+meaning_of_below words None parts some below = tt
+meaning_of_below words (Some k) parts some below =
+    by (has_bad_flag (usage_of k).flags parts) (has_wrong_count (usage_of k) parts) (command_of k parts) (command_of_below words k parts some below)
+  where
+    by : (bad wrong : Bool) (o : Option Command) → IfSome o (HasItsWords words) → IfOk (if bad then Err BadFlag else (if wrong then Err WrongCount else ok_or o BadNumber)) (HasItsWords words)
+    by true wrong o h = tt
+    by false true o h = tt
+    by false false None h = tt
+    by false false (Some c) h = h
+
+pub words_have_places : (words : List (List ℕ)) → IfOk (Words words) (HasItsWords words)
+unfolding Words
+words_have_places [] = tt
+words_have_places (word ∷ rest) = meaning_of_below (word ∷ rest) (find (has_word word) kinds) (parts_from 1 rest) (omega arith) (places_below _ 1 rest (omega arith))

@@ -1,0 +1,5 @@
+pub mod Parts
+pub mod PartsLeft
+pub mod Numbers
+pub mod Usages
+pub mod Words

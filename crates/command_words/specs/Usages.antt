@@ -1,0 +1,41 @@
+-- The table of commands and that of flags.
+use Rattle.std.specs.Prelude.{ℕ, List, [], ◌∷◌, Bool, codes}
+use Rattle.std.specs.Str.{bytes_eq}
+use Rattle.command_words.specs.declared.usage.Kind.{Kind}
+use Rattle.command_words.specs.declared.usage.Kind.TheVariants.{Check, Route}
+use Rattle.command_words.specs.declared.usage.Flag.{Flag}
+use Rattle.command_words.specs.declared.usage.Flag.TheVariants.{Workers}
+use Rattle.command_words.specs.declared.usage.Limits.{Limits}
+use Rattle.command_words.specs.declared.usage.Usage.{Usage}
+
+-- how a command is used: its word, how many arguments it takes at least and at most, and which flags it has
+pub record PureUsage : Type 0 where
+  pub word : List ℕ
+  pub least : ℕ
+  pub most : ℕ
+  pub flags : List Flag
+
+-- the usage without where its word and flags lie in memory
+abbrev pub pure_usage : Usage → PureUsage
+pure_usage u = record { word = u.word.now; least = u.least; most = u.most; flags = u.flags.now }
+
+-- the table of commands
+abbrev pub usage_of : Kind → PureUsage
+usage_of Check = record { word = codes "check"; least = 1; most = 2; flags = [] }
+usage_of Route = record { word = codes "route"; least = 2; most = 2; flags = Workers ∷ [] }
+
+-- all commands
+abbrev pub kinds : List Kind
+kinds = Check ∷ Route ∷ []
+
+-- it is the command of this word
+abbrev pub has_word : List ℕ → Kind → Bool
+has_word word kind = bytes_eq (usage_of kind).word word
+
+-- the word of a flag
+abbrev pub flag_word : Flag → List ℕ
+flag_word Workers = codes "--workers"
+
+-- the least and the greatest number that its value may be, and the number where it isn't given
+abbrev pub limits_of : Flag → Limits
+limits_of Workers = record { least = 1; greatest = 16; default = 4 }

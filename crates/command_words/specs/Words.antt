@@ -1,0 +1,73 @@
+-- What the words of a command line mean.
+use Rattle.std.specs.Prelude.{ℕ, ◌<◌, ◌≤◌, length, List, [], ◌∷◌, Bool, not, ◌||◌, ◌&&◌, nat_lt, nat_le, Option, Some, None, IfSome, option_map, option_and_then, Result, Err, if◌then◌else◌, find, count_by, slice_get, slice_index}
+use Rattle.std.specs.Option.{ok_or}
+use Rattle.std.specs.List.{list_any}
+use Rattle.command_words.specs.declared.command.Command.{Command}
+use Rattle.command_words.specs.declared.command.Command.TheVariants.{Check, Route}
+use Rattle.command_words.specs.declared.command.WordsFault.{WordsFault}
+use Rattle.command_words.specs.declared.command.WordsFault.TheVariants.{NoCommand, UnknownCommand, WrongCount, BadNumber, BadFlag}
+use Rattle.command_words.specs.declared.usage.Kind.{Kind}
+use Rattle.command_words.specs.declared.usage.Kind.TheVariants as kind
+use Rattle.command_words.specs.declared.usage.Flag.{Flag}
+use Rattle.command_words.specs.declared.usage.Flag.TheVariants.{Workers}
+use Rattle.command_words.specs.Usages.{PureUsage, usage_of, limits_of, has_word, kinds}
+use Rattle.command_words.specs.Parts.{PurePart, parts_from, places, value_of, lacks_value, gives, is_unknown}
+use Rattle.command_words.specs.Numbers.{number_within}
+
+-- the flag is given more than once
+abbrev pub is_repeated : List PurePart → Flag → Bool
+is_repeated parts f = nat_lt 1 (count_by (gives f) parts)
+
+-- a flag is none of these, or one of these is given more than once
+abbrev pub has_bad_flag : List Flag → List PurePart → Bool
+has_bad_flag flags parts = list_any (is_unknown flags) parts || list_any (is_repeated parts) flags
+
+-- a flag has no value, or the arguments are too few or too many
+abbrev pub has_wrong_count : PureUsage → List PurePart → Bool
+has_wrong_count usage parts =
+    let count = length (places parts) in
+    list_any lacks_value parts || not (nat_le usage.least count && nat_le count usage.most)
+
+-- the number of a flag with this value, or of one that isn't given, if it is good
+abbrev pub number_given : Flag → Option (List ℕ) → Option ℕ
+number_given f None = Some (limits_of f).default
+number_given f (Some word) = number_within (limits_of f).least (limits_of f).greatest word
+
+-- the number of the flag among these parts
+abbrev pub number_of : Flag → List PurePart → Option ℕ
+number_of f parts = number_given f (option_and_then value_of (find (gives f) parts))
+
+-- the command that these parts make, with as many arguments as it takes, if its numbers are good
+abbrev pub command_of : Kind → List PurePart → Option Command
+command_of kind.Check parts = Some (Check (slice_index (places parts) 0) (slice_get (places parts) 1))
+command_of kind.Route parts =
+    option_map (Route (slice_index (places parts) 0) (slice_index (places parts) 1)) (number_of Workers parts)
+
+-- the command of this kind with these parts, or their first fault
+abbrev pub meaning_of : Option Kind → List PurePart → Result Command WordsFault
+meaning_of None parts = Err UnknownCommand
+meaning_of (Some k) parts =
+    if has_bad_flag (usage_of k).flags parts then Err BadFlag else
+    (if has_wrong_count (usage_of k) parts then Err WrongCount else ok_or (command_of k parts) BadNumber)
+
+-- the command of the words, or the first fault in them
+unfoldable pub Words : List (List ℕ) → Result Command WordsFault
+Words [] = Err NoCommand
+Words (word ∷ rest) = meaning_of (find (has_word word) kinds) (parts_from 1 rest)
+
+-- so many workers there may be
+abbrev pub AreWorkers : ℕ → Type 0
+AreWorkers workers = (1 ≤ workers) × (workers ≤ 16)
+
+-- the files of the command are words, and there may be so many workers
+abbrev pub HasItsWords : List (List ℕ) → Command → Type 0
+HasItsWords words (Check file net) = (file < length words) × IfSome net (λ net. net < length words)
+HasItsWords words (Route file net workers) = (file < length words) × (net < length words) × AreWorkers workers
+
+-- the number that stands behind the C of a printed fault
+abbrev pub words_fault_number : WordsFault → ℕ
+words_fault_number NoCommand = 1
+words_fault_number UnknownCommand = 2
+words_fault_number WrongCount = 3
+words_fault_number BadNumber = 4
+words_fault_number BadFlag = 5

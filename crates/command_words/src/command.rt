@@ -1,0 +1,51 @@
+ghost use Rattle.std.specs.Prelude.{◌≡◌};
+ghost use Rattle.command_words.specs.Words.{words_fault_number};
+
+/// What the program is asked to do. Its files are places in the words, where their names stand.
+#[derive(Clone, Copy, Debug, PartialEq, Eq)]
+pub enum Command {
+    /// `check FILE [NET]` asks which of the five properties the algebra of an expression file has, or, with a
+    /// network file, the labels on its arcs.
+    Check {
+        file: usize,
+        net: Option<usize>,
+    },
+    /// `route FILE NET [--workers W]` asks for link-state routes for every destination of a network file, found
+    /// by so many workers: 1 to 16, and 4 where the words don't say.
+    Route {
+        file: usize,
+        net: usize,
+        workers: u32,
+    },
+}
+
+/// What is wrong with the words of a command line. Of several faults the one told is the first in this order:
+/// `NoCommand`, `UnknownCommand`, `BadFlag`, `WrongCount`, `BadNumber`.
+#[derive(Clone, Copy, Debug, PartialEq, Eq)]
+pub enum WordsFault {
+    /// There are no words; printed as C1.
+    NoCommand,
+    /// The first word is no command; printed as C2.
+    UnknownCommand,
+    /// A flag has no value, since it is the last word, or there are too few or too many arguments; printed as C3.
+    WrongCount,
+    /// A number isn't spelled by 1 to 20 ASCII digits, or is out of its range; printed as C4.
+    BadNumber,
+    /// The command doesn't have a flag, or it is given twice; printed as C5.
+    BadFlag,
+}
+
+impl WordsFault {
+    /// The number that stands behind the C of a printed fault.
+    pub fn number(self) -> u8
+        ensures { result ≡ words_fault_number self }
+    {
+        match self {
+            WordsFault::NoCommand => 1,
+            WordsFault::UnknownCommand => 2,
+            WordsFault::WrongCount => 3,
+            WordsFault::BadNumber => 4,
+            WordsFault::BadFlag => 5,
+        }
+    }
+}

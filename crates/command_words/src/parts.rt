@@ -1,0 +1,141 @@
+//! The words behind the command, taken apart into arguments and flags.
+ghost use Rattle.std.specs.Prelude.{◌≡◌, ◌+◌, ◌^◌, ◌<◌, length, OnSome};
+ghost use Rattle.command_words.specs.Parts.{is_flag};
+
+use crate::usage::Flag;
+use meta_base::Text;
+
+/// A part of the words behind the command.
+#[derive(Clone, Copy)]
+pub enum Part<'a> {
+    /// The argument at this place among all words.
+    Argument(usize),
+    /// A flag and its value, the word behind it; a flag that is the last word has none.
+    Flag {
+        word: &'a str,
+        value: Option<&'a str>,
+    },
+}
+
+impl<'a> Part<'a> {
+    ghost use Rattle.std.specs.Prelude.{option_map};
+    ghost use Rattle.std.specs.List.{list_any};
+    ghost use Rattle.command_words.specs.Parts.{pure_part, place_of, value_of, lacks_value, gives, is_unknown};
+
+    /// The place of an argument.
+    pub fn place(self) -> Option<usize>
+        ensures { result ≡ place_of (pure_part self.entry) }
+    {
+        match self {
+            Part::Argument(place) => Some(place),
+            Part::Flag { .. } => None,
+        }
+    }
+
+    /// The value of a flag.
+    pub fn value(self) -> Option<&'a str>
+        ensures { option_map (λ v. v.now) result ≡ value_of (pure_part self.entry) }
+    {
+        match self {
+            Part::Argument(_) => None,
+            Part::Flag { value, .. } => value,
+        }
+    }
+
+    /// Whether it is a flag without a value.
+    pub fn lacks_value(self) -> bool
+        ensures { result ≡ lacks_value (pure_part self.entry) }
+    {
+        matches!(self, Part::Flag { value: None, .. })
+    }
+
+    /// Whether it is this flag.
+    pub fn gives(self, flag: Flag) -> bool
+        ensures { result ≡ gives flag (pure_part self.entry) }
+    {
+        match self {
+            Part::Argument(_) => false,
+            Part::Flag { word, .. } => word == flag.word(),
+        }
+    }
+
+    /// Whether it is a flag, but none of these.
+    pub fn is_unknown(self, flags: &[Flag]) -> bool
+        ensures { result ≡ is_unknown flags.now (pure_part self.entry) }
+    {
+        self.place().is_none() && !self.is_among(flags)
+    }
+
+    // Whether it is one of these flags.
+    fn is_among(self, flags: &[Flag]) -> bool
+        ensures { result ≡ list_any (λ flag. gives flag (pure_part self.entry)) flags.now }
+    {
+        flags.iter().any(|flag| self.gives(*flag))
+    }
+}
+
+/// The parts of words, from left to right.
+#[derive(Drop)]
+pub struct Parts<'a> {
+    words: &'a [Text],
+    // The place of the first of these words among all.
+    place: usize,
+    ghost countable: { place + length words.now < 2 ^ 64 },
+}
+
+impl<'a> Parts<'a> {
+    ghost use Rattle.std.specs.Iterator.{YieldsFirstRef};
+    ghost use Rattle.command_words.specs.Parts.{parts_from};
+    ghost use Rattle.command_words.specs.PartsLeft.{parts_left};
+
+    /// The parts of the words behind the command.
+    #[tactic(auto, using(crate::proofs::FirstParts::parts_within))]
+    pub fn behind_command(words: &'a [Text]) -> Parts<'a>
+        ensures parts { parts_left result ≡ parts_from 1 words.now }
+        ensures few { length (parts_left result) < 2 ^ 64 }
+    {
+        Parts { words, place: 1 }
+    }
+
+    // Takes the first word.
+    fn take_word(&mut self) -> Option<&'a str>
+        ensures word { YieldsFirstRef (λ parts. parts.words.now) self.old result self.new }
+        ensures place { OnSome result (self.new.place ≡ self.old.place + 1) }
+    {
+        let (word, rest) = self.words.split_first()?;
+        self.words = rest;
+        self.place += 1;
+        Some(word.as_str())
+    }
+}
+
+impl<'a> Iterator for Parts<'a> {
+    ghost use Rattle.std.specs.Iterator.{YieldsFirstBy, item_count};
+    ghost use Rattle.command_words.specs.Parts.{pure_part};
+    ghost use Rattle.command_words.specs.PartsLeft.{parts_left};
+
+    type Item = Part<'a>;
+
+    ghost next_gives = { YieldsFirstBy pure_part parts_left };
+
+    ghost remaining = { item_count parts_left };
+
+    #[tactic(auto, using(crate::proofs::FirstParts::first_argument))]
+    fn next(&mut self) -> Option<Part<'a>> {
+        let place = self.place;
+        let word = self.take_word()?;
+        if is_flag(word) {
+            let value = self.take_word();
+            Some(Part::Flag { word, value })
+        } else {
+            Some(Part::Argument(place))
+        }
+    }
+}
+
+// Whether the word is a flag.
+fn is_flag(word: &str) -> bool
+    ensures { result ≡ is_flag word.now }
+{
+    word.as_bytes().starts_with(b"--")
+}

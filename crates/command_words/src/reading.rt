@@ -1,0 +1,141 @@
+ghost use Rattle.std.specs.Prelude.{◌≡◌, ◌≤◌, Some, IfOk, IfSome, length, slice_get, option_map, option_and_then, find};
+ghost use Rattle.std.specs.List.{list_any};
+ghost use Rattle.command_words.specs.Parts.{parts_from, places, lacks_value, gives, is_unknown, value_of};
+ghost use Rattle.command_words.specs.Usages.{pure_usage, usage_of, limits_of};
+ghost use Rattle.command_words.specs.Words.{Words, HasItsWords, command_of, has_bad_flag, has_wrong_count, is_repeated, meaning_of, number_of};
+
+use crate::number::number_within;
+use crate::parts::{Part, Parts};
+use crate::usage::{Flag, Kind, Usage};
+use crate::{Command, WordsFault};
+use meta_base::Text;
+
+/// The command that the words after the program's name mean, or the first fault in them. It takes no memory.
+///
+/// The first word is the command. Of the rest, from left to right, a word that begins with `--` is a flag and
+/// takes the next word as its value, whatever that is; every other word is an argument. A number is 1 to 20
+/// ASCII digits, which may begin with zeros. Faults are looked for in the order that [`WordsFault`] tells.
+#[tactic(auto, unfolding(crate::specs::Words::Words))]
+pub fn read_words(words: &[Text]) -> Result<Command, WordsFault>
+    ensures command { result ≡ Words words.now }
+    ensures places { IfOk result (HasItsWords words.now) }
+{
+    let (command, rest) = words.split_first().ok_or(WordsFault::NoCommand)?;
+    match Kind::named(command.as_str()) {
+        Some(kind) => meaning_of(kind, rest),
+        None => Err(WordsFault::UnknownCommand),
+    }
+}
+
+// The command of this kind with these words behind it, or the first fault in them.
+fn meaning_of(kind: Kind, rest: &[Text]) -> Result<Command, WordsFault>
+    ensures { result ≡ meaning_of (Some kind) (parts_from 1 rest.now) }
+{
+    let usage = kind.usage();
+    if has_bad_flag(usage.flags, rest) {
+        return Err(WordsFault::BadFlag);
+    }
+    if has_wrong_count(&usage, rest) {
+        return Err(WordsFault::WrongCount);
+    }
+    command_of(kind, rest).ok_or(WordsFault::BadNumber)
+}
+
+// Whether a flag is none of these, or one of these is given more than once.
+fn has_bad_flag(flags: &[Flag], rest: &[Text]) -> bool
+    ensures { result ≡ has_bad_flag flags.now (parts_from 1 rest.now) }
+{
+    has_unknown_flag(flags, rest) || has_repeated_flag(flags, rest)
+}
+
+fn has_unknown_flag(flags: &[Flag], rest: &[Text]) -> bool
+    ensures { result ≡ list_any (is_unknown flags.now) (parts_from 1 rest.now) }
+{
+    Parts::behind_command(rest).any(|part| part.is_unknown(flags))
+}
+
+fn has_repeated_flag(flags: &[Flag], rest: &[Text]) -> bool
+    ensures { result ≡ list_any (is_repeated (parts_from 1 rest.now)) flags.now }
+{
+    flags.iter().any(|flag| is_repeated(*flag, rest))
+}
+
+fn is_repeated(flag: Flag, rest: &[Text]) -> bool
+    ensures { result ≡ is_repeated (parts_from 1 rest.now) flag }
+{
+    Parts::behind_command(rest)
+        .filter(|part| part.gives(flag))
+        .count()
+        > 1
+}
+
+// Whether a flag has no value, or the arguments are too few or too many.
+fn has_wrong_count(usage: &Usage, rest: &[Text]) -> bool
+    ensures { result ≡ has_wrong_count (pure_usage usage.now) (parts_from 1 rest.now) }
+{
+    let count = argument_count(rest);
+    lacks_a_value(rest) || count < usage.least || usage.most < count
+}
+
+// Whether a flag has no value.
+fn lacks_a_value(rest: &[Text]) -> bool
+    ensures { result ≡ list_any lacks_value (parts_from 1 rest.now) }
+{
+    Parts::behind_command(rest).any(Part::lacks_value)
+}
+
+fn argument_count(rest: &[Text]) -> usize
+    ensures { result ≡ length (places (parts_from 1 rest.now)) }
+{
+    Parts::behind_command(rest).filter_map(Part::place).count()
+}
+
+// The place of the argument with this number, from 0, if there are so many.
+fn argument(rest: &[Text], number: usize) -> Option<usize>
+    ensures { result ≡ slice_get (places (parts_from 1 rest.now)) number }
+{
+    Parts::behind_command(rest)
+        .filter_map(Part::place)
+        .nth(number)
+}
+
+// The command that these words make, unless a number of it is bad.
+fn command_of(kind: Kind, rest: &[Text]) -> Option<Command>
+    requires { (usage_of kind).least ≤ length (places (parts_from 1 rest.now)) }
+    ensures { result ≡ command_of kind (parts_from 1 rest.now) }
+{
+    let file = argument(rest, 0).unwrap();
+    match kind {
+        Kind::Check => Some(Command::Check {
+            file,
+            net: argument(rest, 1),
+        }),
+        Kind::Route => Some(Command::Route {
+            file,
+            net: argument(rest, 1).unwrap(),
+            workers: number_of(Flag::Workers, rest)? as u32,
+        }),
+    }
+}
+
+// The number of the flag, unless its value is bad.
+fn number_of(flag: Flag, rest: &[Text]) -> Option<u64>
+    ensures number { result ≡ number_of flag (parts_from 1 rest.now) }
+    ensures bounded { IfSome result (λ n. n ≤ (limits_of flag).greatest) }
+{
+    let limits = flag.limits();
+    match value_of(flag, rest) {
+        Some(word) => number_within(limits.least, limits.greatest, word),
+        None => Some(limits.default),
+    }
+}
+
+// The value of the flag, if it is given.
+fn value_of(flag: Flag, rest: &[Text]) -> Option<&str>
+    ensures { option_map (λ v. v.now) result ≡
+        option_and_then value_of (find (gives flag) (parts_from 1 rest.now)) }
+{
+    Parts::behind_command(rest)
+        .find(|part| part.gives(flag))?
+        .value()
+}
