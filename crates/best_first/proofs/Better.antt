@@ -1,14 +1,14 @@
 -- Which of two routes, or none, is unbeaten.
-use Rattle.std.proofs.Common.{◌≡◌, ◌≢◌, ℕ, ◌<◌, ◌+◌, List, [], ◌∷◌, Option, Some, None, IfSome, Bool, true, false, cond, length, ◌⊎◌, inl, inr, refl, arith}
+use Rattle.std.proofs.Common.{◌≡◌, ◌≢◌, ℕ, List, [], ◌∷◌, Option, Some, None, IfSome, Bool, true, false, cond, length, ◌⊎◌, inl, inr, refl, arith}
 use Rattle.std.specs.Ordering.{nat_cmp, ordering_then, ordering_reverse}
 use Rattle.std.specs.declared.cmp.Ordering.{Ordering}
 use Rattle.std.specs.declared.cmp.Ordering.TheVariants.{Less, Equal, Greater}
-use Rattle.std.proofs.lemmas.Bool.{cases_lt}
 use Rattle.std.proofs.lemmas.Bool.Decides.{nat_tests}
 use Rattle.alg_model.specs.Expressions.{PureCarrier}
 use Rattle.alg_model.specs.Carriers.{In, Order}
 use Rattle.alg_model.specs.Laws.{total_preorder}
-use Rattle.net_graph.specs.Routes.{PureRoute, compare_nodes, compare_paths, compare_routes, Better}
+use Rattle.meta_base.specs.NodePaths.{compare_nodes, compare_paths}
+use Rattle.net_graph.specs.Routes.{PureRoute, compare_routes, Better}
 use Rattle.best_first.specs.Found.{is_less, is_better, better_of}
 use Rattle.best_first.proofs.Routes.{paths_flip}
 
@@ -122,19 +122,3 @@ better_twice c (Some r) (Some s) = by (is_better c s r) (is_better c s s) refl
         both true = refl
         both false = refl
     by false b e = rw e refl
-
--- the best of n and one more
-pub best_step : (c : PureCarrier) (routes : ℕ → Option PureRoute) → ((k : ℕ) → IfSome (routes k) (λ r. In c r.value)) → (n old new : ℕ)
-    → ((k : ℕ) → k < n → IsUnbeaten c (routes old) (routes k)) → better_of c (routes old) (routes n) ≡ routes new → (k : ℕ) → k < n + 1 → IsUnbeaten c (routes new) (routes k)
-best_step c routes i n old new h e k l =
-    let both = rw e at (better_beats_both c (routes old) (routes n) (i old) (i n)) in
-    elim (cases_lt k n) [
-      | inl below ↦ unbeaten_by_all c (routes new) (routes old) (routes k) (i new) (i old) (i k) both.0 (h k below)
-      | inr above ↦
-          let same : k ≡ n = omega arith in
-          rw same both.1
-    ]
-
-pub only_none : (c : PureCarrier) (x : Option PureRoute) → IsUnbeaten c None x → x ≡ None
-only_none c None h = refl
-only_none c (Some r) h = absurd h

@@ -1,115 +1,227 @@
--- The step from one state to the next, as the code makes it.
-use Rattle.alg_model.specs.declared.alg.TheConstants.{MAX_VALUE_NUMBER}
-use Rattle.std.proofs.Common.{◌≡◌, ℕ, ◌+◌, ◌<◌, zero, suc, List, ◌∷◌, Option, Some, None, Ok, Err, IfOk, option_map, length, get_or, replicate, refl, sym, ap, ◌∙◌, arith}
+-- The step that fixes the next node, as the code makes it.
+use Rattle.std.proofs.Common.{◌≡◌, ℕ, ◌+◌, ◌^◌, ◌<◌, zero, suc, List, [], ◌∷◌, ◌++◌, Option, Some, None, IfSome, Bool, true, false, ◌==◌, if◌then◌else◌, option_map, length, get_or, refl, sym, ap, ◌∙◌, inl, inr, arith}
 use Rattle.std.proofs.Math.ListN.{set}
-use Rattle.std.proofs.lemmas.List.{length-map, length-set, map-set, length-replicate}
-use Rattle.std.specs.declared.result.Result.{Result}
-use Rattle.meta_base.specs.declared.errors.NoMemory.{NoMemory}
-use Rattle.net_graph.specs.declared.route.DestTable.{DestTable}
-use Rattle.net_graph.specs.Views.{rows_of}
-use Rattle.alg_model.specs.Expressions.{PureValue}
-use Rattle.alg_model.specs.Bounds.{AtMost}
-use Rattle.net_graph.specs.Nets.{PureNet, IsNet}
-use Rattle.net_graph.specs.Routes.{PureRoute, Better}
-use Rattle.net_graph.specs.Tables.{carrier, PureRow, BestFirst}
-use Rattle.best_first.specs.declared.offer.Offer.{Offer}
-use Rattle.best_first.specs.Found.{route_of, routes_of, found_at, offer_at, AreSigs, IsBestOf, arc_offer, own_offer}
-use Rattle.best_first.specs.State.{IsState, none_count, relaxed}
-use Rattle.best_first.proofs.Places.{found-read, found-set, found_within, offer-read}
-use Rattle.best_first.proofs.Steps.{first_state, next_state, open_small, open_without_row, none_count-set, none_count-replicate}
+use Rattle.std.proofs.Math.Path.{fun_ext}
+use Rattle.std.proofs.Math.Seq.{get_or-append_seam}
+use Rattle.std.proofs.lemmas.List.{length-map, length-set, length-append, map-set, get_or_append_left}
+use Rattle.std.proofs.lemmas.Bool.Decides.{nat_tests}
+use Rattle.meta_base.specs.declared.ids.NodeId.{NodeId}
+use Rattle.meta_base.specs.NodePaths.{numbers}
+use Rattle.path_store.specs.PathOf.{path_of}
+use Rattle.alg_model.specs.Expressions.{PureCarrier, PureValue}
+use Rattle.net_graph.specs.Nets.{CanBeNumbered}
+use Rattle.net_graph.specs.Routes.{PureRoute}
+use Rattle.net_graph.specs.Tables.{Told}
+use Rattle.best_first.specs.declared.fixed.FixedRoute.{FixedRoute}
+use Rattle.best_first.specs.declared.route.OpenRoute.{OpenRoute}
+use Rattle.best_first.specs.Found.{found_at, AllFound, none_count}
+use Rattle.best_first.specs.Keys.{RouteKey, key_of, keys_of, best_of, route_of, routes_of, path_or_none, IsShaped}
+use Rattle.best_first.specs.Fixed.{fixed_route, told_by, open_routes, path_behind, AreFixedBy, FixesNext}
+use Rattle.best_first.specs.Queue.{IsBestAt, IsOpen, IsNext, with_told}
+use Rattle.best_first.proofs.Places.{found-map, found-read, found-set, all-set, found_within, from_none, from_some, none_count-set}
+use Rattle.best_first.proofs.Queues.{open-found}
 
-module _ {S : Type 0} (value : S → PureValue) (net : PureNet) (dest : ℕ) (rows open_offers : List (Option (Offer S))) (i : ℕ) (x : Option (Offer S)) (n : IsNet net)
-    (st : IsState net dest (routes_of value rows) (routes_of value open_offers)) (best : IsBestOf (carrier net) (routes_of value open_offers) i) (there : x ≡ get_or open_offers i x)
+-- the path of a row is that of the store
+told-path : {S : Type 0} (value : S → PureValue) (paths : List (List NodeId)) (o : Option (FixedRoute S)) → path_or_none (option_map (fixed_route value paths) o) ≡ numbers (path_behind paths o)
+told-path value paths None = refl
+told-path value paths (Some f) = refl
+
+-- with a path more in the store the rows tell the same
+told-more : {S : Type 0} (value : S → PureValue) (paths : List (List NodeId)) (path : List NodeId) (o : Option (FixedRoute S)) → IfSome o (λ f. f.path.0 < length paths)
+    → option_map (fixed_route value (paths ++ path ∷ [])) o ≡ option_map (fixed_route value paths) o
+told-more value paths path None h = refl
+told-more value paths path (Some f) h = rw (get_or_append_left paths (path ∷ []) [] f.path.0 h) refl
+
+-- a node without a row
+one_none : {X : Type 0} (xs : List (Option X)) (i : ℕ) → i < length xs → found_at xs i ≡ None → 0 < none_count xs
+one_none [] i l e = absurd (omega arith)
+one_none (None ∷ xs) i l e = omega arith
+one_none (Some x ∷ xs) zero l e = absurd (cc)
+one_none (Some x ∷ xs) (suc i) l e = one_none xs i (omega arith) e
+
+all-weaker : {X : Type 0} (P Q : X → Type 0) → ((x : X) → P x → Q x) → (xs : List (Option X)) → AllFound P xs → AllFound Q xs
+all-weaker {X = X} P Q f xs h k = by (found_at xs k) (h k)
   where
-    pub open_within : i < length open_offers
-    open_within = found_within value open_offers i best.0 best.1
+    by : (o : Option X) → IfSome o P → IfSome o Q
+    by None p = tt
+    by (Some x) p = f x p
 
-    pub node_within : i < length net.nodes
-    node_within =
-        let l = open_within in
-        let e = st.open_count in
-        let f = length-map open_offers (option_map (route_of value)) in
-        omega arith
+some_none : {X Y : Type 0} (o : Option X) (x : X) → o ≡ None → o ≡ Some x → Y
+some_none o x e f = absurd (cc)
+
+module _ {S : Type 0} (value : S → PureValue) (is_sig : S → Type 0) (c : PureCarrier) (rows : List (Option (FixedRoute S))) (paths : List (List NodeId)) (best : List (Option (OpenRoute S)))
+    (old_keys keys : List (OpenRoute S)) (i : ℕ) (x : Option (OpenRoute S)) (count : length rows ≡ length best) (fixed : AreFixedBy is_sig rows paths)
+    (opened : IsOpen value is_sig c (told_by value paths rows) best old_keys) (next : IsNext c (told_by value paths rows) (best_of value best) (keys_of value keys) i) (there : x ≡ get_or best i x)
+  where
+    told : Told
+    told = told_by value paths rows
+
+    -- what is open at node i
+    at_i : (r : PureRoute) × (found_at (routes_of (told_by value paths rows) (best_of value best)) i ≡ Some r)
+    at_i = (next.best_of_all.0, next.best_of_all.1)
+
+    key_at_i : (b : RouteKey) × (found_at (best_of value best) i ≡ Some b)
+    key_at_i =
+        let from = from_some (route_of (told_by value paths rows)) (found_at (best_of value best) i) at_i.0 (sym (open-found (told_by value paths rows) (best_of value best) i) ∙ at_i.1) in
+        (from.0, from.1)
+
+    pub best_within : i < length best
+    best_within =
+        let l = found_within (best_of value best) i key_at_i.0 key_at_i.1 in
+        omega (arith, l, length-map best (option_map (key_of value)))
 
     pub row_within : i < length rows
-    row_within =
-        let l = node_within in
-        let e = st.rows_count in
-        let f = length-map rows (option_map (route_of value)) in
-        omega arith
+    row_within = let l = best_within in omega arith
 
-    read : found_at (routes_of value open_offers) i ≡ option_map (route_of value) x
-    read = found-read value open_offers i x open_within there
+    read : option_map (key_of value) x ≡ Some key_at_i.0
+    read = sym (ap (option_map (key_of value)) (found-read best i x best_within there)) ∙ (sym (found-map (key_of value) best i) ∙ key_at_i.1)
 
-    -- the best is there
     pub never_none : x ≡ None → ⊥
-    never_none e =
-        let f : found_at (routes_of value open_offers) i ≡ None = read ∙ ap (option_map (route_of value)) e in
-        let g = best.1 in
-        cc
+    never_none e = some_none (option_map (key_of value) x) key_at_i.0 (ap (option_map (key_of value)) e) read
 
-    told : (next : Offer S) → x ≡ Some next → found_at (routes_of value open_offers) i ≡ Some (route_of value next)
-    told next e = read ∙ ap (option_map (route_of value)) e
+    no_row : found_at rows i ≡ None
+    no_row = from_none (fixed_route value paths) (found_at rows i) (sym (found-map (fixed_route value paths) rows i) ∙ next.is_open)
 
-    pub next_sig : (is_sig : S → Type 0) (next : Offer S) → x ≡ Some next → AreSigs is_sig open_offers → is_sig next.value
-    next_sig is_sig next e h =
-        let f : offer_at open_offers i ≡ Some next = offer-read open_offers i x open_within there ∙ e in
-        rw f at (h i)
+    pub few_paths : CanBeNumbered (length rows) → length paths < 2 ^ 32
+    few_paths few = let one = one_none rows i row_within no_row in let room = fixed.room in omega arith
 
-    pub next_small : (next : Offer S) → x ≡ Some next → AtMost MAX_VALUE_NUMBER (value next.value)
-    next_small next e = open_small net dest (routes_of value rows) (routes_of value open_offers) i (route_of value next) n st (told next e)
+    -- the route that is taken
+    module _ (route : OpenRoute S) (is : x ≡ Some route) where
+      key : RouteKey
+      key = key_of value route
 
-    fewer : (next : Offer S) → x ≡ Some next → none_count (routes_of value (set rows i (Some next))) + 1 ≡ none_count (routes_of value rows)
-    fewer next e =
-        let l = row_within in
-        let f = length-map rows (option_map (route_of value)) in
-        let within : i < length (routes_of value rows) = omega arith in
-        rw (map-set (option_map (route_of value)) rows i (Some next))
-        (none_count-set (routes_of value rows) i (route_of value next) within (open_without_row net dest (routes_of value rows) (routes_of value open_offers) i (route_of value next) st (told next e)))
+      here : found_at (best_of value best) i ≡ Some (key_of value route)
+      here = found-map (key_of value) best i ∙ ap (option_map (key_of value)) (found-read best i x best_within there ∙ is)
 
-    pub fewer_left : (next : Offer S) → x ≡ Some next → none_count (routes_of value (set rows i (Some next))) < none_count (routes_of value rows)
-    fewer_left next e = let h = fewer next e in omega arith
+      at_best : IsBestAt c (told_by value paths rows) (keys_of value old_keys) i (key_of value route)
+      at_best = opened.queue.bests i (key_of value route) here
 
-    pub state_after : (next : Offer S) (opened : List (Option (Offer S))) → x ≡ Some next → length opened ≡ length net.nodes
-        → ((k : ℕ) → found_at (routes_of value opened) k ≡ relaxed (carrier net) (found_at (routes_of value rows) k) (found_at (routes_of value (set open_offers i None)) k) (arc_offer net k i (route_of value next)))
-        → IsState net dest (routes_of value (set rows i (Some next))) (routes_of value opened)
-    state_after next opened e count h =
-        next_state net dest (routes_of value rows) (routes_of value open_offers) (routes_of value (set open_offers i None)) (routes_of value (set rows i (Some next))) (routes_of value opened)
-        i (route_of value next) n st (told next e) beaten (λ k. found-set value open_offers i k None open_within) h (λ k. found-set value rows i k (Some next) row_within)
-        (length-map (set rows i (Some next)) (option_map (route_of value)) ∙ (length-set rows i (Some next) ∙ (sym (length-map rows (option_map (route_of value))) ∙ st.rows_count)))
-        (length-map opened (option_map (route_of value)) ∙ count) (fewer next e)
-      where
-        one : best.0 ≡ route_of value next
-        one =
-            let f = best.1 in
-            let g = told next e in
-            cc
+      pub node_is : route.place.node.0 ≡ i
+      node_is = at_best.node
 
-        beaten : (k : ℕ) (s : PureRoute) → found_at (routes_of value open_offers) k ≡ Some s → ¬ Better (carrier net) s (route_of value next)
-        beaten k s f = rw one at (best.2 k s f)
+      pub node_within : route.place.node.0 < length rows
+      node_within = rw node_is row_within
 
-routes-none : {S : Type 0} (value : S → PureValue) (n : ℕ) → routes_of value (replicate n None) ≡ replicate n None
-routes-none value zero = refl
-routes-none value (suc n) = ap (λ (xs : List (Option PureRoute)). None ∷ xs) (routes-none value n)
+      pub next_within : route.place.next.0 < length rows
+      next_within = by at_best.shaped
+        where
+          by : IsShaped (told_by value paths rows) (key_of value route) → route.place.next.0 < length rows
+          by (inl own) = rw own.0 node_within
+          by (inr b) =
+              let from = from_some (fixed_route value paths) (found_at rows route.place.next.0) b.next (sym (found-map (fixed_route value paths) rows route.place.next.0) ∙ b.is_told) in
+              found_within rows route.place.next.0 from.0 from.1
 
-none_found : (n k : ℕ) → found_at (replicate n None) k ≡ None
-none_found zero k = refl
-none_found (suc n) zero = refl
-none_found (suc n) (suc k) = none_found n k
+      r : PureRoute
+      r = route_of (told_by value paths rows) (key_of value route)
 
-pub sigs-none : {S : Type 0} (is_sig : S → Type 0) (n : ℕ) → AreSigs is_sig (replicate n None)
-sigs-none is_sig zero k = tt
-sigs-none is_sig (suc n) zero = tt
-sigs-none is_sig (suc n) (suc k) = sigs-none is_sig n k
+      open_is : found_at (open_routes value paths rows best) i ≡ Some (route_of (told_by value paths rows) (key_of value route))
+      open_is = open-found (told_by value paths rows) (best_of value best) i ∙ ap (option_map (route_of (told_by value paths rows))) here
 
--- the state before the first node
-pub state_before : {S : Type 0} (value : S → PureValue) (net : PureNet) (dest : ℕ) (open_offers : List (Option (Offer S))) → IsNet net → length open_offers ≡ length net.nodes
-    → ((k : ℕ) → k < length net.nodes → found_at (routes_of value open_offers) k ≡ own_offer net dest k) → IsState net dest (routes_of value (replicate (length net.nodes) None)) (routes_of value open_offers)
-state_before value net dest open_offers n count own =
-    let nodes = length net.nodes in
-    rw (routes-none value nodes) (first_state net dest (replicate nodes None) (routes_of value open_offers) n (length-replicate nodes None)
-    (length-map open_offers (option_map (route_of value)) ∙ count) (none_found nodes) (none_count-replicate nodes) own)
+      path : List NodeId
+      path = route.place.node ∷ path_behind paths (found_at rows route.place.next.0)
 
-pub table_made : (net : PureNet) (dest : ℕ) (r : Result DestTable NoMemory) (rows : List PureRow) → IfOk r (λ table. rows_of table ≡ rows) → BestFirst net dest rows → IfOk r (λ table. BestFirst net dest (rows_of table))
-table_made net dest (Ok table) rows e b = rw e b
-table_made net dest (Err fault) rows e b = tt
+      row : FixedRoute S
+      row = record { sig = route.sig; path = record { 0 = length paths } }
+
+      -- with the node's row written and its path added
+      module _ (new_rows : List (Option (FixedRoute S))) (new_paths : List (List NodeId)) (new_best : List (Option (OpenRoute S)))
+          (rows_is : new_rows ≡ set rows route.place.node.0 (Some (record { sig = route.sig; path = record { 0 = length paths } })))
+          (paths_is : new_paths ≡ paths ++ (route.place.node ∷ path_behind paths (found_at rows route.place.next.0)) ∷ [])
+          (best_is : new_best ≡ set best i None)
+        where
+          rows_written : (k : ℕ) → found_at new_rows k ≡ (if k == i then Some row else found_at rows k)
+          unfolding row
+          rows_written k = rw (rows_is, node_is) (found-set rows i k (Some row) row_within)
+
+          row_is : fixed_route value new_paths row ≡ r
+          unfolding row r
+          row_is =
+              let path_is : path_of new_paths record { 0 = length paths } ≡ route.place.node ∷ path_behind paths (found_at rows route.place.next.0) =
+              rw paths_is (get_or-append_seam paths (route.place.node ∷ path_behind paths (found_at rows route.place.next.0)) [] []) in
+              let rest : path_or_none (told_by value paths rows route.place.next.0) ≡ numbers (path_behind paths (found_at rows route.place.next.0)) =
+              ap path_or_none (found-map (fixed_route value paths) rows route.place.next.0) ∙ told-path value paths (found_at rows route.place.next.0) in
+              rw (path_is, rest) refl
+
+          told_at : (k : ℕ) → told_by value new_paths new_rows k ≡ with_told (told_by value paths rows) i r k
+          told_at k = found-map (fixed_route value new_paths) new_rows k ∙ by (k == i) refl
+            where
+              by : (b : Bool) → (k == i) ≡ b → option_map (fixed_route value new_paths) (found_at new_rows k) ≡ (if k == i then Some r else told_by value paths rows k)
+              by true e = rw (rows_written k, e) (ap (λ z. Some z) row_is)
+              by false e = rw (rows_written k, e, paths_is) (told-more value paths (route.place.node ∷ path_behind paths (found_at rows route.place.next.0)) (found_at rows k) (fixed.ids k) ∙ sym (found-map (fixed_route value paths) rows k))
+
+          told_is : told_by value new_paths new_rows ≡ with_told (told_by value paths rows) i r
+          told_is = fun_ext told_at
+
+          best_set : best_of value new_best ≡ set (best_of value best) i None
+          best_set = rw best_is (map-set (option_map (key_of value)) best i None)
+
+          bests_within : i < length (best_of value best)
+          bests_within = omega (arith, best_within, length-map best (option_map (key_of value)))
+
+          same_route : (k : ℕ) (b : RouteKey) → (k == i) ≡ false → IsBestAt c (told_by value paths rows) (keys_of value old_keys) k b
+              → route_of (with_told (told_by value paths rows) i r) b ≡ route_of (told_by value paths rows) b
+          same_route k b apart at_b = rw apart_next refl
+            where
+              apart_next : (b.next == i) ≡ false
+              apart_next = by at_b.shaped (b.next == i) refl
+                where
+                  by : IsShaped (told_by value paths rows) b → (t : Bool) → (b.next == i) ≡ t → (b.next == i) ≡ false
+                  by shaped false e = e
+                  by (inl own) true e = (let f : b.next ≡ k = own.0 ∙ at_b.node in rw f apart)
+                  by (inr behind) true e =
+                      let same : b.next ≡ i = grind (arith, nat_tests) in
+                      some_none (told_by value paths rows i) behind.next next.is_open (rw same at behind.is_told)
+
+          open_at : (k : ℕ) → found_at (open_routes value new_paths new_rows new_best) k ≡ (if k == i then None else found_at (open_routes value paths rows best) k)
+          open_at k =
+              open-found (told_by value new_paths new_rows) (best_of value new_best) k
+              ∙ (ap (option_map (route_of (told_by value new_paths new_rows))) (ap (λ z. found_at z k) best_set ∙ found-set (best_of value best) i k None bests_within) ∙ by (k == i) refl)
+            where
+              key_same : (k == i) ≡ false → (o : Option RouteKey) → found_at (best_of value best) k ≡ o
+                  → option_map (route_of (told_by value new_paths new_rows)) o ≡ option_map (route_of (told_by value paths rows)) o
+              key_same e None f = refl
+              key_same e (Some b) f = ap (λ (z : Told). Some (route_of z b)) told_is ∙ ap (λ z. Some z) (same_route k b e (opened.queue.bests k b f))
+
+              by : (t : Bool) → (k == i) ≡ t
+                  → option_map (route_of (told_by value new_paths new_rows)) (if k == i then None else found_at (best_of value best) k) ≡ (if k == i then None else found_at (open_routes value paths rows best) k)
+              by true e = rw e refl
+              by false e = rw e (key_same e (found_at (best_of value best) k) refl ∙ sym (open-found (told_by value paths rows) (best_of value best) k))
+
+          pub fixes : FixesNext value c rows paths best new_rows new_paths new_best i
+          unfolding r row
+          fixes = record {
+            best_of_all = next.best_of_all;
+            rows_at = λ k. told_at k ∙ ap (λ o. if k == i then o else told_by value paths rows k) (sym open_is);
+            open_at = open_at;
+            fewer = rw (rows_is, node_is) (none_count-set rows i row row_within no_row);
+          }
+
+          pub rows_length : length new_rows ≡ length rows
+          unfolding row
+          rows_length = rw rows_is (length-set rows route.place.node.0 (Some row))
+
+          pub fixed_after : AreFixedBy is_sig new_rows new_paths
+          unfolding row
+          fixed_after = record {
+            sigs = rw (rows_is, node_is) (all-set (λ f. is_sig f.sig) rows i (Some row) row_within fixed.sigs (all_sig));
+            ids = rw (rows_is, node_is) (all-set (λ f. f.path.0 < length new_paths) rows i (Some row) row_within
+                (all-weaker (λ f. f.path.0 < length paths) (λ f. f.path.0 < length new_paths) (λ f l. (let m = more in omega arith)) rows fixed.ids) (let m = more in omega arith));
+            room =
+                let m = more in
+                let l = rows_length in
+                let f = fixes.fewer in
+                let room = fixed.room in
+                omega arith;
+          }
+            where
+              more : length new_paths ≡ length paths + 1
+              more = rw paths_is (length-append paths ((route.place.node ∷ path_behind paths (found_at rows route.place.next.0)) ∷ []))
+
+              all_sig : is_sig route.sig
+              all_sig = rw (found-read best i x best_within there ∙ is) at (opened.sigs i)
+
+          pub open_after : IsOpen value is_sig c (told_by value new_paths new_rows) new_best keys
+          open_after = record {
+            sigs = rw best_is (all-set (λ o. is_sig o.sig) best i None best_within opened.sigs tt);
+            queue = rw (told_is, best_set) (next.queue r);
+          }

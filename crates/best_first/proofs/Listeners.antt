@@ -1,5 +1,5 @@
 -- The arcs that a node speaks on, one after the other.
-use Rattle.std.proofs.Common.{◌≡◌, ◌≢◌, ℕ, ◌+◌, ◌<◌, zero, suc, List, [], ◌∷◌, Option, Some, None, Bool, true, false, ◌==◌, ◌||◌, if◌then◌else◌, map, filter, take, get_or, is_some, option_map, length, refl, sym, ap, ◌∙◌, arith}
+use Rattle.std.proofs.Common.{◌≡◌, ◌≢◌, ℕ, ◌+◌, ◌<◌, zero, suc, List, [], ◌∷◌, Option, Some, None, Bool, true, false, ◌==◌, ◌||◌, if◌then◌else◌, map, filter, take, get_or, is_some, option_map, option_and_then, length, refl, sym, ap, ◌∙◌, arith}
 use Rattle.std.specs.List.{slice_get, list_any, find, AllByRecursion}
 use Rattle.std.proofs.lemmas.Bool.{false≢true}
 use Rattle.std.proofs.lemmas.Bool.Decides.{nat_tests}
@@ -43,7 +43,7 @@ numbered_at (a ∷ arcs) p n h m b e = by (λ k f. numbered_at arcs p (n + 1) h.
     by rest true f (suc k) e = later (rest k (rw f at e))
     by rest false f m e = later (rest m (rw f at e))
 
-all_at : {X : Type 0} (P : X → Type 0) (xs : List X) (k : ℕ) (x : X) → AllByRecursion P xs → slice_get xs k ≡ Some x → P x
+pub all_at : {X : Type 0} (P : X → Type 0) (xs : List X) (k : ℕ) (x : X) → AllByRecursion P xs → slice_get xs k ≡ Some x → P x
 all_at P [] k x h e = absurd (cc)
 all_at P (y ∷ ys) zero x h e =
     let same : y ≡ x = cc in
@@ -117,6 +117,10 @@ heard_id net n i ids e m id f = by (slice_get (arcs_to net i) m) refl
 -- what the first m of the arcs that node i speaks on make of its route
 abbrev pub heard_so_far : PureNet → ℕ → PureRoute → ℕ → ℕ → Option PureRoute
 heard_so_far net i r m k = if list_any (λ (a : PureArc). a.tail == k) (take m (arcs_to net i)) then arc_offer net k i r else None
+
+-- the same of a route that is told
+abbrev pub spoken_so_far : PureNet → ℕ → Option PureRoute → ℕ → ℕ → Option PureRoute
+spoken_so_far net i o m k = option_and_then (λ (r : PureRoute). heard_so_far net i r m k) o
 
 heard_more : (net : PureNet) (i : ℕ) (r : PureRoute) (m k : ℕ) (a : PureArc) → IsHeard net i m a
     → list_any (λ (b : PureArc). b.tail == k) (take (m + 1) (arcs_to net i)) ≡ (list_any (λ (b : PureArc). b.tail == k) (take m (arcs_to net i)) || (a.tail == k))

@@ -9,7 +9,8 @@ use Rattle.alg_model.specs.Expressions.{PureCarrier, PureValue}
 use Rattle.alg_model.specs.Carriers.{In, Order}
 use Rattle.alg_model.specs.Laws.{total_preorder}
 use Rattle.net_graph.specs.Nets.{PureNet}
-use Rattle.net_graph.specs.Routes.{PureRoute, compare_nodes, compare_paths, Better}
+use Rattle.meta_base.specs.NodePaths.{compare_nodes, compare_paths}
+use Rattle.net_graph.specs.Routes.{PureRoute, Better}
 use Rattle.net_graph.specs.Tables.{PureRow, IsRouteOf, AreRowsFrom, TableOf, route_at}
 
 abbrev route : PureValue → List ℕ → PureRoute

@@ -1,6 +1,5 @@
 -- From one state to the next, and from the last to the table.
-use Rattle.std.proofs.Common.{◌≡◌, ◌≢◌, ℕ, ◌+◌, ◌*◌, ◌<◌, ◌≤◌, zero, suc, ◌⊎◌, inl, inr, List, [], ◌∷◌, Option, Some, None, IfSome, Bool, true, false, cond, ◌==◌, if◌then◌else◌, is_some, option_map, option_and_then, replicate, length, refl, sym, ap, ◌∙◌, arith}
-use Rattle.std.proofs.Math.ListN.{set}
+use Rattle.std.proofs.Common.{◌≡◌, ◌≢◌, ℕ, ◌+◌, ◌*◌, ◌<◌, ◌≤◌, zero, suc, ◌⊎◌, inl, inr, List, [], ◌∷◌, Option, Some, None, IfSome, Bool, true, false, cond, ◌==◌, if◌then◌else◌, is_some, option_map, option_and_then, length, refl, sym, ap, ◌∙◌, arith}
 use Rattle.std.proofs.lemmas.Bool.{cases_lt, false≢true}
 use Rattle.std.proofs.lemmas.Bool.Decides.{nat_tests}
 use Rattle.alg_model.specs.declared.edition.TheConstants.{MAX_LABEL_NUMBER}
@@ -8,7 +7,6 @@ use Rattle.alg_model.specs.declared.alg.TheConstants.{MAX_VALUE_NUMBER}
 use Rattle.net_graph.specs.declared.route.TheConstants.{MAX_ROW_NUMBER}
 use Rattle.alg_model.specs.Expressions.{PureCarrier, PureValue, PureLabel}
 use Rattle.alg_model.specs.Carriers.{In}
-use Rattle.alg_model.specs.Bounds.{AtMost}
 use Rattle.alg_model.specs.Laws.{at_most_more}
 use Rattle.net_graph.specs.Nets.{PureNet, IsNet, origin_value, label_between}
 use Rattle.net_graph.specs.Routes.{PureRoute, Better}
@@ -16,13 +14,13 @@ use Rattle.net_graph.specs.Walks.{along}
 use Rattle.net_graph.specs.declared.limits.TheConstants.{MAX_NODES_TWO}
 use Rattle.net_graph.specs.Laws.{few_nodes}
 use Rattle.net_graph.specs.Tables.{PureRow, TableOf, IsRouteOf, AreRowsFrom, carrier, route_at, is_among, IsOfferBy, IsOfferFrom, AreFixed, BestFirst}
-use Rattle.best_first.specs.Found.{found_at, rows_from, is_better, better_of, own_offer, arc_offer}
+use Rattle.best_first.specs.Found.{found_at, none_count, rows_from, is_better, better_of, own_offer, arc_offer}
 use Rattle.alg_model.specs.Application.{App}
-use Rattle.best_first.specs.State.{WereFixed, IsBestIn, IsBestOffer, none_count, IsKept, IsState, relaxed}
+use Rattle.best_first.specs.State.{WereFixed, IsBestIn, IsBestOffer, IsKept, IsState, CanSpeak, relaxed}
 use Rattle.best_first.proofs.Arcs.{of_some, IsArc, arcs_are, IsOrigin, origins_are, along_in, along_at_most}
 use Rattle.best_first.proofs.Better.{unbeaten_by_all, not_itself, better_beats_both}
 use Rattle.best_first.proofs.Routes.{same_route}
-use Rattle.best_first.proofs.Offers.{among_split, among_first, among_more, Agree, offer_moves}
+use Rattle.best_first.proofs.Offers.{among_split, among_first, among_more, Agree, offer_moves, offer_begins}
 
 -- a row's route is what was found
 pub row-found : (dest i : ℕ) (rows : List (Option PureRoute)) (k : ℕ) → route_at (rows_from dest i rows) k ≡ found_at rows k
@@ -182,7 +180,7 @@ is_none None e = refl
 is_none (Some r) e = absurd (cc)
 
 -- no node has an arc to itself
-no_loop : (net : PureNet) → IsNet net → (i : ℕ) (r : PureRoute) → arc_offer net i i r ≡ None
+pub no_loop : (net : PureNet) → IsNet net → (i : ℕ) (r : PureRoute) → arc_offer net i i r ≡ None
 no_loop net n i r = by (label_between net i i) (arcs_are net n i i)
   where
     by : (o : Option PureLabel) → IfSome o (IsArc net i i) → option_map (λ (v : PureValue). route v (i ∷ r.path)) (option_and_then (λ l. option_and_then (App net.alg.expression l) (Some r.value)) o) ≡ None
@@ -438,42 +436,28 @@ last_state net dest rows open_routes n st none = record { table_of = table; orde
     order : (all : List ℕ) × AreFixed net dest (rows_from dest 0 rows) [] all
     order = in_order net dest (rows_from dest 0 rows) st.before [] st.fixed left
 
--- the numbers of what is open are small
-pub open_small : (net : PureNet) (dest : ℕ) (rows open_routes : List (Option PureRoute)) (i : ℕ) (r : PureRoute) → IsNet net → IsState net dest rows open_routes → found_at open_routes i ≡ Some r
-    → AtMost MAX_VALUE_NUMBER r.value
-open_small net dest rows open_routes i r n st told =
-    let within : i < length net.nodes = elim (cases_lt i (length net.nodes)) [
-      | inl l ↦ l
-      | inr l ↦ absurd (let e = list_past open_routes i (let h = st.open_count in omega arith) in cc)
-    ] in
-    at_most_more (MAX_LABEL_NUMBER * length r.path) MAX_VALUE_NUMBER r.value (few within (is_among st.before i) refl) (kept within (is_among st.before i) refl).bound
-  where
-    kept : i < length net.nodes → (b : Bool) → is_among st.before i ≡ b → IsKept net (i ∷ st.before) r
-    kept l true e = absurd (let f = st.shut i e in cc)
-    kept l false e = offer_kept net dest (rows_from dest 0 rows) st.before i r n (λ j s f. st.kept j s (sym (row-found dest 0 rows j) ∙ f)) (rw told at (st.chosen i l e)).0
+some_left : (xs : List (Option PureRoute)) (i : ℕ) → i < length xs → found_at xs i ≡ None → 0 < none_count xs
+some_left [] i l e = absurd (omega arith)
+some_left (None ∷ xs) i l e = omega arith
+some_left (Some x ∷ xs) zero l e = absurd (cc)
+some_left (Some x ∷ xs) (suc i) l e = some_left xs i (omega arith) e
 
-    few : i < length net.nodes → (b : Bool) → is_among st.before i ≡ b → MAX_LABEL_NUMBER * length r.path ≤ MAX_VALUE_NUMBER
-    few l b e =
-        let short = (kept l b e).short in
-        let room = st.room in
-        let bound = n.node_room in
-        let nodes = few_nodes net.alg.edition in
-        omega arith
-
-pub none_count-set : (xs : List (Option PureRoute)) (i : ℕ) (r : PureRoute) → i < length xs → found_at xs i ≡ None → none_count (set xs i (Some r)) + 1 ≡ none_count xs
-none_count-set [] i r l e = absurd (omega arith)
-none_count-set (None ∷ xs) zero r l e = refl
-none_count-set (Some x ∷ xs) zero r l e = absurd (cc)
-none_count-set (None ∷ xs) (suc i) r l e = let h = none_count-set xs i r (omega arith) e in omega arith
-none_count-set (Some x ∷ xs) (suc i) r l e = none_count-set xs i r (omega arith) e
-
-pub none_count-replicate : (n : ℕ) → none_count (replicate n None) ≡ n
-none_count-replicate zero = refl
-none_count-replicate (suc n) = let h = none_count-replicate n in omega arith
-
--- a node that has a route open has no row
-pub open_without_row : (net : PureNet) (dest : ℕ) (rows open_routes : List (Option PureRoute)) (i : ℕ) (r : PureRoute) → IsState net dest rows open_routes → found_at open_routes i ≡ Some r → found_at rows i ≡ None
-open_without_row net dest rows open_routes i r st told = by (is_among st.before i) refl
+-- a node with what is open at it may speak
+pub can_speak : (net : PureNet) (dest : ℕ) (rows open_routes : List (Option PureRoute)) (i : ℕ) (r : PureRoute) → IsNet net → IsState net dest rows open_routes → found_at open_routes i ≡ Some r
+    → CanSpeak net i r
+can_speak net dest rows open_routes i r n st told =
+    let l = within in
+    let kept = offer_kept net dest (rows_from dest 0 rows) st.before i r n (λ j s f. st.kept j s (sym (row-found dest 0 rows j) ∙ f)) offered in
+    let short = kept.short in
+    let room = st.room in
+    let bound = n.node_room in
+    let nodes = few_nodes net.alg.edition in
+    record {
+      value_in = kept.value_in;
+      begins = offer_begins net dest (rows_from dest 0 rows) st.before i r offered;
+      short = let more = one_left in omega arith;
+      small = at_most_more (MAX_LABEL_NUMBER * length r.path) MAX_VALUE_NUMBER r.value (omega arith) kept.bound;
+    }
   where
     within : i < length net.nodes
     within = elim (cases_lt i (length net.nodes)) [
@@ -481,6 +465,13 @@ open_without_row net dest rows open_routes i r st told = by (is_among st.before 
       | inr l ↦ absurd (let e = list_past open_routes i (let h = st.open_count in omega arith) in cc)
     ]
 
-    by : (b : Bool) → is_among st.before i ≡ b → found_at rows i ≡ None
-    by true e = absurd (let f = st.shut i e in cc)
-    by false e = is_none (found_at rows i) (st.marks i within ∙ e)
+    out : (b : Bool) → is_among st.before i ≡ b → is_among st.before i ≡ false
+    out true e = absurd (let f = st.shut i e in cc)
+    out false e = e
+
+    -- the node itself has no row, so that there is one more node than were fixed
+    one_left : 0 < none_count rows
+    one_left = some_left rows i (let h = st.rows_count in let l = within in omega arith) (is_none (found_at rows i) (st.marks i within ∙ out (is_among st.before i) refl))
+
+    offered : IsOfferFrom net dest (route_at (rows_from dest 0 rows)) st.before i r
+    offered = (rw told at (st.chosen i within (out (is_among st.before i) refl))).0

@@ -1,2 +1,7 @@
 pub mod Found
+pub mod Keys
+pub mod KeyOrder
+pub mod Fixed
+pub mod Queue
 pub mod State
+pub mod Labels

@@ -1,13 +1,15 @@
 -- What holds between two nodes that are fixed.
-use Rattle.std.specs.Prelude.{◌≡◌, ℕ, ◌+◌, ◌*◌, ◌<◌, ◌≤◌, List, [], ◌∷◌, true, false, cond, Option, Some, None, is_some, length}
+use Rattle.std.specs.Prelude.{◌≡◌, ℕ, ◌+◌, ◌*◌, ◌<◌, ◌≤◌, List, [], ◌∷◌, true, false, Option, Some, None, is_some, option_and_then, length}
 use Rattle.alg_model.specs.declared.edition.TheConstants.{MAX_LABEL_NUMBER}
+use Rattle.alg_model.specs.declared.alg.TheConstants.{MAX_VALUE_NUMBER}
 use Rattle.alg_model.specs.Expressions.{PureCarrier}
 use Rattle.alg_model.specs.Carriers.{In}
 use Rattle.alg_model.specs.Bounds.{AtMost}
 use Rattle.net_graph.specs.Nets.{PureNet}
 use Rattle.net_graph.specs.Routes.{PureRoute, Better}
 use Rattle.net_graph.specs.Tables.{PureRow, carrier, route_at, is_among, IsOfferFrom}
-use Rattle.best_first.specs.Found.{found_at, rows_from, better_of}
+use Rattle.best_first.specs.Found.{found_at, none_count, rows_from, better_of, arc_offer}
+use Rattle.best_first.specs.Keys.{BeginsWith}
 
 -- the nodes that were fixed, the latest first: each one's row is an offer made by its own origin or by
 -- nodes before it, and no such offer to a node that isn't before it is better
@@ -26,11 +28,6 @@ IsBestIn c Offered None = (r : PureRoute) → ¬ Offered r
 -- the best that the node's own origin and the nodes before offer it
 abbrev pub IsBestOffer : PureNet → ℕ → List PureRow → List ℕ → ℕ → Option PureRoute → Type 0
 IsBestOffer net dest table before k o = IsBestIn (carrier net) (IsOfferFrom net dest (route_at table) before k) o
-
--- how many have no route yet
-abbrev pub none_count : List (Option PureRoute) → ℕ
-none_count [] = 0
-none_count (o ∷ os) = cond (is_some o) (none_count os) (none_count os + 1)
 
 -- a route over these nodes alone, no longer than they are many, and with small numbers
 pub record IsKept (net : PureNet) (before : List ℕ) (r : PureRoute) : Type 0 where
@@ -55,3 +52,15 @@ pub record IsState (net : PureNet) (dest : ℕ) (rows open_routes : List (Option
 abbrev pub relaxed : PureCarrier → Option PureRoute → Option PureRoute → Option PureRoute → Option PureRoute
 relaxed c (Some row) found offered = found
 relaxed c None found offered = better_of c found offered
+
+-- what the arc to node j, if there is one, makes of that node's route, if it has one
+abbrev pub spoken : PureNet → ℕ → ℕ → Option PureRoute → Option PureRoute
+spoken net k j o = option_and_then (arc_offer net k j) o
+
+-- the node's route is one of the carrier, begins with the node and is no longer than the nodes are many, and
+-- labels may be applied to its value
+pub record CanSpeak (net : PureNet) (node : ℕ) (r : PureRoute) : Type 0 where
+  pub value_in : In (carrier net) r.value
+  pub begins : BeginsWith node r.path
+  pub short : length r.path ≤ length net.nodes
+  pub small : AtMost MAX_VALUE_NUMBER r.value

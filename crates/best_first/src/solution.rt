@@ -1,84 +1,41 @@
-ghost use Rattle.std.specs.Prelude.{◌≡◌, ◌<◌, ◌^◌, ℕ, None, length, vec_len, IfOk, IfSome, OnOk, replicate};
-ghost use Rattle.alg_model.specs.declared.alg.TheConstants.{MAX_VALUE_NUMBER};
-ghost use Rattle.alg_model.specs.Bounds.{AtMost};
-ghost use Rattle.net_graph.specs.Nets.{IsNet};
-ghost use Rattle.net_graph.specs.Tables.{BestFirst, carrier};
+ghost use Rattle.std.specs.Prelude.{◌≡◌, ◌<◌, length, vec_len, IfOk, IfSome, option_map};
+ghost use Rattle.net_graph.specs.Nets.{CanBeNumbered};
+ghost use Rattle.net_graph.specs.Tables.{BestFirst};
 ghost use Rattle.net_graph.specs.Views.{rows_of, pure_row};
-ghost use Rattle.best_first.specs.Found.{route_of, routes_of, offered_route, found_route, AreSigs, row_from, rows_from};
-ghost use Rattle.best_first.specs.Found.{arc_offer as arc_offer_of};
-ghost use Rattle.best_first.specs.State.{relaxed};
+ghost use Rattle.best_first.specs.Found.{row_from, rows_from};
+ghost use Rattle.best_first.specs.Fixed.{fixed_route, fixed_routes, AreFixedBy};
+ghost use Rattle.best_first.specs.Labels.{AreLabelsOf};
 
-use crate::found::{arc_offer, best_of, own_offers, take_better};
-use crate::offer::Offer;
+use crate::fixed::{Fixed, FixedRoute};
+use crate::open::Open;
+use crate::search::{fix_next, offer_own, relax};
+use crate::{ArcLabels, arc_labels};
 use alg_model::Algebra;
 use meta_base::{DestId, List, NoMemory, NodeId};
 use net_graph::{DestTable, Net, Route, RouteRow};
+use path_store::Paths;
 use std::alloc::Global;
-
-// So many nodes without a row.
-fn no_rows<S: Drop>(alloc: Global, count: usize) -> Result<Vec<Option<Offer<S>>>, NoMemory>
-    ensures { IfOk result (λ rows. rows.items ≡ replicate count None) }
-{
-    let mut rows = Vec::new(alloc);
-    for _made in 0..count {
-        rows.push(None)?;
-    }
-    Ok(rows)
-}
-
-// Offers the route of the node to the tails of the arcs that it speaks on and that have no row.
-fn relax<A: Algebra>(
-    alloc: Global,
-    algebra: &A,
-    net: &Net,
-    node: NodeId,
-    next: &Offer<A::Sig>,
-    rows: &Vec<Option<Offer<A::Sig>>>,
-    offers: &mut Vec<Option<Offer<A::Sig>>>,
-) -> Result<(), NoMemory>
-    requires algebra { A.expression algebra.now ≡ net.now.alg.expression }
-    requires net { IsNet net.now }
-    requires node { node.0 < length net.now.nodes }
-    requires next { A.is_sig algebra.now next.now.value }
-    requires small { AtMost MAX_VALUE_NUMBER (A.sig_value algebra.now next.now.value) }
-    requires rows { vec_len rows.now ≡ length net.now.nodes }
-    requires count { vec_len offers.old ≡ length net.now.nodes }
-    requires sigs { AreSigs (A.is_sig algebra.now) offers.old.items }
-    ensures count { vec_len offers.new ≡ length net.now.nodes }
-    ensures sigs { AreSigs (A.is_sig algebra.now) offers.new.items }
-    ensures offers { (k : ℕ) →
-        let row = found_route (A.sig_value algebra.now) rows.now.items k in
-        let old = found_route (A.sig_value algebra.now) offers.old.items k in
-        let new = arc_offer_of net.now k node.0 (route_of (A.sig_value algebra.now) next.now) in
-        OnOk result (found_route (A.sig_value algebra.now) offers.new.items k ≡ relaxed (carrier net.now) row old new) }
-{
-    for id in net.listeners(node) {
-        let arc = net.arc(*id);
-        let tail = arc.tail.0 as usize;
-        if rows[tail].is_none() {
-            let offered = arc_offer(alloc, algebra, arc, next)?;
-            take_better(algebra, offers, tail, offered);
-        }
-    }
-    Ok(())
-}
+use std::marker::Brand;
+use std::sync::ledger::{Blank, Ledger};
 
 // The row of a node.
 fn row_of<A: Algebra>(
     alloc: Global,
     algebra: &A,
+    paths: &Paths,
     node: NodeId,
     dest: DestId,
-    offer: Option<Offer<A::Sig>>,
+    fixed: Option<FixedRoute<A::Sig>>,
 ) -> Result<RouteRow, NoMemory>
-    requires { IfSome offer (λ o. A.is_sig algebra.now o.value) }
-    ensures { IfOk result (λ row.
-        pure_row row ≡ row_from node.0 dest.0 (offered_route (A.sig_value algebra.now) offer)) }
+    requires sig { IfSome fixed (λ f. A.is_sig algebra.now f.sig) }
+    requires id { IfSome fixed (λ f. f.path.0 < length paths.now) }
+    ensures { IfOk result (λ row. pure_row row ≡
+        row_from node.0 dest.0 (option_map (fixed_route (A.sig_value algebra.now) paths.now) fixed)) }
 {
-    let route = match offer {
-        Some(offer) => Some(Route {
-            value: algebra.value_of(alloc, &offer.value)?,
-            path: List::from_vec(offer.path),
+    let route = match fixed {
+        Some(fixed) => Some(Route {
+            value: algebra.value_of(alloc, &fixed.sig)?,
+            path: List::from_vec(Vec::from_slice(alloc, paths.path(fixed.path))?),
         }),
         None => None,
     };
@@ -90,21 +47,25 @@ fn into_table<A: Algebra>(
     alloc: Global,
     algebra: &A,
     dest: DestId,
-    rows: Vec<Option<Offer<A::Sig>>>,
+    fixed: Fixed<A::Sig>,
 ) -> Result<DestTable, NoMemory>
-    requires sigs { AreSigs (A.is_sig algebra.now) rows.items }
-    requires few { vec_len rows < 2 ^ 32 }
-    ensures rows { IfOk result (λ table.
-        rows_of table ≡ rows_from dest.0 0 (routes_of (A.sig_value algebra.now) rows.items)) }
+    requires fixed { AreFixedBy (A.is_sig algebra.now) fixed.rows.items fixed.paths }
+    requires few { CanBeNumbered (vec_len fixed.rows) }
+    ensures rows { IfOk result (λ table. rows_of table ≡
+        rows_from dest.0 0 (fixed_routes (A.sig_value algebra.now) fixed.paths fixed.rows.items)) }
     ensures dest { IfOk result (λ table. table.dest ≡ dest) }
 {
-    let mut table = List::new(alloc);
+    let Fixed { rows, paths } = fixed;
+    let mut table = Vec::with_capacity(alloc, rows.len())?;
     let mut node = 0;
-    for offer in rows {
-        table.push(row_of(alloc, algebra, NodeId(node), dest, offer)?)?;
+    for row in rows {
+        table.push(row_of(alloc, algebra, &paths, NodeId(node), dest, row)?)?;
         node += 1;
     }
-    Ok(DestTable { dest, rows: table })
+    Ok(DestTable {
+        dest,
+        rows: List::from_vec(table),
+    })
 }
 
 /// The table of the destination that is made best first: of all offers that own origins and fixed
@@ -124,22 +85,52 @@ pub fn solve<A: Algebra>(
     ensures rows { IfOk result (λ table. BestFirst net.now dest.0 (rows_of table)) }
     ensures dest { IfOk result (λ table. table.dest ≡ dest) }
 {
-    let mut rows = no_rows(alloc, net.node_count())?;
-    let mut offers = own_offers(alloc, algebra, net, dest)?;
-    while let Some(node) = best_of(algebra, &offers) {
-        let Some(next) = offers[node].take() else {
-            unreachable!();
-        };
-        relax(
-            alloc,
-            algebra,
-            net,
-            NodeId(node as u32),
-            &next,
-            &rows,
-            &mut offers,
-        )?;
-        rows[node] = Some(next);
+    let labels = arc_labels(alloc, algebra, net)?;
+    solve_with(alloc, algebra, net, &labels, dest)
+}
+
+/// What [`solve`] gives, over labels of the network's arcs that are in the algebra's form already, from
+/// [`crate::arc_labels`].
+pub fn solve_with<A: Algebra>(
+    alloc: Global,
+    algebra: &A,
+    net: &Net,
+    labels: &ArcLabels<A::Lab>,
+    dest: DestId,
+) -> Result<DestTable, NoMemory>
+    requires algebra { A.expression algebra.now ≡ net.now.alg.expression }
+    requires labels { AreLabelsOf (A.stands_for algebra.now) net.now labels.now }
+    requires dest { dest.0 < length net.now.dests }
+    ensures rows { IfOk result (λ table. BestFirst net.now dest.0 (rows_of table)) }
+    ensures dest { IfOk result (λ table. table.dest ≡ dest) }
+{
+    solve_counted::<A, Brand>(alloc, algebra, net, labels, dest, Blank::new(1))
+}
+
+// What `solve_with` gives, where the comparisons of the search are counted in the blank's ledger.
+fn solve_counted<A: Algebra, L: Ledger>(
+    alloc: Global,
+    algebra: &A,
+    net: &Net,
+    labels: &ArcLabels<A::Lab>,
+    dest: DestId,
+    blank: Blank,
+) -> Result<DestTable, NoMemory>
+    requires algebra { A.expression algebra.now ≡ net.now.alg.expression }
+    requires labels { AreLabelsOf (A.stands_for algebra.now) net.now labels.now }
+    requires dest { dest.0 < length net.now.dests }
+    requires name { blank.name ≡ L.name }
+    requires parts { blank.parts ≡ L.parts }
+    requires some { 0 < L.parts }
+    ensures rows { IfOk result (λ table. BestFirst net.now dest.0 (rows_of table)) }
+    ensures dest { IfOk result (λ table. table.dest ≡ dest) }
+{
+    let count = net.node_count();
+    let mut fixed = Fixed::new(alloc, count)?;
+    let mut search = Open::<A, L>::new(alloc, algebra, count, blank)?;
+    offer_own(alloc, algebra, net, dest, &mut search)?;
+    while let Some(node) = fix_next(&mut fixed, &mut search)? {
+        relax(alloc, algebra, net, labels, &fixed, &mut search, node)?;
     }
-    into_table(alloc, algebra, dest, rows)
+    into_table(alloc, algebra, dest, fixed)
 }

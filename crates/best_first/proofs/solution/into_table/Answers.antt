@@ -1,15 +1,16 @@
 use Rattle.std.proofs.Common.{◌∷◌, [], length-append, arith}
+use Rattle.best_first.specs.Fixed.{fixed_route}
 use Rattle.best_first.proofs.Places.{table-push}
 use Rattle.best_first.proofs.solution.into_table.Goals as goal
 
-pub loop-offer-preserved : goal.loop-offer-preserved
-loop-offer-preserved g c =
+pub loop-row-preserved : goal.loop-row-preserved
+loop-row-preserved g c =
     let value = g.A.Algebra.sig_value c.args.algebra.now in
     record {
       count =
-          let e = c.loop-offer.invariant.count in
-          let l = length-append c.loop-offer.yielded (c.in-Some.offer ∷ []) in
+          let e = c.loop-row.invariant.count in
+          let l = length-append c.loop-row.yielded (c.in-Some.row ∷ []) in
           omega arith;
-      rows = rw c.in_ok-push.ensures.ok (table-push value c.args.dest.0 c.loop-offer.node c.loop-offer.table c.in_ok-row_of.field-0 c.loop-offer.yielded c.in-Some.offer
-          c.loop-offer.invariant.count c.loop-offer.invariant.rows c.in_ok-row_of.ensures);
+      rows = rw c.in_ok-push.ensures.items (table-push (fixed_route value c.args.fixed.paths) c.args.dest.0 c.loop-row.node c.loop-row.table.items c.in_ok-row_of.field-0 c.loop-row.yielded c.in-Some.row
+          c.loop-row.invariant.count c.loop-row.invariant.rows c.in_ok-row_of.ensures);
     }

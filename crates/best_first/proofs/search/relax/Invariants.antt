@@ -1,0 +1,22 @@
+use Rattle.std.proofs.Common.{◌≡◌, ℕ, length, vec_len}
+use Rattle.net_graph.specs.Tables.{carrier}
+use Rattle.best_first.specs.Found.{found_at}
+use Rattle.best_first.specs.State.{relaxed}
+use Rattle.best_first.specs.Fixed.{told_by, open_routes}
+use Rattle.best_first.specs.Queue.{IsOpen}
+use Rattle.best_first.proofs.Listeners.{spoken_so_far}
+use Rattle.best_first.proofs.search.relax.Given as goal
+
+-- the arcs so far have made their offers
+abbrev pub invariant-loop-id : goal.invariant-loop-id
+invariant-loop-id g l =
+    let value = g.A.Algebra.sig_value l.algebra in
+    let rows = l.fixed.rows.items in
+    let paths = l.fixed.paths in
+    let told = told_by value paths rows in
+    record {
+      order : l.search.frontier.order ≡ l.fn.search.frontier.order;
+      count : vec_len l.search.best ≡ length l.net.nodes;
+      queue : IsOpen value (g.A.Algebra.is_sig l.algebra) (carrier l.net) told l.search.best.items l.search.frontier.keys;
+      found : (k : ℕ) → found_at (open_routes value paths rows l.search.best.items) k ≡ relaxed (carrier l.net) (told k) (found_at (open_routes value paths rows l.fn.search.best.items) k) (spoken_so_far l.net l.fn.node.0 (told l.fn.node.0) l.id-index k);
+    }

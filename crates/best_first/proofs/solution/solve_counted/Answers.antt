@@ -1,0 +1,114 @@
+use Rattle.std.proofs.Common.{◌≡◌, Option, None, length, ap, ◌∙◌, arith}
+use Rattle.std.proofs.lemmas.List.{length-replicate}
+use Rattle.best_first.specs.Found.{rows_from}
+use Rattle.best_first.specs.declared.fixed.FixedRoute.{FixedRoute}
+use Rattle.best_first.specs.Fixed.{told_by, fixed_routes, open_routes}
+use Rattle.best_first.proofs.Places.{found-none}
+use Rattle.best_first.proofs.Steps.{last_state}
+use Rattle.best_first.proofs.Speaking.{nothing_found}
+use Rattle.best_first.proofs.Advancing.{told_before, fixed_before, state_before, told_next, node_in, speaks, state_next, table_made}
+use Rattle.best_first.proofs.solution.solve_counted.Goals as goal
+
+pub offer_own-requires-clause-best : goal.offer_own-requires-clause-best
+offer_own-requires-clause-best g c κs within = λ k. rw c.in_ok-search.ensures.best (found-none c.node_count-count.result k)
+
+pub loop-search-init : goal.loop-search-init
+loop-search-init g c =
+    let value = g.A.Algebra.sig_value c.args.algebra.now in
+    let is_sig = g.A.Algebra.is_sig c.args.algebra.now in
+    let net = c.args.net.now in
+    let rows = c.in_ok-fixed.fixed.rows.items in
+    let paths = c.in_ok-fixed.fixed.paths in
+    let best = c.offer_own.new.search.best.items in
+    let is_net = c.node_count-count.ensures.net in
+    let rows_is = rw c.node_count-count.ensures.count at c.in_ok-fixed.ensures.rows in
+    let count : length best ≡ length net.nodes = let e = c.in_ok-offer_own.ensures.count in omega arith in
+    let all = ap length rows_is in
+    record {
+      order = rw c.in_ok-offer_own.ensures.order c.in_ok-search.ensures.algebra;
+      rows_count = (let same = length-replicate {A = Option (FixedRoute g.row.A-Sig.Denot)} (length net.nodes) None in omega arith);
+      best_count = c.in_ok-offer_own.ensures.count;
+      fixed = fixed_before value is_sig net c.args.dest.0 rows paths best is_net rows_is count c.in_ok-fixed.ensures.paths;
+      queue = rw (told_before value is_sig net c.args.dest.0 rows paths best is_net rows_is count) c.in_ok-offer_own.ensures.queue;
+      state = state_before value is_sig net c.args.dest.0 rows paths best is_net rows_is count c.in_ok-offer_own.ensures.offers;
+    }
+
+pub fix_next-requires-clause-queue : goal.fix_next-requires-clause-queue
+fix_next-requires-clause-queue g c κs within = rw (c.loop-search.invariant.order, c.requires.algebra) c.loop-search.invariant.queue
+
+pub relax-requires-clause-node : goal.relax-requires-clause-node
+relax-requires-clause-node g c κs within =
+    let value = g.A.Algebra.sig_value c.args.algebra.now in
+    let net = c.args.net.now in
+    let dest = c.args.dest.0 in
+    let rows = c.loop-search.fixed.rows.items in
+    let paths = c.loop-search.fixed.paths in
+    let best = c.loop-search.search.best.items in
+    let is_net = c.node_count-count.ensures.net in
+    let st = c.loop-search.invariant.state in
+    let new_rows = c.fix_next.new.fixed.rows.items in
+    let new_paths = c.fix_next.new.fixed.paths in
+    let taken = c.fix_next.new.search.best.items in
+    let node = c.in-Some.node.0 in
+    let fixes = rw (c.in-Some.is, c.loop-search.invariant.order, c.requires.algebra) at c.in_ok-node.ensures.next in
+    node_in value net dest rows new_rows paths new_paths best taken node is_net st fixes
+
+pub relax-requires-clause-next : goal.relax-requires-clause-next
+relax-requires-clause-next g c κs within =
+    let value = g.A.Algebra.sig_value c.args.algebra.now in
+    let net = c.args.net.now in
+    let dest = c.args.dest.0 in
+    let rows = c.loop-search.fixed.rows.items in
+    let paths = c.loop-search.fixed.paths in
+    let best = c.loop-search.search.best.items in
+    let is_net = c.node_count-count.ensures.net in
+    let st = c.loop-search.invariant.state in
+    let new_rows = c.fix_next.new.fixed.rows.items in
+    let new_paths = c.fix_next.new.fixed.paths in
+    let taken = c.fix_next.new.search.best.items in
+    let node = c.in-Some.node.0 in
+    let fixes = rw (c.in-Some.is, c.loop-search.invariant.order, c.requires.algebra) at c.in_ok-node.ensures.next in
+    rw (told_next value net dest rows new_rows paths new_paths best taken node is_net st fixes) (speaks value net dest rows new_rows paths new_paths best taken node is_net st fixes)
+
+pub relax-requires-clause-queue : goal.relax-requires-clause-queue
+relax-requires-clause-queue g c κs within = rw (c.in-Some.is, c.loop-search.invariant.order, c.requires.algebra) at c.in_ok-node.ensures.queue
+
+pub loop-search-preserved : goal.loop-search-preserved
+loop-search-preserved g c =
+    let value = g.A.Algebra.sig_value c.args.algebra.now in
+    let net = c.args.net.now in
+    let dest = c.args.dest.0 in
+    let rows = c.loop-search.fixed.rows.items in
+    let paths = c.loop-search.fixed.paths in
+    let best = c.loop-search.search.best.items in
+    let is_net = c.node_count-count.ensures.net in
+    let st = c.loop-search.invariant.state in
+    let new_rows = c.fix_next.new.fixed.rows.items in
+    let new_paths = c.fix_next.new.fixed.paths in
+    let taken = c.fix_next.new.search.best.items in
+    let node = c.in-Some.node.0 in
+    let fixes = rw (c.in-Some.is, c.loop-search.invariant.order, c.requires.algebra) at c.in_ok-node.ensures.next in
+    let next_best = c.relax.new.search.best.items in
+    let rows_count : length new_rows ≡ length net.nodes = let e = c.in_ok-node.ensures.rows in let f = c.loop-search.invariant.rows_count in omega arith in
+    let best_count : length next_best ≡ length net.nodes = let e = c.in_ok-relax.ensures.count in omega arith in
+    record {
+      order = rw (c.in_ok-relax.ensures.order, c.in_ok-node.ensures.order) c.loop-search.invariant.order;
+      rows_count = c.in_ok-node.ensures.rows ∙ c.loop-search.invariant.rows_count;
+      best_count = c.in_ok-relax.ensures.count;
+      fixed = rw (c.in-Some.is, c.loop-search.invariant.order) at c.in_ok-node.ensures.fixed;
+      queue = c.in_ok-relax.ensures.queue;
+      state = state_next value net dest rows new_rows paths new_paths best taken node is_net st fixes next_best rows_count best_count c.in_ok-relax.ensures.routes;
+    }
+
+pub returns-clause-rows : goal.returns-clause-rows
+returns-clause-rows g c =
+    let value = g.A.Algebra.sig_value c.args.algebra.now in
+    let net = c.args.net.now in
+    let dest = c.args.dest.0 in
+    let rows = c.loop-search.fixed.rows.items in
+    let paths = c.loop-search.fixed.paths in
+    let best = c.loop-search.search.best.items in
+    let done = rw c.in_default.is at c.in_ok-node.ensures.none in
+    let made = rw (done.rows_same, done.paths_same) at c.into_table.ensures.rows in
+    table_made net dest c.into_table.result (rows_from dest 0 (fixed_routes value paths rows)) made
+    (last_state net dest (fixed_routes value paths rows) (open_routes value paths rows best) c.node_count-count.ensures.net c.loop-search.invariant.state (nothing_found value (told_by value paths rows) best done.none))

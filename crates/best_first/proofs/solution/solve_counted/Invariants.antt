@@ -1,0 +1,26 @@
+use Rattle.std.proofs.Common.{◌≡◌, length, vec_len}
+use Rattle.net_graph.specs.Tables.{carrier}
+use Rattle.best_first.specs.Found.{none_count}
+use Rattle.best_first.specs.State.{IsState}
+use Rattle.best_first.specs.Fixed.{told_by, fixed_routes, open_routes, AreFixedBy}
+use Rattle.best_first.specs.Queue.{IsOpen}
+use Rattle.best_first.proofs.solution.solve_counted.Given as goal
+
+-- what holds between two nodes that are fixed
+abbrev pub invariant-loop-search : goal.invariant-loop-search
+invariant-loop-search g l =
+    let value = g.A.Algebra.sig_value l.algebra in
+    let is_sig = g.A.Algebra.is_sig l.algebra in
+    let rows = l.fixed.rows.items in
+    let paths = l.fixed.paths in
+    record {
+      order : l.search.frontier.order.algebra.now ≡ l.algebra;
+      rows_count : vec_len l.fixed.rows ≡ length l.net.nodes;
+      best_count : vec_len l.search.best ≡ length l.net.nodes;
+      fixed : AreFixedBy is_sig rows paths;
+      queue : IsOpen value is_sig (carrier l.net) (told_by value paths rows) l.search.best.items l.search.frontier.keys;
+      state : IsState l.net l.dest.0 (fixed_routes value paths rows) (open_routes value paths rows l.search.best.items);
+    }
+
+abbrev pub decreases-loop-search : goal.decreases-loop-search
+decreases-loop-search g l = none_count l.fixed.rows.items

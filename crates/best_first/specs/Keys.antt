@@ -1,0 +1,78 @@
+-- What orders open routes without their paths.
+use Rattle.std.specs.Prelude.{◌≡◌, ◌⊎◌, ℕ, ◌+◌, List, [], ◌∷◌, Bool, true, Option, Some, None, map, option_map, length}
+use Rattle.std.specs.Ordering.{ordering_then, nat_cmp}
+use Rattle.std.specs.declared.cmp.Ordering.{Ordering}
+use Rattle.alg_model.specs.Expressions.{PureCarrier, PureValue}
+use Rattle.alg_model.specs.Carriers.{Order}
+use Rattle.net_graph.specs.Routes.{PureRoute}
+use Rattle.net_graph.specs.Tables.{Told}
+use Rattle.best_first.specs.declared.route.OpenRoute.{OpenRoute}
+use Rattle.best_first.specs.declared.route.Place.{Place}
+use Rattle.best_first.specs.Found.{is_less}
+
+-- an open route: its value, how many nodes its path has, its node, and the node behind it
+pub record RouteKey : Type 0 where
+  pub value : PureValue
+  pub size : ℕ
+  pub node : ℕ
+  pub next : ℕ
+
+-- by size, node and next
+abbrev pub compare_places : Place → Place → Ordering
+compare_places p q = ordering_then (nat_cmp p.size q.size) (ordering_then (nat_cmp p.node.0 q.node.0) (nat_cmp p.next.0 q.next.0))
+
+-- by value, size, node and next
+abbrev pub compare_keys : PureCarrier → RouteKey → RouteKey → Ordering
+compare_keys c k l = ordering_then (Order c k.value l.value) (ordering_then (nat_cmp k.size l.size) (ordering_then (nat_cmp k.node l.node) (nat_cmp k.next l.next)))
+
+-- whether the first key comes first
+abbrev pub is_first : PureCarrier → RouteKey → RouteKey → Bool
+is_first c k l = is_less (compare_keys c k l)
+
+-- no best of the node, or this key comes before it
+abbrev pub beats : PureCarrier → RouteKey → Option RouteKey → Bool
+beats c key None = true
+beats c key (Some best) = is_first c key best
+
+-- the key of a route with this value
+abbrev pub key_at : Place → PureValue → RouteKey
+key_at place v = record { value = v; size = place.size; node = place.node.0; next = place.next.0 }
+
+-- the key of a route of the program, whose form of values stands for these
+abbrev pub key_of : {S : Type 0} → (S → PureValue) → OpenRoute S → RouteKey
+key_of value o = key_at o.place (value o.sig)
+
+-- the same of all routes of a list, and of the route or none of each node
+abbrev pub keys_of : {S : Type 0} → (S → PureValue) → List (OpenRoute S) → List RouteKey
+keys_of value routes = map (key_of value) routes
+
+abbrev pub best_of : {S : Type 0} → (S → PureValue) → List (Option (OpenRoute S)) → List (Option RouteKey)
+best_of value best = map (option_map (key_of value)) best
+
+-- the path of a route, if there is one
+abbrev pub path_or_none : Option PureRoute → List ℕ
+path_or_none None = []
+path_or_none (Some r) = r.path
+
+-- the route of a key, by the routes of the nodes that are fixed
+abbrev pub route_of : Told → RouteKey → PureRoute
+route_of told k = record { value = k.value; path = k.node ∷ path_or_none (told k.next) }
+
+-- the routes that are open
+abbrev pub routes_of : Told → List (Option RouteKey) → List (Option PureRoute)
+routes_of told best = map (option_map (route_of told)) best
+
+-- the path begins with the node
+abbrev pub BeginsWith : ℕ → List ℕ → Type 0
+BeginsWith n p = (rest : List ℕ) × (p ≡ n ∷ rest)
+
+-- the next node is fixed and its path begins with it, and the size is one more than that of its path
+pub record IsBehind (told : Told) (k : RouteKey) : Type 0 where
+  pub next : PureRoute
+  pub is_told : told k.next ≡ Some next
+  pub begins : BeginsWith k.next next.path
+  pub size : k.size ≡ length next.path + 1
+
+-- the route of the node's own origin, or a route by a node that is fixed
+abbrev pub IsShaped : Told → RouteKey → Type 0
+IsShaped told k = ((k.next ≡ k.node) × (k.size ≡ 1)) ⊎ IsBehind told k

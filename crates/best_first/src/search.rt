@@ -1,0 +1,211 @@
+ghost use Rattle.std.specs.Prelude.{◌≡◌, ◌<◌, ◌≤◌, ◌+◌, ℕ, None, true, length, vec_len, IfOk, OnOk, IfNone, IfSome, OnSome, IsSomeAnd, MatchOption, option_map};
+ghost use Rattle.alg_model.specs.declared.alg.TheConstants.{MAX_VALUE_NUMBER};
+ghost use Rattle.alg_model.specs.Expressions.{PureLabel};
+ghost use Rattle.alg_model.specs.Carriers.{carrier_of};
+ghost use Rattle.alg_model.specs.Application.{App};
+ghost use Rattle.alg_model.specs.Bounds.{AtMost};
+ghost use Rattle.net_graph.specs.Nets.{CanBeNumbered, IsNet};
+ghost use Rattle.net_graph.specs.Tables.{carrier};
+ghost use Rattle.best_first.specs.Found.{found_at, AllFound, own_offer};
+ghost use Rattle.best_first.specs.Keys.{best_of, keys_of, routes_of};
+ghost use Rattle.best_first.specs.Fixed.{told_by, open_routes, AreFixedBy, FixesNone, FixesNext};
+ghost use Rattle.best_first.specs.Labels.{AreLabelsOf};
+ghost use Rattle.best_first.specs.Queue.{IsOpen, IsOfferedOf, no_route};
+ghost use Rattle.best_first.specs.State.{relaxed, CanSpeak, spoken};
+
+use crate::ArcLabels;
+use crate::fixed::Fixed;
+use crate::open::Open;
+use crate::route::{OpenRoute, Place};
+use alg_model::Algebra;
+use meta_base::{DestId, NoMemory, NodeId};
+use net_graph::Net;
+use std::alloc::Global;
+use std::sync::ledger::Ledger;
+
+// Offers to each node what its own origin gives.
+pub(crate) fn offer_own<'a, A: Algebra, L: Ledger>(
+    alloc: Global,
+    algebra: &A,
+    net: &Net,
+    dest: DestId,
+    search: &mut Open<'a, A, L>,
+) -> Result<(), NoMemory>
+    requires algebra { A.expression algebra.now ≡ net.now.alg.expression }
+    requires order { search.old.frontier.order.algebra.now ≡ algebra.now }
+    requires net { IsNet net.now }
+    requires dest { dest.0 < length net.now.dests }
+    requires count { vec_len search.old.best ≡ length net.now.nodes }
+    requires best { (k : ℕ) → found_at search.old.best.items k ≡ None }
+    requires keys { length search.old.frontier.keys ≡ 0 }
+    ensures order { search.new.frontier.order ≡ search.old.frontier.order }
+    ensures count { vec_len search.new.best ≡ length net.now.nodes }
+    ensures queue { OnOk result (IsOpen (A.sig_value algebra.now) (A.is_sig algebra.now) (carrier net.now)
+        no_route search.new.best.items search.new.frontier.keys) }
+    ensures offers { (k : ℕ) → OnOk result (found_at (routes_of no_route
+        (best_of (A.sig_value algebra.now) search.new.best.items)) k ≡ own_offer net.now dest.0 k) }
+{
+    for origin in net.origins_of(dest) {
+        let node = origin.node;
+        let route = OpenRoute {
+            sig: algebra.sig_of(alloc, &origin.value)?,
+            place: Place {
+                size: 1,
+                node,
+                next: node,
+            },
+        };
+        search.offer(alloc, algebra, route)?;
+    }
+    Ok(())
+}
+
+// Fixes the node whose best route is the best of all, if a route is open, and says which.
+pub(crate) fn fix_next<'a, A: Algebra, L: Ledger>(
+    fixed: &mut Fixed<A::Sig>,
+    search: &mut Open<'a, A, L>,
+) -> Result<Option<NodeId>, NoMemory>
+    requires count { vec_len fixed.old.rows ≡ vec_len search.old.best }
+    requires few { CanBeNumbered (vec_len fixed.old.rows) }
+    requires fixed { let algebra = search.old.frontier.order.algebra.now in
+        AreFixedBy (A.is_sig algebra) fixed.old.rows.items fixed.old.paths }
+    requires queue { let algebra = search.old.frontier.order.algebra.now in
+        IsOpen (A.sig_value algebra) (A.is_sig algebra) (carrier_of (A.expression algebra))
+        (told_by (A.sig_value algebra) fixed.old.paths fixed.old.rows.items)
+        search.old.best.items search.old.frontier.keys }
+    ensures order { search.new.frontier.order ≡ search.old.frontier.order }
+    ensures rows { OnOk result (vec_len fixed.new.rows ≡ vec_len fixed.old.rows) }
+    ensures best { vec_len search.new.best ≡ vec_len search.old.best }
+    ensures none { IfOk result (λ node. IfNone node (FixesNone fixed.old.rows.items fixed.old.paths
+        search.old.best.items fixed.new.rows.items fixed.new.paths)) }
+    ensures next { let algebra = search.old.frontier.order.algebra.now in
+        IfOk result (λ node. IfSome node (λ node. FixesNext (A.sig_value algebra) (carrier_of (A.expression algebra))
+        fixed.old.rows.items fixed.old.paths search.old.best.items
+        fixed.new.rows.items fixed.new.paths search.new.best.items node.0)) }
+    ensures fixed { let algebra = search.old.frontier.order.algebra.now in
+        IfOk result (λ node. OnSome node (AreFixedBy (A.is_sig algebra) fixed.new.rows.items fixed.new.paths)) }
+    ensures queue { let algebra = search.old.frontier.order.algebra.now in
+        IfOk result (λ node. OnSome node (IsOpen (A.sig_value algebra) (A.is_sig algebra)
+        (carrier_of (A.expression algebra)) (told_by (A.sig_value algebra) fixed.new.paths fixed.new.rows.items)
+        search.new.best.items search.new.frontier.keys)) }
+{
+    let Some(node) = search.pop_node(fixed) else {
+        return Ok(None);
+    };
+    let Some(route) = search.best[node.0 as usize].take() else {
+        unreachable!();
+    };
+    fixed.fix(route)?;
+    Ok(Some(node))
+}
+
+// Offers the route of the node, which is fixed, to the tails of the arcs that it speaks on and that are not.
+pub(crate) fn relax<'a, A: Algebra, L: Ledger>(
+    alloc: Global,
+    algebra: &A,
+    net: &Net,
+    labels: &ArcLabels<A::Lab>,
+    fixed: &Fixed<A::Sig>,
+    search: &mut Open<'a, A, L>,
+    node: NodeId,
+) -> Result<(), NoMemory>
+    requires algebra { A.expression algebra.now ≡ net.now.alg.expression }
+    requires order { search.old.frontier.order.algebra.now ≡ algebra.now }
+    requires net { IsNet net.now }
+    requires labels { AreLabelsOf (A.stands_for algebra.now) net.now labels.now }
+    requires node { node.0 < length net.now.nodes }
+    requires rows { vec_len fixed.now.rows ≡ length net.now.nodes }
+    requires count { vec_len search.old.best ≡ length net.now.nodes }
+    requires fixed { AreFixedBy (A.is_sig algebra.now) fixed.now.rows.items fixed.now.paths }
+    requires next { IsSomeAnd (told_by (A.sig_value algebra.now) fixed.now.paths fixed.now.rows.items node.0)
+        (CanSpeak net.now node.0) }
+    requires queue { IsOpen (A.sig_value algebra.now) (A.is_sig algebra.now) (carrier net.now)
+        (told_by (A.sig_value algebra.now) fixed.now.paths fixed.now.rows.items)
+        search.old.best.items search.old.frontier.keys }
+    ensures order { search.new.frontier.order ≡ search.old.frontier.order }
+    ensures count { vec_len search.new.best ≡ length net.now.nodes }
+    ensures queue { OnOk result (IsOpen (A.sig_value algebra.now) (A.is_sig algebra.now) (carrier net.now)
+        (told_by (A.sig_value algebra.now) fixed.now.paths fixed.now.rows.items)
+        search.new.best.items search.new.frontier.keys) }
+    ensures routes { (k : ℕ) → let value = A.sig_value algebra.now in
+        let rows = fixed.now.rows.items in let paths = fixed.now.paths in
+        let told = told_by value paths rows in
+        OnOk result (found_at (open_routes value paths rows search.new.best.items) k ≡
+        relaxed (carrier net.now) (told k)
+        (found_at (open_routes value paths rows search.old.best.items) k) (spoken net.now k node.0 (told node.0))) }
+{
+    let next = fixed.route(node);
+    let size = fixed.paths.path(next.path).len() as u32 + 1;
+    for id in net.listeners(node) {
+        let tail = net.arc(*id).tail;
+        if fixed.rows[tail.0 as usize].is_none() {
+            let place = Place {
+                size,
+                node: tail,
+                next: node,
+            };
+            let lab = labels.label(*id);
+            offer_image(alloc, algebra, lab, &next.sig, place, search)?;
+        }
+    }
+    Ok(())
+}
+
+// Offers at the place what the label makes of the value, if it is a value.
+fn offer_image<'a, A: Algebra, L: Ledger>(
+    alloc: Global,
+    algebra: &A,
+    lab: &A::Lab,
+    sig: &A::Sig,
+    place: Place,
+    search: &mut Open<'a, A, L>,
+) -> Result<(), NoMemory>
+    requires lab { (l : PureLabel) × A.stands_for algebra.now lab.now l }
+    requires sig { A.is_sig algebra.now sig.now }
+    requires small { AtMost MAX_VALUE_NUMBER (A.sig_value algebra.now sig.now) }
+    requires order { search.old.frontier.order.algebra.now ≡ algebra.now }
+    requires node { place.node.0 < vec_len search.old.best }
+    requires sigs { AllFound (λ o. A.is_sig algebra.now o.sig) search.old.best.items }
+    ensures order { search.new.frontier.order ≡ search.old.frontier.order }
+    ensures count { vec_len search.new.best ≡ vec_len search.old.best }
+    ensures sigs { AllFound (λ o. A.is_sig algebra.now o.sig) search.new.best.items }
+    ensures offered { (l : PureLabel) → A.stands_for algebra.now lab.now l →
+        let value = A.sig_value algebra.now in
+        OnOk result (IsOfferedOf (carrier_of (A.expression algebra.now)) place
+        (App (A.expression algebra.now) l (value sig.now))
+        (best_of value search.old.best.items) (keys_of value search.old.frontier.keys)
+        (best_of value search.new.best.items) (keys_of value search.new.frontier.keys)) }
+{
+    if let Some(sig) = image(alloc, algebra, lab, sig, &mut search.spare)? {
+        search.offer(alloc, algebra, OpenRoute { sig, place })?;
+    }
+    Ok(())
+}
+
+// What the label makes of the value, or `None` where it prohibits it. It is made in the spare value's
+// memory, where there is one; a spare that isn't used stays.
+fn image<A: Algebra>(
+    alloc: Global,
+    algebra: &A,
+    lab: &A::Lab,
+    sig: &A::Sig,
+    spare: &mut Option<A::Sig>,
+) -> Result<Option<A::Sig>, NoMemory>
+    requires lab { (l : PureLabel) × A.stands_for algebra.now lab.now l }
+    requires sig { A.is_sig algebra.now sig.now }
+    requires small { AtMost MAX_VALUE_NUMBER (A.sig_value algebra.now sig.now) }
+    ensures sig { IfOk result (λ image. IfSome image (A.is_sig algebra.now)) }
+    ensures image { (l : PureLabel) → A.stands_for algebra.now lab.now l → IfOk result (λ image.
+        option_map (A.sig_value algebra.now) image ≡
+        App (A.expression algebra.now) l (A.sig_value algebra.now sig.now)) }
+{
+    let Some(mut out) = spare.take() else {
+        return algebra.apply(alloc, lab, sig);
+    };
+    if algebra.apply_into(alloc, lab, sig, &mut out)? {
+        Ok(Some(out))
+    } else {
+        *spare = Some(out);
+        Ok(None)
+    }
+}
