@@ -1,0 +1,30 @@
+ghost use Rattle.std.specs.Prelude.{◌≡◌, ◌<◌, ℕ, List, length};
+ghost use Rattle.alg_model.specs.Instances.{InstanceAtMost};
+ghost use Rattle.alg_model.specs.Properties.{PureProperty};
+ghost use Rattle.alg_model.specs.Verdicts.{PureInstance};
+ghost use Rattle.alg_model.specs.declared.alg.TheConstants.{MAX_VALUE_NUMBER};
+ghost use Rattle.alg_model.specs.declared.edition.TheConstants.{MAX_LABEL_NUMBER};
+ghost use Rattle.net_facts.specs.Lacks.{IsFirstLack, LacksFirst, NetHasAll};
+ghost use Rattle.net_graph.specs.Nets.{PureNet};
+
+/// At most one arc is the first whose label lacks one of the properties, and one property the earliest that it
+/// lacks.
+pub fn first_lack_is_unique()
+    ensures { (properties : List PureProperty) (net : PureNet) (j k : ℕ) (p q : PureProperty) →
+        LacksFirst properties net j p → LacksFirst properties net k q → (j ≡ k) × (p ≡ q) }
+{}
+
+/// A network in which an arc lacks one of the properties first hasn't all of them.
+#[tactic(auto, using(crate::specs::LackLaws::first_refutes))]
+pub fn first_lacks_refute()
+    ensures { (properties : List PureProperty) (net : PureNet) (k : ℕ) (p : PureProperty) →
+        LacksFirst properties net k p → ¬ NetHasAll properties net }
+{}
+
+/// The arc of a first lack is the network's, and the instance's numbers are small enough to apply its label to
+/// its values.
+pub fn first_lacks_are_small()
+    ensures { (properties : List PureProperty) (net : PureNet) (k : ℕ) (x : PureInstance) →
+        IsFirstLack properties net k x →
+        (k < length net.arcs) × InstanceAtMost MAX_LABEL_NUMBER MAX_VALUE_NUMBER x }
+{}
