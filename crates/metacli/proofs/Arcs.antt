@@ -1,13 +1,8 @@
 -- The labels on a network's arcs, one arc after another.
-use Rattle.std.proofs.Common.{◌≡◌, ℕ, ◌+◌, ◌≤◌, [], ◌∷◌, ◌++◌, Some, option_map, slice_get, take, length, ap, sym, subst, ◌∙◌, arith}
+use Rattle.std.proofs.Common.{◌≡◌, ℕ, ◌+◌, ◌≤◌, [], ◌∷◌, ◌++◌, Some, option_map, slice_get, take, length, ap, ◌∙◌, arith}
 use Rattle.std.proofs.lemmas.List.{take_more, take_all, length-map}
 use Rattle.std.proofs.lemmas.Option.{slice_get-map, slice_get_within, get_or_from_slice_get}
-use Rattle.std.specs.Prelude.{List}
-use Rattle.alg_classes.specs.declared.class.Class.{Class}
-use Rattle.alg_model.specs.Expressions.{PureLabel}
 use Rattle.net_graph.specs.Nets.{PureArc, PureNet}
-use Rattle.property_infer.specs.Labels.{CoversLabels}
-use Rattle.property_infer.specs.LabelLaws.{covers_none}
 use Rattle.metacli.specs.Outcome.{labels_on}
 
 -- one arc more has its label

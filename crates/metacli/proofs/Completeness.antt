@@ -1,5 +1,5 @@
 -- Without a fault nothing is given up.
-use Rattle.std.proofs.Common.{◌≡◌, ℕ, ◌≤◌, ◌⊎◌, List, length, Option, Some, None, Result, Ok, Err, arith, refl, ap, ◌∙◌, subst, inl, inr, ⊎_elim}
+use Rattle.std.proofs.Common.{◌≡◌, ℕ, ◌≤◌, List, length, Option, Some, None, Result, Ok, Err, arith, refl, ap, ◌∙◌, subst, inl, inr, ⊎_elim}
 use Rattle.meta_base.specs.Count.{HasRisen}
 use Rattle.meta_base.specs.Shelf.{Moment, Keeps}
 use Rattle.meta_base.specs.declared.ids.Which.{Which}
@@ -8,16 +8,17 @@ use Rattle.alg_model.specs.Expressions.{PureAlg, PureLabel}
 use Rattle.alg_model.specs.Application.{IsLabel}
 use Rattle.raml_syntax.specs.declared.faults.ExprFault.{ExprFault}
 use Rattle.raml_syntax.specs.ExprText.{ExprText, IsExprFault}
-use Rattle.raml_syntax.specs.Plain.{IsPlainAdd}
+use Rattle.net_facts.specs.LackLaws.{first_refutes}
+use Rattle.net_graph.specs.Nets.{PureNet}
 use Rattle.topology_file.specs.NetText.{PureNetFile, NetText, HasOneOutcome, changed_net}
 use Rattle.report_text.specs.Refusals.{PureRefusal, words, expr, network, lacks, read, long, memory}
 use Rattle.metacli.specs.Answers.{done, refused}
 use Rattle.metacli.specs.Reading.{Holds, IsUntaken, IsReadAs, IsExprRefusal, IsNetRefusal}
-use Rattle.metacli.specs.Outcome.{PureOutcome, stopped, checked, routed, answer_in, IsCheckedAs, IsAlgebraChecked, IsNetworkChecked, IsOnArc, IsRoutedAs, IsRoutedOver, GoesOnFrom, GoesOnOver, WithNetwork, ComesBy, word_at}
-use Rattle.metacli.specs.Complete.{IsUnlessMemory, IsTold, IsJudged, IsNetJudged, IsServedAs, CompleteBy}
-use Rattle.metacli.specs.declared.words.Command.{Command}
-use Rattle.metacli.specs.declared.words.Command.TheVariants.{Check, Route}
-use Rattle.metacli.specs.declared.words.WordsFault.{WordsFault}
+use Rattle.metacli.specs.Outcome.{PureOutcome, stopped, checked, routed, answer_in, IsCheckedAs, IsAlgebraChecked, IsNetworkChecked, IsOnArc, IsRoutedAs, IsNetworkRouted, IsFit, unbeaten_properties, GoesOnFrom, GoesOnOver, WithNetwork, ComesBy, word_at}
+use Rattle.metacli.specs.Complete.{IsUnlessMemory, IsTold, IsJudged, IsNetJudged, IsAny, CompleteBy}
+use Rattle.command_words.specs.declared.command.Command.{Command}
+use Rattle.command_words.specs.declared.command.Command.TheVariants.{Check, Route}
+use Rattle.command_words.specs.declared.command.WordsFault.{WordsFault}
 
 -- the laws of texts
 pub record Laws : Type 0 where
@@ -94,43 +95,44 @@ judged laws name bytes Then Follows old between new o (Err r) h on t quiet over 
 
 -- Network files.
 
-net_judged_good : Laws → (bytes : List ℕ) (a : PureAlg) (f : PureNetFile) (o : PureOutcome) → NetText bytes a f → IsUnlessMemory o done → IsNetJudged bytes o a
-net_judged_good laws bytes a f o means d = record {
+net_judged_good : Laws → (bytes : List ℕ) (Fits : PureNet → Type 0) (a : PureAlg) (f : PureNetFile) (o : PureOutcome) → NetText bytes a f
+    → (Fits (changed_net f) → IsUnlessMemory o done) → IsNetJudged bytes Fits o a
+net_judged_good laws bytes Fits a f o means d = record {
   bad = λ g x. absurd ((laws.network bytes a).not_both f g means x);
-  good = λ g x. d;
+  good = λ g x fits. d (subst (λ (h : PureNetFile). Fits (changed_net h)) ((laws.network bytes a).one_network g f x means) fits);
 }
 
-net_judged_bad : Laws → (bytes : List ℕ) (a : PureAlg) (r : PureRefusal) (o : PureOutcome) → IsNetRefusal a bytes r → answer_in o ≡ refused r → IsNetJudged bytes o a
-net_judged_bad laws bytes a (network g) o x e = record {
+net_judged_bad : Laws → (bytes : List ℕ) (Fits : PureNet → Type 0) (a : PureAlg) (r : PureRefusal) (o : PureOutcome) → IsNetRefusal a bytes r → answer_in o ≡ refused r → IsNetJudged bytes Fits o a
+net_judged_bad laws bytes Fits a (network g) o x e = record {
   bad = λ f y. inl (e ∙ ap (λ f. refused (network f)) ((laws.network bytes a).one_fault g f x y));
-  good = λ f y. absurd ((laws.network bytes a).not_both f g y x);
+  good = λ f y fits. absurd ((laws.network bytes a).not_both f g y x);
 }
-net_judged_bad laws bytes a (words n) o x e = absurd x
-net_judged_bad laws bytes a (expr f) o x e = absurd x
-net_judged_bad laws bytes a (lacks arc i) o x e = absurd x
-net_judged_bad laws bytes a (read w) o x e = absurd x
-net_judged_bad laws bytes a (long w) o x e = absurd x
-net_judged_bad laws bytes a memory o x e = absurd x
+net_judged_bad laws bytes Fits a (words n) o x e = absurd x
+net_judged_bad laws bytes Fits a (expr f) o x e = absurd x
+net_judged_bad laws bytes Fits a (lacks arc i) o x e = absurd x
+net_judged_bad laws bytes Fits a (read w) o x e = absurd x
+net_judged_bad laws bytes Fits a (long w) o x e = absurd x
+net_judged_bad laws bytes Fits a memory o x e = absurd x
 
-net_judged_memory : (bytes : List ℕ) (o : PureOutcome) (a : PureAlg) → answer_in o ≡ refused memory → IsNetJudged bytes o a
-net_judged_memory bytes o a e = record { bad = λ f x. inr e; good = λ f x. inr e }
+net_judged_memory : (bytes : List ℕ) (Fits : PureNet → Type 0) (o : PureOutcome) (a : PureAlg) → answer_in o ≡ refused memory → IsNetJudged bytes Fits o a
+net_judged_memory bytes Fits o a e = record { bad = λ f x. inr e; good = λ f x fits. inr e }
 
 -- what comes of the network file is judged, if its network is carried out
-net_judged : Laws → (a : PureAlg) (name bytes : List ℕ) (Then : PureNetFile → PureOutcome → Type 0) (old new : Moment) (o : PureOutcome) (r : Result PureNetFile PureRefusal)
+net_judged : Laws → (a : PureAlg) (name bytes : List ℕ) (Fits : PureNet → Type 0) (Then : PureNetFile → PureOutcome → Type 0) (old new : Moment) (o : PureOutcome) (r : Result PureNetFile PureRefusal)
     → IsReadAs Network name (λ text. NetText text a) (IsNetRefusal a) old r new → GoesOnOver a Then o r → IsTold old name bytes → ¬ HasRisen old.faults new.faults
-    → ((f : PureNetFile) → Then f o → IsUnlessMemory o done) → IsNetJudged bytes o a
-net_judged laws a name bytes Then old new o (Ok f) h on t quiet ends =
-    net_judged_good laws bytes a f o (told old new name bytes (λ b. NetText b a f) h t) (ends f on)
-net_judged laws a name bytes Then old new o (Err r) h on t quiet ends = ⊎_elim
-    (λ u. net_judged_memory bytes o a (ap answer_in on ∙ ap refused (untaken Network name bytes old new r u t quiet)))
-    (λ f. net_judged_bad laws bytes a r o (told old new name bytes (λ b. IsNetRefusal a b r) f t) (ap answer_in on))
+    → ((f : PureNetFile) → Then f o → Fits (changed_net f) → IsUnlessMemory o done) → IsNetJudged bytes Fits o a
+net_judged laws a name bytes Fits Then old new o (Ok f) h on t quiet ends =
+    net_judged_good laws bytes Fits a f o (told old new name bytes (λ b. NetText b a f) h t) (ends f on)
+net_judged laws a name bytes Fits Then old new o (Err r) h on t quiet ends = ⊎_elim
+    (λ u. net_judged_memory bytes Fits o a (ap answer_in on ∙ ap refused (untaken Network name bytes old new r u t quiet)))
+    (λ f. net_judged_bad laws bytes Fits a r o (told old new name bytes (λ b. IsNetRefusal a b r) f t) (ap answer_in on))
     h
 
-over_network : Laws → (a : PureAlg) (name bytes : List ℕ) (Then : PureNetFile → PureOutcome → Type 0) (old between new : Moment) (o : PureOutcome)
+over_network : Laws → (a : PureAlg) (name bytes : List ℕ) (Fits : PureNet → Type 0) (Then : PureNetFile → PureOutcome → Type 0) (old between new : Moment) (o : PureOutcome)
     → Keeps old between → WithNetwork a name Then between new o → IsTold old name bytes → ¬ HasRisen old.faults new.faults
-    → ((f : PureNetFile) → Then f o → IsUnlessMemory o done) → IsNetJudged bytes o a
-over_network laws a name bytes Then old between new o k w t quiet ends =
-    net_judged laws a name bytes Then between new o w.network w.reads.as_read w.goes_on (told_later old between name bytes k t)
+    → ((f : PureNetFile) → Then f o → Fits (changed_net f) → IsUnlessMemory o done) → IsNetJudged bytes Fits o a
+over_network laws a name bytes Fits Then old between new o k w t quiet ends =
+    net_judged laws a name bytes Fits Then between new o w.network w.reads.as_read w.goes_on (told_later old between name bytes k t)
     (λ r. quiet (risen_later old.faults between.faults new.faults k.faults r)) ends
 
 -- What was read is carried out.
@@ -146,26 +148,17 @@ checked_done a file S (stopped b f (read w)) h = absurd h
 checked_done a file S (stopped b f (long w)) h = absurd h
 checked_done a file S (routed b f rows) h = absurd h
 
-routed_done : (a : PureAlg) (file : PureNetFile) (o : PureOutcome) → IsRoutedAs a file o → IsUnlessMemory o done
-routed_done a file (routed b f rows) h = inl refl
-routed_done a file (stopped b f memory) h = inr refl
-routed_done a file (stopped b f (words n)) h = absurd h
-routed_done a file (stopped b f (expr g)) h = absurd h
-routed_done a file (stopped b f (network g)) h = absurd h
-routed_done a file (stopped b f (lacks arc x)) h = absurd h
-routed_done a file (stopped b f (read w)) h = absurd h
-routed_done a file (stopped b f (long w)) h = absurd h
-routed_done a file (checked b f v) h = absurd h
-
-served_or_refused : Laws → (a : PureAlg) (net bytes : List ℕ) (old between new : Moment) (o : PureOutcome) → Keeps old between → IsTold old net bytes
-    → ¬ HasRisen old.faults new.faults → IsRoutedOver net a between new o → IsServedAs bytes o a
-served_or_refused laws a net bytes old between new o k t quiet h = ⊎_elim
-    (λ s. record {
-      served = λ plain. over_network laws a net bytes (IsRoutedAs a) old between new o k s.1 t quiet (λ f x. routed_done a f o x);
-      other = λ no_add. absurd (no_add s.0);
-    })
-    (λ u. record { served = λ plain. absurd (u.0 plain); other = λ no_add. inl (ap answer_in u.2) })
-    h
+-- a network whose labels are fit has no arc that lacks what is asked
+routed_done : (a : PureAlg) (file : PureNetFile) (o : PureOutcome) → IsRoutedAs a file o → IsFit (changed_net file) → IsUnlessMemory o done
+routed_done a file (routed b f rows) h fit = inl refl
+routed_done a file (stopped b f (lacks arc x)) h fit = absurd (first_refutes unbeaten_properties (changed_net file) arc x.property h.2.first fit)
+routed_done a file (stopped b f memory) h fit = inr refl
+routed_done a file (stopped b f (words n)) h fit = absurd h
+routed_done a file (stopped b f (expr g)) h fit = absurd h
+routed_done a file (stopped b f (network g)) h fit = absurd h
+routed_done a file (stopped b f (read w)) h fit = absurd h
+routed_done a file (stopped b f (long w)) h fit = absurd h
+routed_done a file (checked b f v) h fit = absurd h
 
 pub complete : Laws → (text : List (List ℕ)) (old new : Moment) (c : Option Command) (o : PureOutcome) (r : Result Command WordsFault)
     → ComesBy text r old new c o → CompleteBy text old new o r
@@ -173,12 +166,12 @@ complete laws text old new c o (Ok (Check file None)) h = λ bytes t quiet.
     judged laws (word_at text file) bytes IsAlgebraChecked (λ a. IsUnlessMemory o done) old h.1.between new o h.1.expression h.1.reads.as_read h.1.goes_on t quiet
     (λ a x. checked_done a None (IsLabel a.expression) o x.1) (λ e a. inr e)
 complete laws text old new c o (Ok (Check file (Some net))) h = λ bytes net_bytes t u quiet.
-    judged laws (word_at text file) bytes (IsNetworkChecked (word_at text net)) (IsNetJudged net_bytes o) old h.1.between new o h.1.expression h.1.reads.as_read h.1.goes_on t quiet
-    (λ a x. over_network laws a (word_at text net) net_bytes (λ f. IsCheckedAs a (Some f) (IsOnArc (changed_net f))) old h.1.between new o h.1.reads.keeps x u quiet
-    (λ f y. checked_done a (Some f) (IsOnArc (changed_net f)) o y))
-    (λ e a. net_judged_memory net_bytes o a e)
+    judged laws (word_at text file) bytes (IsNetworkChecked (word_at text net)) (IsNetJudged net_bytes IsAny o) old h.1.between new o h.1.expression h.1.reads.as_read h.1.goes_on t quiet
+    (λ a x. over_network laws a (word_at text net) net_bytes IsAny (λ f. IsCheckedAs a (Some f) (IsOnArc (changed_net f))) old h.1.between new o h.1.reads.keeps x u quiet
+    (λ f y any. checked_done a (Some f) (IsOnArc (changed_net f)) o y))
+    (λ e a. net_judged_memory net_bytes IsAny o a e)
 complete laws text old new c o (Ok (Route file net workers)) h = λ bytes net_bytes t u quiet.
-    judged laws (word_at text file) bytes (IsRoutedOver (word_at text net)) (IsServedAs net_bytes o) old h.1.between new o h.1.expression h.1.reads.as_read h.1.goes_on t quiet
-    (λ a x. served_or_refused laws a (word_at text net) net_bytes old h.1.between new o h.1.reads.keeps u quiet x)
-    (λ e a. record { served = λ plain. net_judged_memory net_bytes o a e; other = λ no_add. inr e })
+    judged laws (word_at text file) bytes (IsNetworkRouted (word_at text net)) (IsNetJudged net_bytes IsFit o) old h.1.between new o h.1.expression h.1.reads.as_read h.1.goes_on t quiet
+    (λ a x. over_network laws a (word_at text net) net_bytes IsFit (IsRoutedAs a) old h.1.between new o h.1.reads.keeps x u quiet (λ f y fit. routed_done a f o y fit))
+    (λ e a. net_judged_memory net_bytes IsFit o a e)
 complete laws text old new c o (Err f) h = tt

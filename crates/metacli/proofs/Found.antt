@@ -1,66 +1,55 @@
--- The routes of all destinations, one destination after another.
-use Rattle.std.proofs.Common.{◌≡◌, ℕ, ◌+◌, List, [], ◌∷◌, ◌++◌, length, sym, ap, ◌∙◌, arith, append_assoc, append-nil, length-append, zero-add, add-zero}
+-- The rows of tables, one table after another.
+use Rattle.std.proofs.Common.{◌≡◌, ℕ, ◌+◌, ◌<◌, ◌≤◌, List, [], ◌∷◌, ◌++◌, length, map, refl, sym, ap, ◌∙◌, arith, append_assoc, append-nil}
+use Rattle.std.proofs.lemmas.List.{length-map, map-append}
 use Rattle.std.specs.List.{AllByRecursion}
-use Rattle.alg_model.specs.Expressions.{Expression, PureAlg, add, PureLabel}
-use Rattle.alg_model.specs.Application.{IsLabel}
-use Rattle.alg_model.specs.Properties.{PureProperty, monotone, isotone, Has}
-use Rattle.raml_syntax.specs.Plain.{IsPlainAdd}
-use Rattle.net_graph.specs.Nets.{PureArc, PureNet, IsNet, IsArcOf}
-use Rattle.net_graph.specs.Tables.{PureRow, NetHas, BestFirst, Optimal}
+use Rattle.link_state.specs.Tables as link
+use Rattle.net_graph.specs.declared.route.DestTable.{DestTable}
+use Rattle.net_graph.specs.Nets.{PureNet}
+use Rattle.net_graph.specs.Tables.{PureRow, BestFirst, Optimal}
 use Rattle.net_graph.specs.RowTexts.{IsRowOf}
-use Rattle.metacli.specs.Outcome.{AreTablesFrom, joined_rows}
-use Rattle.metacli.proofs.Additive.{add_monotone, add_isotone}
+use Rattle.net_graph.specs.declared.route.RouteRow.{RouteRow}
+use Rattle.net_graph.specs.Views.{rows_of, pure_row}
+use Rattle.metacli.specs.Outcome.{AreTablesFrom, AreRoutesOn, joined_rows}
 
--- what all labels of an algebra have, all labels on a network's arcs have
-on_arcs : (p : PureProperty) (a : PureAlg) (nodes : ℕ) → ((l : PureLabel) → IsLabel a.expression l → Has p a.expression l)
-    → (arcs : List PureArc) → AllByRecursion (IsArcOf a nodes) arcs → AllByRecursion (λ (x : PureArc). Has p a.expression x.label) arcs
-on_arcs p a nodes all [] h = tt
-on_arcs p a nodes all (x ∷ arcs) h = (all x.label h.0.label_in, on_arcs p a nodes all arcs h.1)
+-- what is made best first is beaten by no walk, and its rows can be printed
+pub record Laws (net : PureNet) : Type 0 where
+  pub optimal : (dest : ℕ) (t : List PureRow) → BestFirst net dest t → Optimal net dest t
+  pub rows : (dest : ℕ) (t : List PureRow) → dest < length net.dests → BestFirst net dest t → AllByRecursion (IsRowOf net) t
 
-all_monotone : (a : Expression) → IsPlainAdd a → (l : PureLabel) → IsLabel a l → Has monotone a l
-all_monotone (add low high) p = add_monotone low high
-all_monotone _ p = absurd p
+tables_from : (net : PureNet) → Laws net → (dest : ℕ) (tables : List DestTable) → link.AreTablesFrom net dest tables → AreTablesFrom net dest (map rows_of tables)
+tables_from net laws dest [] h = tt
+tables_from net laws dest (t ∷ ts) h =
+    (h.0.best_first, laws.optimal dest (rows_of t) h.0.best_first, tables_from net laws (dest + 1) ts h.1)
 
-all_isotone : (a : Expression) → IsPlainAdd a → (l : PureLabel) → IsLabel a l → Has isotone a l
-all_isotone (add low high) p = add_isotone low high
-all_isotone _ p = absurd p
-
-pub net_monotone : (net : PureNet) → IsPlainAdd net.alg.expression → IsNet net → NetHas monotone net
-net_monotone net p n = on_arcs monotone net.alg (length net.nodes) (all_monotone net.alg.expression p) net.arcs n.arcs_in
-
-pub net_isotone : (net : PureNet) → IsPlainAdd net.alg.expression → IsNet net → NetHas isotone net
-net_isotone net p n = on_arcs isotone net.alg (length net.nodes) (all_isotone net.alg.expression p) net.arcs n.arcs_in
-
--- the rows are those of the first so many destinations
-pub record AreFound (net : PureNet) (count : ℕ) (rows : List PureRow) : Type 0 where
-  pub tables : List (List PureRow)
-  pub are : AreTablesFrom net 0 tables
-  pub number : length tables ≡ count
-  pub joined : rows ≡ joined_rows tables
-  pub rows_in : AllByRecursion (IsRowOf net) rows
-
-one_more : (net : PureNet) (dest : ℕ) (tables : List (List PureRow)) (table : List PureRow) → AreTablesFrom net dest tables
-    → BestFirst net (dest + length tables) table → Optimal net (dest + length tables) table → AreTablesFrom net dest (tables ++ table ∷ [])
-one_more net dest [] table h b o = (rw add-zero at b, rw add-zero at o, tt)
-one_more net dest (t ∷ ts) table h b o =
-    let e : dest + length (t ∷ ts) ≡ (dest + 1) + length ts = omega arith in
-    (h.0, h.1, one_more net (dest + 1) ts table h.2 (rw e at b) (rw e at o))
-
-joined_more : (tables : List (List PureRow)) (table : List PureRow) → joined_rows (tables ++ table ∷ []) ≡ joined_rows tables ++ table
-joined_more [] table = append-nil table
-joined_more (t ∷ ts) table = ap (λ x. t ++ x) (joined_more ts table) ∙ sym (append_assoc t (joined_rows ts) table)
+pub routes_on : (net : PureNet) → Laws net → (tables : List DestTable) → link.AreTablesOf net tables → AreRoutesOn net (joined_rows (map rows_of tables))
+routes_on net laws tables h = record {
+  tables = map rows_of tables;
+  are = tables_from net laws 0 tables h.tables_from;
+  count = length-map tables rows_of ∙ h.count;
+  joined = refl;
+}
 
 all_append : {X : Type 0} (P : X → Type 0) (xs ys : List X) → AllByRecursion P xs → AllByRecursion P ys → AllByRecursion P (xs ++ ys)
 all_append P [] ys h k = k
 all_append P (x ∷ xs) ys h k = (h.0, all_append P xs ys h.1 k)
 
-pub found_more : (net : PureNet) (dest : ℕ) (rows table : List PureRow) → AreFound net dest rows
-    → BestFirst net dest table → Optimal net dest table → AllByRecursion (IsRowOf net) table → AreFound net (dest + 1) (rows ++ table)
-found_more net dest rows table f b o r =
-    let n = f.number in record {
-      tables = f.tables ++ table ∷ [];
-      are = one_more net 0 f.tables table f.are (rw (zero-add, n) b) (rw (zero-add, n) o);
-      number = omega (arith, length-append f.tables (table ∷ []));
-      joined = ap (λ x. x ++ table) f.joined ∙ sym (joined_more f.tables table);
-      rows_in = all_append (IsRowOf net) rows table f.rows_in r;
-    }
+rows_from : (net : PureNet) → Laws net → (dest : ℕ) (tables : List DestTable) → dest + length tables ≤ length net.dests → link.AreTablesFrom net dest tables
+    → AllByRecursion (IsRowOf net) (joined_rows (map rows_of tables))
+rows_from net laws dest [] within h = tt
+rows_from net laws dest (t ∷ ts) within h =
+    all_append (IsRowOf net) (rows_of t) (joined_rows (map rows_of ts)) (laws.rows dest (rows_of t) (omega arith) h.0.best_first)
+    (rows_from net laws (dest + 1) ts (omega arith) h.1)
+
+pub rows_on : (net : PureNet) → Laws net → (tables : List DestTable) → link.AreTablesOf net tables → AllByRecursion (IsRowOf net) (joined_rows (map rows_of tables))
+rows_on net laws tables h = rows_from net laws 0 tables (omega (arith, h.count)) h.tables_from
+
+-- one table more
+pub joined_more : (tables : List (List PureRow)) (table : List PureRow) → joined_rows (tables ++ table ∷ []) ≡ joined_rows tables ++ table
+joined_more [] table = append-nil table
+joined_more (t ∷ ts) table = ap (λ x. t ++ x) (joined_more ts table) ∙ sym (append_assoc t (joined_rows ts) table)
+
+-- the rows of one table more
+pub joined_next : (rows more : List RouteRow) (tables : List DestTable) (table : DestTable) → map pure_row rows ≡ joined_rows (map rows_of tables) → more ≡ table.rows
+    → map pure_row (rows ++ more) ≡ joined_rows (map rows_of (tables ++ table ∷ []))
+joined_next rows more tables table e f =
+    rw (f, map-append, map-append, e) (sym (joined_more (map rows_of tables) (rows_of table)))

@@ -1,5 +1,5 @@
 -- Texts that are written a line at a time.
-use Rattle.std.proofs.Common.{◌≡◌, ◌≢◌, ◌<◌, ℕ, ◌+◌, ◌≤◌, ◌++◌, List, length, take, drop, arith, refl, sym, ap, ◌∙◌, append_assoc, inl, inr, ⊎_elim, [], append-nil, length-append, ◌∷◌, map, get_or, zero, suc, subst}
+use Rattle.std.proofs.Common.{◌≡◌, ◌≢◌, ◌<◌, ℕ, ◌+◌, ◌++◌, List, length, take, drop, arith, refl, sym, ap, ◌∙◌, append_assoc, inl, inr, ⊎_elim, [], append-nil, length-append, ◌∷◌, map, get_or, zero, suc, subst}
 use Rattle.std.proofs.Math.Seq.{take-append-add}
 use Rattle.std.proofs.lemmas.List.{take_all, take-append-le, at_drop_more}
 use Rattle.std.specs.List.{AllByRecursion}
@@ -13,7 +13,7 @@ use Rattle.net_graph.specs.Views.{pure_row}
 use Rattle.net_graph.specs.RowTexts.{IsRowOf, row_text}
 use Rattle.net_graph.specs.declared.route.RouteRow.{RouteRow}
 use Rattle.meta_base.specs.Sink.{Held, Appended, AppendedPart}
-use Rattle.report_text.specs.Refusals.{PureRefusal, words, expr, network, lacks, read, long, memory}
+use Rattle.report_text.specs.Refusals.{words, expr, network, lacks, read, long, memory}
 use Rattle.report_text.specs.VerdictTexts.{verdict_text, lines_on}
 use Rattle.metacli.specs.Answers.{PureAnswer, done, refused, write_fault}
 use Rattle.metacli.specs.Texts.{Written, rows_text}

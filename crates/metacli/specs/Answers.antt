@@ -1,9 +1,10 @@
 -- What answers stand for, and their statuses.
 use Rattle.std.specs.Prelude.{ℕ}
-use Rattle.report_text.specs.Refusals.{PureRefusal, words, expr, network, read, long, memory}
-use Rattle.metacli.specs.Words.{words_fault_number}
+use Rattle.alg_classes.specs.Instances.{pure_instance}
+use Rattle.report_text.specs.Refusals.{PureRefusal, words, expr, network, lacks, read, long, memory}
+use Rattle.command_words.specs.Words.{words_fault_number}
 use Rattle.metacli.specs.declared.ended.Answer.{Answer}
-use Rattle.metacli.specs.declared.ended.Answer.TheVariants.{Done, BadWords, BadExpr, BadNet, ReadFault, WriteFault, NoMemory, TooLong}
+use Rattle.metacli.specs.declared.ended.Answer.TheVariants.{Done, BadWords, BadExpr, BadNet, Lacks, ReadFault, WriteFault, NoMemory, TooLong}
 use Rattle.metacli.specs.declared.outcome.Stop.{Stop}
 use Rattle.metacli.specs.declared.outcome.Stop.TheVariants as stop
 
@@ -18,6 +19,7 @@ pure_answer Done = done
 pure_answer (BadWords f) = refused (words (words_fault_number f))
 pure_answer (BadExpr f) = refused (expr f)
 pure_answer (BadNet f) = refused (network f)
+pure_answer (Lacks arc x) = refused (lacks arc.0 (pure_instance x))
 pure_answer (ReadFault w) = refused (read w)
 pure_answer WriteFault = write_fault
 pure_answer NoMemory = refused memory
@@ -36,6 +38,7 @@ status_of Done = 0
 status_of (BadWords f) = 1
 status_of (BadExpr f) = 2
 status_of (BadNet f) = 2
+status_of (Lacks arc x) = 3
 status_of (ReadFault w) = 5
 status_of WriteFault = 6
 status_of NoMemory = 7

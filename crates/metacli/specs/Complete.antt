@@ -6,17 +6,17 @@ use Rattle.meta_base.specs.Shelf.{Moment}
 use Rattle.meta_base.specs.declared.limits.TheConstants.{MAX_FILE_BYTES}
 use Rattle.alg_model.specs.Expressions.{PureAlg}
 use Rattle.raml_syntax.specs.ExprText.{ExprText, IsExprFault}
-use Rattle.raml_syntax.specs.Plain.{IsPlainAdd}
 use Rattle.raml_syntax.specs.declared.faults.ExprFault.{ExprFault}
-use Rattle.topology_file.specs.NetText.{PureNetFile, NetText, IsNetFault}
+use Rattle.net_graph.specs.Nets.{PureNet}
+use Rattle.topology_file.specs.NetText.{PureNetFile, NetText, IsNetFault, changed_net}
 use Rattle.topology_file.specs.declared.faults.NetFault.{NetFault}
 use Rattle.report_text.specs.Refusals.{expr, network, memory}
 use Rattle.metacli.specs.Answers.{PureAnswer, done, refused}
-use Rattle.metacli.specs.Words.{Words}
-use Rattle.metacli.specs.Outcome.{PureOutcome, answer_in, unserved, word_at}
-use Rattle.metacli.specs.declared.words.Command.{Command}
-use Rattle.metacli.specs.declared.words.Command.TheVariants.{Check, Route}
-use Rattle.metacli.specs.declared.words.WordsFault.{WordsFault}
+use Rattle.command_words.specs.Words.{Words}
+use Rattle.metacli.specs.Outcome.{PureOutcome, answer_in, IsFit, word_at}
+use Rattle.command_words.specs.declared.command.Command.{Command}
+use Rattle.command_words.specs.declared.command.Command.TheVariants.{Check, Route}
+use Rattle.command_words.specs.declared.command.WordsFault.{WordsFault}
 
 -- this was decided, or memory was refused
 abbrev pub IsUnlessMemory : PureOutcome → PureAnswer → Type 0
@@ -33,23 +33,22 @@ pub record IsJudged (bytes : List ℕ) (Follows : PureAlg → Type 0) (o : PureO
   pub bad : (f : ExprFault) → IsExprFault bytes f → IsUnlessMemory o (refused (expr f))
   pub good : (a : PureAlg) → ExprText bytes a → Follows a
 
--- bytes that mean no network over the algebra are refused with their fault; a network is carried out
-pub record IsNetJudged (bytes : List ℕ) (o : PureOutcome) (a : PureAlg) : Type 0 where
+-- bytes that mean no network over the algebra are refused with their fault; a network that is fit is carried out
+pub record IsNetJudged (bytes : List ℕ) (Fits : PureNet → Type 0) (o : PureOutcome) (a : PureAlg) : Type 0 where
   pub bad : (f : NetFault) → IsNetFault bytes a f → IsUnlessMemory o (refused (network f))
-  pub good : (f : PureNetFile) → NetText bytes a f → IsUnlessMemory o done
+  pub good : (f : PureNetFile) → NetText bytes a f → Fits (changed_net f) → IsUnlessMemory o done
 
--- an algebra that isn't served is refused before the network file
-pub record IsServedAs (bytes : List ℕ) (o : PureOutcome) (a : PureAlg) : Type 0 where
-  pub served : IsPlainAdd a.expression → IsNetJudged bytes o a
-  pub other : ¬ IsPlainAdd a.expression → IsUnlessMemory o (refused (expr unserved))
+-- any network is fit for its labels to be decided on
+abbrev pub IsAny : PureNet → Type 0
+IsAny net = Unit {0}
 
 abbrev pub CompleteBy : List (List ℕ) → Moment → Moment → PureOutcome → Result Command WordsFault → Type 0
 CompleteBy words old new o (Ok (Check file None)) = (bytes : List ℕ) → IsTold old (word_at words file) bytes → ¬ HasRisen old.faults new.faults
     → IsJudged bytes (λ a. IsUnlessMemory o done) o
 CompleteBy words old new o (Ok (Check file (Some net))) = (bytes net_bytes : List ℕ) → IsTold old (word_at words file) bytes → IsTold old (word_at words net) net_bytes
-    → ¬ HasRisen old.faults new.faults → IsJudged bytes (IsNetJudged net_bytes o) o
+    → ¬ HasRisen old.faults new.faults → IsJudged bytes (IsNetJudged net_bytes IsAny o) o
 CompleteBy words old new o (Ok (Route file net workers)) = (bytes net_bytes : List ℕ) → IsTold old (word_at words file) bytes → IsTold old (word_at words net) net_bytes
-    → ¬ HasRisen old.faults new.faults → IsJudged bytes (IsServedAs net_bytes o) o
+    → ¬ HasRisen old.faults new.faults → IsJudged bytes (IsNetJudged net_bytes IsFit o) o
 CompleteBy words old new o (Err f) = Unit {0}
 
 abbrev pub IsComplete : List (List ℕ) → Moment → Moment → PureOutcome → Type 0

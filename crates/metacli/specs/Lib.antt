@@ -1,4 +1,3 @@
-pub mod Words
 pub mod Answers
 pub mod Views
 pub mod Reading
@@ -7,3 +6,4 @@ pub mod Complete
 pub mod Behind
 pub mod Texts
 pub mod Runs
+pub mod Found

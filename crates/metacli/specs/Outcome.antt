@@ -1,30 +1,29 @@
 -- What a run comes to, by its words, and the end that shows it.
-use Rattle.std.specs.Prelude.{◌≡◌, ℕ, ◌+◌, ◌⊎◌, List, [], ◌∷◌, ◌++◌, length, map, Option, Some, None, option_map, Result, Ok, Err, slice_index_or}
-use Rattle.std.specs.List.{AllByRecursion, Contains}
+use Rattle.std.specs.Prelude.{◌≡◌, ℕ, ◌+◌, List, [], ◌∷◌, ◌++◌, length, map, Option, Some, None, option_map, Result, Ok, Err, slice_index_or}
+use Rattle.std.specs.List.{Contains}
 use Rattle.meta_base.specs.Shelf.{Moment}
 use Rattle.alg_model.specs.declared.alg.TheConstants.{MAX_INSTANCE_NUMBER}
 use Rattle.alg_model.specs.Expressions.{PureAlg, PureLabel}
 use Rattle.alg_model.specs.Application.{IsLabel}
 use Rattle.alg_model.specs.Bounds.{greatest_number}
+use Rattle.alg_model.specs.Properties.{PureProperty, monotone, isotone}
 use Rattle.alg_model.specs.Verdicts.{PureVerdicts, ExactFor}
 use Rattle.alg_model.specs.Instances.{VerdictsAtMost}
 use Rattle.property_infer.specs.Views.{pure_verdicts}
-use Rattle.raml_syntax.specs.Plain.{IsPlainAdd}
-use Rattle.raml_syntax.specs.declared.faults.ExprFault.{ExprFault}
-use Rattle.raml_syntax.specs.declared.faults.ExprKind.TheVariants.{Unexpected}
 use Rattle.net_graph.specs.Nets.{PureNet, PureArc}
 use Rattle.net_graph.specs.Tables.{PureRow, BestFirst, Optimal}
 use Rattle.net_graph.specs.Changes.{PureChange}
 use Rattle.net_graph.specs.Views.{pure_change, pure_row}
 use Rattle.topology_file.specs.NetText.{PureNetFile, changed_net}
 use Rattle.report_text.specs.Refusals as refusal
-use Rattle.report_text.specs.Refusals.{PureRefusal, expr, memory}
+use Rattle.net_facts.specs.Lacks.{IsFirstLack, NetHasAll}
+use Rattle.report_text.specs.Refusals.{PureRefusal, lacks, memory}
 use Rattle.metacli.specs.Answers.{PureAnswer, done, refused, pure_answer}
 use Rattle.metacli.specs.Reading.{ReadsExpression, ReadsNetwork}
-use Rattle.metacli.specs.Words.{Words, words_fault_number}
-use Rattle.metacli.specs.declared.words.Command.{Command}
-use Rattle.metacli.specs.declared.words.Command.TheVariants.{Check, Route}
-use Rattle.metacli.specs.declared.words.WordsFault.{WordsFault}
+use Rattle.command_words.specs.Words.{Words, words_fault_number}
+use Rattle.command_words.specs.declared.command.Command.{Command}
+use Rattle.command_words.specs.declared.command.Command.TheVariants.{Check, Route}
+use Rattle.command_words.specs.declared.command.WordsFault.{WordsFault}
 use Rattle.metacli.specs.declared.ended.Ended.{Ended}
 
 -- What a run comes to before anything is written.
@@ -112,9 +111,19 @@ pub record AreRoutesOn (net : PureNet) (rows : List PureRow) : Type 0 where
   pub count : length tables ≡ length net.dests
   pub joined : rows ≡ joined_rows tables
 
--- what route comes to where all was read: the routes on the network behind its changes, unless memory is refused
+-- what link state asks of all labels, in the order in which it looks
+abbrev pub unbeaten_properties : List PureProperty
+unbeaten_properties = monotone ∷ isotone ∷ []
+
+-- the labels on all arcs have what link state asks
+abbrev pub IsFit : PureNet → Type 0
+IsFit = NetHasAll unbeaten_properties
+
+-- What route comes to where all was read, on the network behind its changes: the routes, where its labels are fit for
+-- them; else the first arc whose label isn't; unless memory is refused.
 abbrev pub IsRoutedAs : PureAlg → PureNetFile → PureOutcome → Type 0
-IsRoutedAs a file (routed b f rows) = (b ≡ a) × (f ≡ file) × AreRoutesOn (changed_net file) rows
+IsRoutedAs a file (routed b f rows) = (b ≡ a) × (f ≡ file) × IsFit (changed_net file) × AreRoutesOn (changed_net file) rows
+IsRoutedAs a file (stopped b f (lacks arc x)) = (b ≡ Some a) × (f ≡ Some file) × IsFirstLack unbeaten_properties (changed_net file) arc x
 IsRoutedAs a file (stopped b f memory) = (b ≡ Some a) × (f ≡ Some file)
 IsRoutedAs a file _ = ⊥
 
@@ -141,16 +150,6 @@ pub record WithNetwork (a : PureAlg) (name : List ℕ) (Then : PureNetFile → P
   pub reads : ReadsNetwork a name old network new
   pub goes_on : GoesOnOver a Then o network
 
--- how an algebra is refused that route doesn't serve yet: at its first byte
-abbrev pub unserved : ExprFault
-unserved = record { kind = Unexpected; place = record { line = 1; column = 1 } }
-
--- the network file is read over the algebra and then routed, if the algebra is served
-abbrev pub IsRoutedOver : List ℕ → PureAlg → Moment → Moment → PureOutcome → Type 0
-IsRoutedOver net a old new o =
-    (IsPlainAdd a.expression × WithNetwork a net (IsRoutedAs a) old new o)
-    ⊎ ((¬ IsPlainAdd a.expression) × (new ≡ old) × (o ≡ stopped None None (expr unserved)))
-
 -- all labels of the algebra are decided on
 abbrev pub IsAlgebraChecked : PureAlg → Moment → Moment → PureOutcome → Type 0
 IsAlgebraChecked a old new o = (new ≡ old) × IsCheckedAs a None (IsLabel a.expression) o
@@ -158,6 +157,10 @@ IsAlgebraChecked a old new o = (new ≡ old) × IsCheckedAs a None (IsLabel a.ex
 -- the network file is read over the algebra, and then the labels on its arcs are decided on, behind all changes
 abbrev pub IsNetworkChecked : List ℕ → PureAlg → Moment → Moment → PureOutcome → Type 0
 IsNetworkChecked net a = WithNetwork a net (λ f. IsCheckedAs a (Some f) (IsOnArc (changed_net f)))
+
+-- the network file is read over the algebra, and then its routes are found, behind all changes
+abbrev pub IsNetworkRouted : List ℕ → PureAlg → Moment → Moment → PureOutcome → Type 0
+IsNetworkRouted net a = WithNetwork a net (IsRoutedAs a)
 
 -- what check comes to on the expression file of that name, and on it and the network file of these names
 abbrev pub IsChecked : List ℕ → Moment → Moment → PureOutcome → Type 0
@@ -168,7 +171,7 @@ IsCheckedOn file net = WithAlgebra file (IsNetworkChecked net)
 
 -- what route comes to on the files of these names
 abbrev pub IsRouted : List ℕ → List ℕ → Moment → Moment → PureOutcome → Type 0
-IsRouted file net = WithAlgebra file (IsRoutedOver net)
+IsRouted file net = WithAlgebra file (IsNetworkRouted net)
 
 -- the word at a place
 abbrev pub word_at : List (List ℕ) → ℕ → List ℕ

@@ -1,11 +1,11 @@
 -- The printed text of what was decided, and what of it was written.
-use Rattle.std.specs.Prelude.{◌≡◌, ℕ, List, ◌++◌, map, Option, Some, None, take, option_map}
+use Rattle.std.specs.Prelude.{◌≡◌, ℕ, List, map, Option, take, option_map}
 use Rattle.std.specs.List.{concat, AllByRecursion}
 use Rattle.meta_base.specs.Sink.{Held, Appended, AppendedPart}
 use Rattle.net_graph.specs.Nets.{PureNet}
 use Rattle.net_graph.specs.Tables.{PureRow}
 use Rattle.net_graph.specs.RowTexts.{IsRowOf, row_text}
-use Rattle.topology_file.specs.NetText.{PureNetFile}
+use Rattle.topology_file.specs.NetText.{PureNetFile, changed_net}
 use Rattle.report_text.specs.VerdictTexts.{verdicts_text, CanPrintVerdicts}
 use Rattle.report_text.specs.Refusals.{memory, refusal_text, CanRefuse}
 use Rattle.metacli.specs.Answers.{PureAnswer, done, refused, write_fault}
@@ -15,19 +15,19 @@ use Rattle.metacli.specs.Outcome.{PureOutcome, stopped, checked, routed}
 abbrev pub rows_text : PureNet → List PureRow → List ℕ
 rows_text net rows = concat (map (row_text net) rows)
 
--- the network of a file, if there is one
-abbrev pub net_of : Option PureNetFile → Option PureNet
-net_of = option_map (λ (f : PureNetFile). f.net)
+-- the network of a file behind its changes, if there is one: the arc of a refusal is one of its arcs
+abbrev pub last_net : Option PureNetFile → Option PureNet
+last_net = option_map changed_net
 
 -- the text of what a command came to: verdicts, routes, or the one line of a refusal
 abbrev pub TextOf : PureOutcome → List ℕ
-TextOf (stopped a f r) = refusal_text r (net_of f)
+TextOf (stopped a f r) = refusal_text r (last_net f)
 TextOf (checked a f v) = verdicts_text a.expression v
 TextOf (routed a f rows) = rows_text f.net rows
 
 -- that text can be made
 abbrev pub IsPrintable : PureOutcome → Type 0
-IsPrintable (stopped a f r) = CanRefuse r (net_of f)
+IsPrintable (stopped a f r) = CanRefuse r (last_net f)
 IsPrintable (checked a f v) = CanPrintVerdicts a.expression v
 IsPrintable (routed a f rows) = AllByRecursion (IsRowOf f.net) rows
 

@@ -1,10 +1,14 @@
 -- What outcomes and results of the program stand for.
-use Rattle.std.specs.Prelude.{map, option_map, Result, Ok, Err}
+use Rattle.std.specs.Prelude.{◌≡◌, map, Some, option_map, Result, Ok, Err}
 use Rattle.net_graph.specs.Views.{pure_row}
 use Rattle.topology_file.specs.Views.{pure_file}
 use Rattle.property_infer.specs.Views.{pure_verdicts}
-use Rattle.report_text.specs.Refusals.{PureRefusal}
+use Rattle.alg_classes.specs.Instances.{pure_instance}
+use Rattle.topology_file.specs.NetText.{changed_net}
+use Rattle.metacli.specs.Behind.{last_of}
+use Rattle.report_text.specs.Refusals.{PureRefusal, lacks}
 use Rattle.metacli.specs.Answers.{pure_stop}
+use Rattle.metacli.specs.Texts.{IsPrintable}
 use Rattle.metacli.specs.Outcome.{PureOutcome, stopped, checked, routed}
 use Rattle.metacli.specs.declared.outcome.Stop.{Stop}
 use Rattle.metacli.specs.declared.outcome.Outcome.{Outcome}
@@ -12,8 +16,21 @@ use Rattle.metacli.specs.declared.outcome.Outcome.TheVariants as outcome
 
 abbrev pub pure_outcome : Outcome → PureOutcome
 pure_outcome (outcome.Stopped a f r) = stopped a (option_map pure_file f) (pure_stop r)
+pure_outcome (outcome.Lacking a f behind lack) = stopped (Some a) (Some (pure_file f)) (lacks lack.arc.0 (pure_instance lack.instance))
 pure_outcome (outcome.Checked a f v) = checked a (option_map pure_file f) (pure_verdicts v)
 pure_outcome (outcome.Routed a f rows) = routed a (pure_file f) (map pure_row rows)
+
+-- the network of an arc that lacks a property is that of the file behind its changes
+abbrev pub IsBehind : Outcome → Type 0
+IsBehind (outcome.Stopped a f r) = Unit {0}
+IsBehind (outcome.Lacking a f behind lack) = last_of behind f.net ≡ changed_net (pure_file f)
+IsBehind (outcome.Checked a f v) = Unit {0}
+IsBehind (outcome.Routed a f rows) = Unit {0}
+
+-- the text of the outcome can be made
+pub record CanBeWritten (o : Outcome) : Type 0 where
+  pub printable : IsPrintable (pure_outcome o)
+  pub behind : IsBehind o
 
 -- what was read, or why it wasn't
 abbrev pub as_read : {R S : Type 0} → (R → S) → Result R Stop → Result S PureRefusal

@@ -7,8 +7,7 @@ ghost use Rattle.topology_file.specs.Views.{pure_file};
 ghost use Rattle.topology_file.specs.NetText.{changed_net};
 ghost use Rattle.property_infer.specs.Views.{pure_verdicts};
 ghost use Rattle.metacli.specs.Outcome.{AreVerdictsOn, IsCheckedAs, IsOnArc};
-ghost use Rattle.metacli.specs.Texts.{IsPrintable};
-ghost use Rattle.metacli.specs.Views.{pure_outcome};
+ghost use Rattle.metacli.specs.Views.{CanBeWritten, pure_outcome};
 
 use crate::behind::{last_of, net_behind};
 use crate::outcome::{Outcome, Stop};
@@ -23,7 +22,7 @@ use topology_file::NetFile;
 /// What `check` comes to on an algebra.
 pub fn check(alloc: Global, alg: Alg) -> Outcome
     ensures checked { IsCheckedAs alg None (IsLabel alg.expression) (pure_outcome result) }
-    ensures printable { IsPrintable (pure_outcome result) }
+    ensures printable { CanBeWritten result }
 {
     match verdicts(alloc, &alg) {
         Ok(verdicts) => Outcome::Checked {
@@ -45,7 +44,7 @@ pub fn check_network(alloc: Global, alg: Alg, file: NetFile) -> Outcome
     requires changes { AreChanges file.net (map pure_change file.changes) }
     ensures checked { IsCheckedAs alg (Some (pure_file file))
         (IsOnArc (changed_net (pure_file file))) (pure_outcome result) }
-    ensures printable { IsPrintable (pure_outcome result) }
+    ensures printable { CanBeWritten result }
 {
     match verdicts_behind(alloc, &file) {
         Ok(verdicts) => Outcome::Checked {

@@ -2,15 +2,16 @@ ghost use Rattle.std.specs.Prelude.{◌≡◌};
 ghost use Rattle.metacli.specs.Answers.{status_of};
 
 use crate::{Command, WordsFault};
+use alg_classes::Instance;
 use alg_model::Alg;
-use meta_base::{List, Which};
+use meta_base::{ArcId, List, Which};
 use net_graph::{Change, Net, RouteRow};
 use property_infer::Verdicts;
 use raml_syntax::ExprFault;
 use topology_file::NetFault;
 
 /// How a run ended.
-#[derive(Clone, Copy, Debug, PartialEq, Eq)]
+#[derive(Debug, Drop)]
 pub enum Answer {
     /// The command was carried out.
     Done,
@@ -20,6 +21,9 @@ pub enum Answer {
     BadExpr(ExprFault),
     /// The bytes of the network file mean no network over the algebra.
     BadNet(NetFault),
+    /// The label of this arc, which is one of the network behind its changes, lacks a property that the command
+    /// needs of all labels; it is the first such arc, and the instance shows it.
+    Lacks { arc: ArcId, instance: Instance },
     /// The file could not be begun or read to its end.
     ReadFault(Which),
     /// The text could not be written to its end.
@@ -52,8 +56,8 @@ pub struct Ended {
     pub answer: Answer,
 }
 
-/// The status that the program ends with: 0 done, 1 bad words, 2 a bad expression or network, 5 a read fault, 6 a
-/// write fault, 7 out of memory, 8 a file that is too long.
+/// The status that the program ends with: 0 done, 1 bad words, 2 a bad expression or network, 3 a label that
+/// lacks a property, 5 a read fault, 6 a write fault, 7 out of memory, 8 a file that is too long.
 pub fn status(answer: &Answer) -> u8
     ensures { result ≡ status_of answer.now }
 {
@@ -61,6 +65,7 @@ pub fn status(answer: &Answer) -> u8
         Answer::Done => 0,
         Answer::BadWords(_) => 1,
         Answer::BadExpr(_) | Answer::BadNet(_) => 2,
+        Answer::Lacks { .. } => 3,
         Answer::ReadFault(_) => 5,
         Answer::WriteFault => 6,
         Answer::NoMemory => 7,

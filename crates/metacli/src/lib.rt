@@ -9,9 +9,8 @@ mod outcome;
 mod reading;
 mod routing;
 mod top;
-mod words;
 mod writing;
 
+pub use command_words::{Command, WordsFault, read_words};
 pub use ended::{Answer, Ended, status};
 pub use top::run_meta;
-pub use words::{Command, WordsFault, read_words};

@@ -1,15 +1,17 @@
 // What a run comes to before anything is written, and the end that shows it.
 ghost use Rattle.std.specs.Prelude.{◌≡◌, None};
 ghost use Rattle.metacli.specs.Answers.{pure_answer, pure_stop, refused};
-ghost use Rattle.metacli.specs.Outcome.{Shows, answer_in, stopped};
+ghost use Rattle.metacli.specs.Outcome.{Shows, stopped};
 ghost use Rattle.metacli.specs.declared.outcome.Stop.TheVariants.{Memory};
 ghost use Rattle.metacli.specs.Views.{pure_outcome};
-ghost use Rattle.report_text.specs.Refusals.{pure_refusal};
+ghost use Rattle.alg_classes.specs.Instances.{pure_instance};
+ghost use Rattle.report_text.specs.Refusals.{lacks, pure_refusal};
 
 use crate::{Answer, Command, Ended, WordsFault};
 use alg_model::Alg;
 use meta_base::{List, NoMemory, Which};
-use net_graph::RouteRow;
+use net_facts::Lack;
+use net_graph::{Net, RouteRow};
 use property_infer::Verdicts;
 use raml_syntax::ExprFault;
 use report_text::Refusal;
@@ -74,6 +76,13 @@ pub enum Outcome {
         file: Option<NetFile>,
         stop: Stop,
     },
+    /// An arc of the network behind its changes, which is `None` where there are none, has a label that isn't fit.
+    Lacking {
+        alg: Alg,
+        file: NetFile,
+        behind: Option<Net>,
+        lack: Lack,
+    },
     /// The verdicts on an algebra, or on the labels of a network over it.
     Checked {
         alg: Alg,
@@ -100,30 +109,31 @@ impl Outcome {
         }
     }
 
-    /// The answer before anything is written.
-    pub fn decided(&self) -> Answer
-        ensures { pure_answer result ≡ answer_in (pure_outcome self.now) }
-    {
-        match self {
-            Outcome::Stopped { stop, .. } => stop.answer(),
-            Outcome::Checked { .. } | Outcome::Routed { .. } => Answer::Done,
-        }
-    }
-
     /// The end that shows the outcome of the command, with this answer.
     pub fn ended(self, alloc: Global, command: Option<Command>, answer: Answer) -> Ended
         ensures shows { Shows result command (pure_outcome self) }
         ensures answer { result.answer ≡ answer }
     {
-        let decided = self.decided();
-        let (alg, file, verdicts, rows) = match self {
-            Outcome::Stopped { alg, file, .. } => (alg, file, None, List::new(alloc)),
+        let none = List::new(alloc);
+        let (alg, file, verdicts, rows, decided) = match self {
+            Outcome::Stopped { alg, file, stop } => (alg, file, None, none, stop.answer()),
+            Outcome::Lacking {
+                alg,
+                file,
+                behind,
+                lack,
+            } => {
+                drop(behind);
+                (Some(alg), Some(file), None, none, lack_answer(lack))
+            }
             Outcome::Checked {
                 alg,
                 file,
                 verdicts,
-            } => { (Some(alg), file, Some(verdicts), List::new(alloc)) }
-            Outcome::Routed { alg, file, rows } => (Some(alg), Some(file), None, rows),
+            } => (Some(alg), file, Some(verdicts), none, Answer::Done),
+            Outcome::Routed { alg, file, rows } => {
+                (Some(alg), Some(file), None, rows, Answer::Done)
+            }
         };
         let (net, changes) = match file {
             Some(NetFile { net, changes }) => (Some(net), changes),
@@ -139,5 +149,15 @@ impl Outcome {
             decided,
             answer,
         }
+    }
+}
+
+// The answer that says so.
+fn lack_answer(lack: Lack) -> Answer
+    ensures { pure_answer result ≡ refused (lacks lack.arc.0 (pure_instance lack.instance)) }
+{
+    Answer::Lacks {
+        arc: lack.arc,
+        instance: lack.instance,
     }
 }

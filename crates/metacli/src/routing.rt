@@ -1,34 +1,49 @@
 // What `route` decides.
 ghost use Rattle.std.specs.Prelude.{◌≡◌, IfOk, map};
 ghost use Rattle.std.specs.List.{AllByRecursion};
-ghost use Rattle.raml_syntax.specs.Plain.{IsPlainAdd};
+ghost use Rattle.link_state.specs.Tables.{AreTablesOf};
+ghost use Rattle.command_words.specs.Words.{AreWorkers};
 ghost use Rattle.net_graph.specs.Changes.{AreChanges};
-ghost use Rattle.net_graph.specs.Views.{pure_change, pure_row};
+ghost use Rattle.net_graph.specs.Views.{pure_change, pure_row, rows_of};
 ghost use Rattle.net_graph.specs.RowTexts.{IsRowOf};
 ghost use Rattle.topology_file.specs.Views.{pure_file};
 ghost use Rattle.topology_file.specs.NetText.{changed_net};
-ghost use Rattle.metacli.specs.Outcome.{AreRoutesOn, IsRoutedAs};
-ghost use Rattle.metacli.specs.Texts.{IsPrintable};
-ghost use Rattle.metacli.specs.Views.{pure_outcome};
+ghost use Rattle.metacli.specs.Behind.{last_of};
+ghost use Rattle.metacli.specs.Outcome.{AreRoutesOn, IsFit, IsRoutedAs, joined_rows};
+ghost use Rattle.metacli.specs.Found.{IsFoundOn};
+ghost use Rattle.metacli.specs.Views.{CanBeWritten, pure_outcome};
 
 use crate::behind::{last_of, net_behind};
 use crate::outcome::{Outcome, Stop};
+use alg_classes::Property;
 use alg_model::{Alg, TreeAlgebra};
-use best_first::{best_first_is_optimal, best_first_rows_are_the_networks, solve};
-use meta_base::{DestId, List, NoMemory};
-use net_graph::{Net, RouteRow};
-use std::alloc::Global;
+use best_first::{best_first_is_optimal, best_first_rows_are_the_networks};
+use link_state::all_tables;
+use meta_base::{List, NoMemory};
+use net_facts::{Lack, first_lack};
+use net_graph::{DestTable, Net, RouteRow};
+use std::alloc::{AllocGlobal, Global};
+use std::thread::Threads;
 use topology_file::NetFile;
 
-/// What `route` comes to on a network over the algebra, behind all its changes.
-pub fn route(alloc: Global, alg: Alg, file: NetFile) -> Outcome
-    requires plain { IsPlainAdd file.net.alg.expression }
+// What link state asks of all labels, in the order in which it looks.
+const UNBEATEN: [Property; 2] = [Property::Monotone, Property::Isotone];
+
+/// What `route` comes to on a network over the algebra, behind all its changes, with so many workers.
+pub fn route<R: AllocGlobal + Threads + Sync>(
+    rt: &R,
+    alg: Alg,
+    file: NetFile,
+    workers: u32,
+) -> Outcome
+    requires workers { AreWorkers workers }
+    requires over { file.net.alg ≡ alg }
     requires changes { AreChanges file.net (map pure_change file.changes) }
     ensures routed { IsRoutedAs alg (pure_file file) (pure_outcome result) }
-    ensures printable { IsPrintable (pure_outcome result) }
+    ensures printable { CanBeWritten result }
 {
-    match routes_behind(alloc, &file) {
-        Ok(rows) => Outcome::Routed { alg, file, rows },
+    match found_behind(rt, &file, workers) {
+        Ok((behind, found)) => outcome_of(alg, file, behind, found),
         Err(NoMemory) => Outcome::Stopped {
             alg: Some(alg),
             file: Some(file),
@@ -37,34 +52,90 @@ pub fn route(alloc: Global, alg: Alg, file: NetFile) -> Outcome
     }
 }
 
-// The routes of all nodes on the network behind all its changes: for each destination in order, the rows of
-// the table that is made best first, which no walk beats, since labels of an additive algebra are monotone
-// and isotone.
-fn routes_behind(alloc: Global, file: &NetFile) -> Result<List<RouteRow>, NoMemory>
-    requires plain { IsPlainAdd file.now.net.alg.expression }
-    requires changes { AreChanges file.now.net (map pure_change file.now.changes) }
-    ensures routes { IfOk result (λ rows. AreRoutesOn (changed_net (pure_file file.now)) (map pure_row rows)) }
-    ensures rows { IfOk result (λ rows. AllByRecursion (IsRowOf file.now.net) (map pure_row rows)) }
+// The outcome of what was found on the network behind the file's changes.
+fn outcome_of(
+    alg: Alg,
+    file: NetFile,
+    behind: Option<Net>,
+    found: Result<List<RouteRow>, Lack>,
+) -> Outcome
+    requires over { file.net.alg ≡ alg }
+    requires behind { last_of behind file.net ≡ changed_net (pure_file file) }
+    requires found { IsFoundOn (changed_net (pure_file file)) found }
+    ensures routed { IsRoutedAs alg (pure_file file) (pure_outcome result) }
+    ensures printable { CanBeWritten result }
 {
-    let behind = net_behind(alloc, &file.net, file.changes.as_slice())?;
-    all_routes(alloc, last_of(&behind, &file.net))
+    match found {
+        Ok(rows) => {
+            drop(behind);
+            Outcome::Routed { alg, file, rows }
+        }
+        Err(lack) => Outcome::Lacking {
+            alg,
+            file,
+            behind,
+            lack,
+        },
+    }
 }
 
-// The routes of all nodes for all destinations.
-fn all_routes(alloc: Global, net: &Net) -> Result<List<RouteRow>, NoMemory>
-    requires { IsPlainAdd net.now.alg.expression }
+// The network behind all changes, where there are any, and what is found on it.
+fn found_behind<R: AllocGlobal + Threads + Sync>(
+    rt: &R,
+    file: &NetFile,
+    workers: u32,
+) -> Result<(Option<Net>, Result<List<RouteRow>, Lack>), NoMemory>
+    requires workers { AreWorkers workers }
+    requires changes { AreChanges file.now.net (map pure_change file.now.changes) }
+    ensures behind { IfOk result (λ found. last_of found.0 file.now.net ≡ changed_net (pure_file file.now)) }
+    ensures found { IfOk result (λ found. IsFoundOn (changed_net (pure_file file.now)) found.1) }
+{
+    let behind = net_behind(rt.alloc(), &file.net, file.changes.as_slice())?;
+    let found = found_on(rt, last_of(&behind, &file.net), workers)?;
+    Ok((behind, found))
+}
+
+// The routes of a network whose labels are fit for them, or else the first that isn't.
+fn found_on<R: AllocGlobal + Threads + Sync>(
+    rt: &R,
+    net: &Net,
+    workers: u32,
+) -> Result<Result<List<RouteRow>, Lack>, NoMemory>
+    requires { AreWorkers workers }
+    ensures { IfOk result (IsFoundOn net.now) }
+{
+    match first_lack(rt.alloc(), net, &UNBEATEN)? {
+        Some(lack) => Ok(Err(lack)),
+        None => Ok(Ok(all_routes(rt, net, workers)?)),
+    }
+}
+
+// The routes of all nodes for all destinations. What is made best first is beaten by no walk where labels are
+// monotone and isotone.
+fn all_routes<R: AllocGlobal + Threads + Sync>(
+    rt: &R,
+    net: &Net,
+    workers: u32,
+) -> Result<List<RouteRow>, NoMemory>
+    requires workers { AreWorkers workers }
+    requires fit { IsFit net.now }
     ensures routes { IfOk result (λ rows. AreRoutesOn net.now (map pure_row rows)) }
     ensures rows { IfOk result (λ rows. AllByRecursion (IsRowOf net.now) (map pure_row rows)) }
 {
-    // What is made best first is beaten by no walk, and its rows can be printed.
     best_first_is_optimal();
     best_first_rows_are_the_networks();
     let algebra = TreeAlgebra::new(net.alg());
+    let tables = all_tables(rt, &algebra, net, workers)?;
+    joined(rt.alloc(), tables)
+}
+
+// The rows of all tables, one table after another.
+fn joined(alloc: Global, tables: List<DestTable>) -> Result<List<RouteRow>, NoMemory>
+    ensures { IfOk result (λ rows. map pure_row rows ≡ joined_rows (map rows_of tables)) }
+{
     let mut rows = Vec::new(alloc);
-    for dest in 0..net.dest_count() {
-        let table = solve(alloc, &algebra, net, DestId(dest as u32))?;
-        let mut found = table.rows.into_vec();
-        rows.append(&mut found)?;
+    for table in tables.into_vec() {
+        rows.append(&mut table.rows.into_vec())?;
     }
     Ok(List::from_vec(rows))
 }

@@ -1,8 +1,8 @@
 ghost use Rattle.std.specs.Prelude.{◌≡◌, ◌<◌, length, Some, None};
 ghost use Rattle.metacli.specs.Outcome.{ComesTo, IsChecked, IsCheckedOn, IsRouted, word_at};
+ghost use Rattle.command_words.specs.Words.{AreWorkers};
 ghost use Rattle.metacli.specs.Runs.{Runs};
-ghost use Rattle.metacli.specs.Texts.{IsPrintable};
-ghost use Rattle.metacli.specs.Views.{pure_outcome};
+ghost use Rattle.metacli.specs.Views.{CanBeWritten, pure_outcome};
 
 use crate::checking::{check, check_network};
 use crate::outcome::{Outcome, Stop};
@@ -10,12 +10,10 @@ use crate::reading::{read_expression, read_network};
 use crate::routing::route;
 use crate::writing::write;
 use crate::{Command, Ended, read_words};
-use meta_base::{Gate, Place, Shelf, Sink, Text};
-use raml_syntax::{
-    ExprFault, ExprKind, is_plain_add, no_fault_beside_an_algebra, one_text_one_algebra,
-    one_text_one_fault,
-};
-use std::alloc::Global;
+use meta_base::{Gate, Shelf, Sink, Text};
+use raml_syntax::{no_fault_beside_an_algebra, one_text_one_algebra, one_text_one_fault};
+use std::alloc::{AllocGlobal, Global};
+use std::thread::Threads;
 use topology_file::one_text_one_network;
 
 /// All that the program does: it reads what the words mean, reads the files that they name, decides,
@@ -24,7 +22,7 @@ use topology_file::one_text_one_network;
 /// What comes back says all that was read, decided and answered, and the bytes written are the text of
 /// that. Each refusal has its cause, and where the words mean a command, the file is in the grammar
 /// and no fault came, the command is carried out unless memory is refused.
-pub fn run_meta<R: AllocGlobal, S: Shelf, K: Sink, G: Gate>(
+pub fn run_meta<R: AllocGlobal + Threads + Sync, S: Shelf, K: Sink, G: Gate>(
     rt: &R,
     words: &[Text],
     shelf: &mut S,
@@ -39,16 +37,21 @@ pub fn run_meta<R: AllocGlobal, S: Shelf, K: Sink, G: Gate>(
     no_fault_beside_an_algebra();
     one_text_one_network();
     let alloc = rt.alloc();
-    let (command, outcome) = decide(alloc, words, shelf);
+    let (command, outcome) = decide(rt, words, shelf);
     let answer = write(alloc, out, &outcome);
     outcome.ended(alloc, command, answer)
 }
 
 // The command of the words, and what it comes to.
-fn decide<S: Shelf>(alloc: Global, words: &[Text], shelf: &mut S) -> (Option<Command>, Outcome)
+fn decide<R: AllocGlobal + Threads + Sync, S: Shelf>(
+    rt: &R,
+    words: &[Text],
+    shelf: &mut S,
+) -> (Option<Command>, Outcome)
     ensures comes_to { ComesTo words.now (S.now_is shelf.old) (S.now_is shelf.new) result.0 (pure_outcome result.1) }
-    ensures printable { IsPrintable (pure_outcome result.1) }
+    ensures printable { CanBeWritten result.1 }
 {
+    let alloc = rt.alloc();
     let command = match read_words(words) {
         Ok(command) => command,
         Err(fault) => return (None, Outcome::refused(Stop::Words(fault))),
@@ -59,9 +62,13 @@ fn decide<S: Shelf>(alloc: Global, words: &[Text], shelf: &mut S) -> (Option<Com
             file,
             net: Some(net),
         } => check_files(alloc, shelf, name_at(words, file), name_at(words, net)),
-        Command::Route { file, net, .. } => {
-            route_files(alloc, shelf, name_at(words, file), name_at(words, net))
-        }
+        Command::Route { file, net, workers } => route_files(
+            rt,
+            shelf,
+            name_at(words, file),
+            name_at(words, net),
+            workers,
+        ),
     };
     (Some(command), outcome)
 }
@@ -77,7 +84,7 @@ fn name_at(words: &[Text], place: usize) -> &str
 // What `check` comes to on the expression file of that name.
 fn check_file<S: Shelf>(alloc: Global, shelf: &mut S, file: &str) -> Outcome
     ensures checked { IsChecked file.now (S.now_is shelf.old) (S.now_is shelf.new) (pure_outcome result) }
-    ensures printable { IsPrintable (pure_outcome result) }
+    ensures printable { CanBeWritten result }
 {
     match read_expression(alloc, shelf, file) {
         Ok(alg) => check(alloc, alg),
@@ -88,7 +95,7 @@ fn check_file<S: Shelf>(alloc: Global, shelf: &mut S, file: &str) -> Outcome
 // What `check` comes to on the expression file and the network file of these names.
 fn check_files<S: Shelf>(alloc: Global, shelf: &mut S, file: &str, net: &str) -> Outcome
     ensures checked { IsCheckedOn file.now net.now (S.now_is shelf.old) (S.now_is shelf.new) (pure_outcome result) }
-    ensures printable { IsPrintable (pure_outcome result) }
+    ensures printable { CanBeWritten result }
 {
     let alg = match read_expression(alloc, shelf, file) {
         Ok(alg) => alg,
@@ -104,24 +111,25 @@ fn check_files<S: Shelf>(alloc: Global, shelf: &mut S, file: &str, net: &str) ->
     }
 }
 
-// How an algebra is refused that `route` doesn't serve yet.
-const UNSERVED: ExprFault = ExprFault {
-    kind: ExprKind::Unexpected,
-    place: Place { line: 1, column: 1 },
-};
-
-// What `route` comes to on the files of these names.
-fn route_files<S: Shelf>(alloc: Global, shelf: &mut S, file: &str, net: &str) -> Outcome
+// What `route` comes to on the files of these names, with so many workers.
+fn route_files<R: AllocGlobal + Threads + Sync, S: Shelf>(
+    rt: &R,
+    shelf: &mut S,
+    file: &str,
+    net: &str,
+    workers: u32,
+) -> Outcome
+    requires { AreWorkers workers }
     ensures routed { IsRouted file.now net.now (S.now_is shelf.old) (S.now_is shelf.new) (pure_outcome result) }
-    ensures printable { IsPrintable (pure_outcome result) }
+    ensures printable { CanBeWritten result }
 {
+    let alloc = rt.alloc();
     let alg = match read_expression(alloc, shelf, file) {
-        Ok(alg) if is_plain_add(&alg) => alg,
-        Ok(_) => return Outcome::refused(Stop::Expr(UNSERVED)),
+        Ok(alg) => alg,
         Err(stop) => return Outcome::refused(stop),
     };
     match read_network(alloc, shelf, &alg, net) {
-        Ok(file) => route(alloc, alg, file),
+        Ok(file) => route(rt, alg, file, workers),
         Err(stop) => Outcome::Stopped {
             alg: Some(alg),
             file: None,

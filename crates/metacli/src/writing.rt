@@ -1,37 +1,45 @@
 // Writing the text of what a run came to, a line at a time.
-ghost use Rattle.std.specs.Prelude.{◌≡◌, ◌≢◌, map, option_map, IfOk};
+ghost use Rattle.std.specs.Prelude.{◌≡◌, ◌≢◌, Option, Some, map, option_map, IfOk};
 ghost use Rattle.std.specs.List.{AllByRecursion};
-ghost use Rattle.alg_classes.specs.Instances.{pure_property};
+ghost use Rattle.alg_classes.specs.Instances.{pure_instance, pure_property};
+ghost use Rattle.alg_model.specs.Views.{pure_value};
+ghost use Rattle.net_graph.specs.Nets.{PureNet};
 ghost use Rattle.net_graph.specs.Views.{pure_row};
 ghost use Rattle.net_graph.specs.RowTexts.{IsRowOf};
 ghost use Rattle.property_infer.specs.Views.{pure_verdicts};
 ghost use Rattle.report_text.specs.VerdictTexts.{CanPrintVerdicts, lines_on};
-ghost use Rattle.report_text.specs.Refusals.{CanRefuse, refusal_text};
-ghost use Rattle.topology_file.specs.Views.{pure_file};
+ghost use Rattle.report_text.specs.Refusals.{CanLack, lacks, lacks_text, refusal_text};
 ghost use Rattle.metacli.specs.Answers.{pure_answer, pure_stop, done, refused, write_fault};
 ghost use Rattle.metacli.specs.Outcome.{answer_in};
-ghost use Rattle.metacli.specs.Texts.{IsPrintable, TextOf, Written, net_of, rows_text};
-ghost use Rattle.metacli.specs.Views.{pure_outcome};
+ghost use Rattle.metacli.specs.Texts.{TextOf, Written, rows_text};
+ghost use Rattle.metacli.specs.Views.{CanBeWritten, pure_outcome};
 
 use crate::Answer;
+use crate::behind::last_of;
 use crate::outcome::{Outcome, Stop};
-use alg_classes::Property;
-use alg_model::Alg;
+use alg_classes::{Instance, Property};
+use alg_model::{Alg, Value};
 use meta_base::{Failed, NoMemory, Sink, Text, put_all};
+use net_facts::Lack;
 use net_graph::{Net, RouteRow};
 use property_infer::Verdicts;
-use report_text::{refusal_line, row_line, verdict_line};
+use report_text::{lacks_line, refusal_line, row_line, verdict_line};
 use std::alloc::Global;
-use topology_file::NetFile;
 
 /// Writes the text of what a run came to, and answers how that went.
 pub fn write<K: Sink>(alloc: Global, out: &mut K, outcome: &Outcome) -> Answer
-    requires { IsPrintable (pure_outcome outcome.now) }
+    requires { CanBeWritten outcome.now }
     ensures { Written (K.holds out.old) (TextOf (pure_outcome outcome.now)) (K.holds out.new)
         (answer_in (pure_outcome outcome.now)) (pure_answer result) }
 {
     match outcome {
-        Outcome::Stopped { file, stop, .. } => write_refusal(alloc, out, *stop, file),
+        Outcome::Stopped { stop, .. } => write_refusal(alloc, out, *stop),
+        Outcome::Lacking {
+            file,
+            behind,
+            lack,
+            ..
+        } => write_lack(alloc, out, last_of(behind, &file.net), lack),
         Outcome::Checked { alg, verdicts, .. } => {
             write_verdicts(alloc, out, alg, verdicts, &Property::ALL)
         }
@@ -39,30 +47,80 @@ pub fn write<K: Sink>(alloc: Global, out: &mut K, outcome: &Outcome) -> Answer
     }
 }
 
-// Writes the line of a refusal. That there was no memory is said without any.
-fn write_refusal<K: Sink>(alloc: Global, out: &mut K, stop: Stop, file: &Option<NetFile>) -> Answer
-    requires { CanRefuse (pure_stop stop) (net_of (option_map pure_file file.now)) }
-    ensures { Written (K.holds out.old) (refusal_text (pure_stop stop) (net_of (option_map pure_file file.now)))
-        (K.holds out.new) (refused (pure_stop stop)) (pure_answer result) }
+// Writes the line of a refusal, which needs no network. That there was no memory is said without any.
+fn write_refusal<K: Sink>(alloc: Global, out: &mut K, stop: Stop) -> Answer
+    ensures { (net : Option PureNet) → Written (K.holds out.old) (refusal_text (pure_stop stop) net) (K.holds out.new)
+        (refused (pure_stop stop)) (pure_answer result) }
 {
     if let Stop::Memory = stop {
         return write_line(out, b"out of memory\n", Answer::NoMemory);
     }
-    match stop_line(alloc, stop, file) {
+    match stop_line(alloc, stop) {
         Ok(line) => write_line(out, line.as_str().as_bytes(), stop.answer()),
         Err(NoMemory) => Answer::NoMemory,
     }
 }
 
 // The line of a refusal.
-fn stop_line(alloc: Global, stop: Stop, file: &Option<NetFile>) -> Result<Text, NoMemory>
-    requires { CanRefuse (pure_stop stop) (net_of (option_map pure_file file.now)) }
-    ensures { IfOk result (λ text.
-        text ≡ refusal_text (pure_stop stop) (net_of (option_map pure_file file.now))) }
+fn stop_line(alloc: Global, stop: Stop) -> Result<Text, NoMemory>
+    ensures { (net : Option PureNet) → IfOk result (λ text. text ≡ refusal_text (pure_stop stop) net) }
 {
-    match file {
-        Some(file) => refusal_line(alloc, &stop.refusal(), Some(&file.net)),
-        None => refusal_line(alloc, &stop.refusal(), None),
+    let refusal = stop.refusal();
+    let line = refusal_line(alloc, &refusal, None);
+    drop(refusal);
+    line
+}
+
+// Writes the line of an arc whose label lacks a property. Memory for the answer is taken before.
+fn write_lack<K: Sink>(alloc: Global, out: &mut K, net: &Net, lack: &Lack) -> Answer
+    requires { CanLack lack.now.arc.0 (pure_instance lack.now.instance) (Some net.now) }
+    ensures { Written (K.holds out.old) (lacks_text lack.now.arc.0 (pure_instance lack.now.instance) (Some net.now))
+        (K.holds out.new) (refused (lacks lack.now.arc.0 (pure_instance lack.now.instance))) (pure_answer result) }
+{
+    match lack_line(alloc, net, lack) {
+        Ok((line, answer)) => write_line(out, line.as_str().as_bytes(), answer),
+        Err(NoMemory) => Answer::NoMemory,
+    }
+}
+
+// The line, and the answer that says the same.
+fn lack_line(alloc: Global, net: &Net, lack: &Lack) -> Result<(Text, Answer), NoMemory>
+    requires { CanLack lack.now.arc.0 (pure_instance lack.now.instance) (Some net.now) }
+    ensures line { IfOk result (λ said.
+        said.0 ≡ lacks_text lack.now.arc.0 (pure_instance lack.now.instance) (Some net.now)) }
+    ensures answer { IfOk result (λ said.
+        pure_answer said.1 ≡ refused (lacks lack.now.arc.0 (pure_instance lack.now.instance))) }
+{
+    let line = lacks_line(alloc, net, lack.arc, &lack.instance)?;
+    let instance = copy_instance(alloc, &lack.instance)?;
+    Ok((
+        line,
+        Answer::Lacks {
+            arc: lack.arc,
+            instance,
+        },
+    ))
+}
+
+// An equal instance.
+fn copy_instance(alloc: Global, instance: &Instance) -> Result<Instance, NoMemory>
+    ensures { IfOk result (λ copied. pure_instance copied ≡ pure_instance instance.now) }
+{
+    Ok(Instance {
+        property: instance.property,
+        label: instance.label.copy(alloc)?,
+        first: instance.first.copy(alloc)?,
+        second: copy_second(alloc, &instance.second)?,
+    })
+}
+
+// The same of a value, if there is one.
+fn copy_second(alloc: Global, second: &Option<Value>) -> Result<Option<Value>, NoMemory>
+    ensures { IfOk result (λ copied. option_map pure_value copied ≡ option_map pure_value second.now) }
+{
+    match second {
+        Some(value) => Ok(Some(value.copy(alloc)?)),
+        None => Ok(None),
     }
 }
 

@@ -7,6 +7,6 @@ mod refusals;
 mod rows;
 mod verdicts;
 
-pub use refusals::{Refusal, refusal_line};
+pub use refusals::{Refusal, lacks_line, refusal_line};
 pub use rows::row_line;
 pub use verdicts::{verdict_line, verdict_lines};

@@ -80,7 +80,14 @@ fn push_arc(out: &mut String, net: &Net, arc: ArcId) -> Result<(), NoMemory>
     push_node(out, net, arc.head)
 }
 
-fn lacks_line(alloc: Global, net: &Net, arc: ArcId, instance: &Instance) -> Result<Text, NoMemory>
+/// The one line of an arc of the network whose label lacks a property, which the instance shows: it names the
+/// listener and then the speaker. It is refused for want of memory alone.
+pub fn lacks_line(
+    alloc: Global,
+    net: &Net,
+    arc: ArcId,
+    instance: &Instance,
+) -> Result<Text, NoMemory>
     requires arc { arc.0 < length net.now.arcs }
     requires instance { CanPrint net.now.alg.expression (pure_instance instance.now) }
     ensures { IfOk result (λ text. text ≡ refusal_text (lacks arc.0 (pure_instance instance.now)) (Some net.now)) }

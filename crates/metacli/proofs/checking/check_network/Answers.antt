@@ -7,5 +7,8 @@ use Rattle.metacli.proofs.checking.check_network.Goals as goal
 
 pub returns-in-Ok-clause-printable : goal.returns-in-Ok-clause-printable
 returns-in-Ok-clause-printable c =
-    subst (λ (a : PureAlg). CanPrintVerdicts a.expression (pure_verdicts c.in-Ok.verdicts)) c.requires.over
-    (printable c.args.file.net.alg _ (pure_verdicts c.in-Ok.verdicts) c.in-Ok.ensures.exact c.in-Ok.ensures.bound)
+    record {
+      printable = subst (λ (a : PureAlg). CanPrintVerdicts a.expression (pure_verdicts c.in-Ok.verdicts)) c.requires.over
+          (printable c.args.file.net.alg _ (pure_verdicts c.in-Ok.verdicts) c.in-Ok.ensures.exact c.in-Ok.ensures.bound);
+      behind = tt;
+    }

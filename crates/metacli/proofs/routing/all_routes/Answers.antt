@@ -1,17 +1,27 @@
-use Rattle.std.proofs.Common.{◌<◌, length, arith}
-use Rattle.std.proofs.lemmas.List.{map-append}
-use Rattle.net_graph.specs.Views.{rows_of}
-use Rattle.metacli.proofs.Found.{found_more, net_monotone, net_isotone}
+use Rattle.std.proofs.Common.{subst, sym}
+use Rattle.std.proofs.lemmas.Result.{IfOk-weaker}
+use Rattle.std.specs.List.{AllByRecursion}
+use Rattle.net_graph.specs.RowTexts.{IsRowOf}
+use Rattle.metacli.specs.Outcome.{AreRoutesOn}
+use Rattle.metacli.proofs.Found.{Laws, routes_on, rows_on}
 use Rattle.metacli.proofs.routing.all_routes.Goals as goal
 
-pub loop-dest-preserved : goal.loop-dest-preserved
-loop-dest-preserved c =
+pub returns-clause-routes : goal.returns-clause-routes
+returns-clause-routes g c =
     let net = c.args.net.now in
-    let dest = c.loop-dest.dest in
-    let table = rows_of c.in_ok-table.table in
-    let is_net = c.dest_count-dest-end.ensures.net in
-    let within : dest < length net.dests = omega (arith, c.loop-dest-test.true, c.dest_count-dest-end.ensures.count) in
-    let best = c.in_ok-table.ensures.rows in
-    let optimal = c.best_first_is_optimal.ensures net dest table is_net (net_monotone net c.requires is_net) (net_isotone net c.requires is_net) best in
-    rw (c.in_ok-append.ensures.items, c.into_vec-found.ensures, map-append)
-    (found_more net dest _ table c.loop-dest.invariant best optimal (c.best_first_rows_are_the_networks.ensures net dest table is_net within best))
+    let is_net = c.alg.ensures.net in
+    let laws : Laws net = record {
+      optimal = λ dest t best. c.best_first_is_optimal.ensures net dest t is_net c.requires.fit.0 c.requires.fit.1.0 best;
+      rows = λ dest t within best. c.best_first_rows_are_the_networks.ensures net dest t is_net within best;
+    } in
+    IfOk-weaker c.joined.result _ _ (λ rows h. subst (AreRoutesOn net) (sym h) (routes_on net laws c.in_ok-tables.tables c.in_ok-tables.ensures.tables)) c.joined.ensures
+
+pub returns-clause-rows : goal.returns-clause-rows
+returns-clause-rows g c =
+    let net = c.args.net.now in
+    let is_net = c.alg.ensures.net in
+    let laws : Laws net = record {
+      optimal = λ dest t best. c.best_first_is_optimal.ensures net dest t is_net c.requires.fit.0 c.requires.fit.1.0 best;
+      rows = λ dest t within best. c.best_first_rows_are_the_networks.ensures net dest t is_net within best;
+    } in
+    IfOk-weaker c.joined.result _ _ (λ rows h. subst (AllByRecursion (IsRowOf net)) (sym h) (rows_on net laws c.in_ok-tables.tables c.in_ok-tables.ensures.tables)) c.joined.ensures

@@ -3,7 +3,7 @@ use Rattle.metacli.specs.Answers.{pure_answer}
 use Rattle.metacli.specs.Outcome.{ComesTo, Shows, answer_in}
 use Rattle.metacli.specs.Texts.{TextOf, Written}
 use Rattle.metacli.specs.Views.{pure_outcome}
-use Rattle.metacli.specs.Words.{Words}
+use Rattle.command_words.specs.Words.{Words}
 use Rattle.metacli.proofs.Completeness.{Laws, complete}
 use Rattle.metacli.proofs.top.run_meta.Goals as goal
 

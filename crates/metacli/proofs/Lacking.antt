@@ -1,0 +1,13 @@
+-- The first arc of a network whose label lacks what is asked can be told of.
+use Rattle.std.proofs.Common.{ℕ, List, Some}
+use Rattle.alg_model.specs.Properties.{PureProperty}
+use Rattle.alg_model.specs.Verdicts.{PureInstance}
+use Rattle.net_facts.specs.Lacks.{IsFirstLack}
+use Rattle.net_facts.specs.LackLaws.{lack_is_small}
+use Rattle.net_graph.specs.Nets.{PureNet}
+use Rattle.report_text.specs.Refusals.{CanLack}
+
+pub can_lack : (properties : List PureProperty) (net : PureNet) (k : ℕ) (x : PureInstance) → IsFirstLack properties net k x → CanLack k x (Some net)
+can_lack properties net k x h =
+    let small = lack_is_small properties net k x h in
+    (small.0, record { is_of = h.violates.is_of; bound = small.1 })

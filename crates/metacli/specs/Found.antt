@@ -1,0 +1,17 @@
+-- What is found on a network: its routes, or the first arc whose label isn't fit for them.
+use Rattle.std.specs.Prelude.{List, map, Some, Result, Ok, Err}
+use Rattle.std.specs.List.{AllByRecursion}
+use Rattle.alg_classes.specs.Instances.{pure_instance}
+use Rattle.net_facts.specs.Lacks.{IsFirstLack}
+use Rattle.net_facts.specs.declared.lack.Lack.{Lack}
+use Rattle.net_graph.specs.Nets.{PureNet}
+use Rattle.net_graph.specs.RowTexts.{IsRowOf}
+use Rattle.net_graph.specs.Views.{pure_row}
+use Rattle.net_graph.specs.declared.route.RouteRow.{RouteRow}
+use Rattle.report_text.specs.Refusals.{CanLack}
+use Rattle.metacli.specs.Outcome.{AreRoutesOn, IsFit, unbeaten_properties}
+
+-- rows that can be printed, or an instance that can
+abbrev pub IsFoundOn : PureNet → Result (List RouteRow) Lack → Type 0
+IsFoundOn net (Ok rows) = IsFit net × AreRoutesOn net (map pure_row rows) × AllByRecursion (IsRowOf net) (map pure_row rows)
+IsFoundOn net (Err lack) = IsFirstLack unbeaten_properties net lack.arc.0 (pure_instance lack.instance) × CanLack lack.arc.0 (pure_instance lack.instance) (Some net)
