@@ -1,13 +1,13 @@
 // Tests of `raml_syntax`: expression files that are read and printed, and those that are refused, with
 // the places of their faults.
-use crate::readers::algebra_of_file;
 use alg_model::Tree;
 use meta_base::MAX_FILE_BYTES;
 use raml_syntax::ExprKind::*;
-use raml_syntax::{AlgError, ExprFault, ExprKind, is_plain_add, print_alg, read_alg};
+use raml_syntax::{AlgError, ExprFault, ExprKind, print_alg, read_alg};
 use std::alloc::Global;
 use std::process::Abort;
 use std::test::Fail;
+use test_readers::algebra_of_file;
 
 // The fault of a text that means no algebra.
 fn fault_of(alloc: Global, text: &[u8]) -> Option<ExprFault> {
@@ -161,55 +161,42 @@ fn tables(rt: HostRuntime) -> Result<(), Fail> {
     Ok(())
 }
 
-// Whether the file's algebra is printed so, and is a single `add` or none.
-fn is_printed(alloc: Global, file: &[u8], expected: &str, is_plain: bool) -> Result<bool, Fail> {
+// Whether the file's algebra is printed so.
+fn is_printed(alloc: Global, file: &[u8], expected: &str) -> Result<bool, Fail> {
     let alg = algebra_of_file(alloc, file)?;
-    let is_as_plain = is_plain_add(&alg) == is_plain;
     let text = print_alg(alloc, &alg);
     drop(alg);
-    Ok(text?.as_str() == expected && is_as_plain)
+    Ok(text?.as_str() == expected)
 }
 
 #[test]
 fn printed_files(rt: HostRuntime) -> Result<(), Fail> {
-    let cases: &[(&[u8], &str, bool)] = &[
-        (
-            b"main add(1..4294967295);",
-            "main add(1..4294967295);\n",
-            true,
-        ),
+    let cases: &[(&[u8], &str)] = &[
+        (b"main add(1..4294967295);", "main add(1..4294967295);\n"),
         // `none` is reserved only in tables.
-        (
-            b"let none = gate; # a name\nmain none;",
-            "main gate;\n",
-            false,
-        ),
+        (b"let none = gate; # a name\nmain none;", "main gate;\n"),
         (
             b"main lex(width(100; 0..100), add(1..10));",
             "main lex(width(100;0..100),add(1..10));\n",
-            false,
         ),
         (
             b"main table { o < a = d; D: d -> a, o -> d; N: none };",
             "main table{o<a=d;D:o->d,d->a;N:none};\n",
-            false,
         ),
-        (b"raml 1; main gate;", "main gate;\n", false),
-        (b"raml 02; main gate;", "raml 2;main gate;\n", false),
-        (b"let raml = gate; main raml;", "main gate;\n", false),
+        (b"raml 1; main gate;", "main gate;\n"),
+        (b"raml 02; main gate;", "raml 2;main gate;\n"),
+        (b"let raml = gate; main raml;", "main gate;\n"),
         (
             b"raml 2; main add(1..4294967296);",
             "raml 2;main add(1..4294967296);\n",
-            true,
         ),
         (
             b"raml 2; main add(1..18446744073709551615);",
             "raml 2;main add(1..18446744073709551615);\n",
-            true,
         ),
     ];
-    for (text, expected, is_plain) in cases {
-        assert!(rt; is_printed(rt.alloc(), *text, *expected, *is_plain)?);
+    for (text, expected) in cases {
+        assert!(rt; is_printed(rt.alloc(), *text, *expected)?);
     }
     Ok(())
 }

@@ -1,16 +1,17 @@
-//! The tests of the crates below `metacli`, a file for each, so that none is proved a second time with its
-//! tests. They show what no clause says: that calls succeed, that what is printed is what the formats say,
-//! and that threads really pass things on. It stands on every library that it tests.
+//! The tests of the crates below `metacli` that `algebra_tests` leaves, a file for each, so that none is
+//! proved a second time with its tests. They show what no clause says: that calls succeed, that what is
+//! printed is what the formats say, and that threads really pass things on. It stands on every library that
+//! it tests.
 #![tactic(auto)]
 
 #[cfg(test)]
-mod algebras;
-#[cfg(test)]
 mod book;
 #[cfg(test)]
-mod classes;
-#[cfg(test)]
 mod expressions;
+#[cfg(test)]
+mod facts;
+#[cfg(test)]
+mod frontiers;
 #[cfg(test)]
 mod links;
 #[cfg(test)]
@@ -20,8 +21,6 @@ mod networks;
 #[cfg(test)]
 mod outside;
 #[cfg(test)]
-mod properties;
-#[cfg(test)]
-mod readers;
+mod paths;
 #[cfg(test)]
 mod tokens;

@@ -1,5 +1,4 @@
 // Tests of `sig_text`: literals that are read and printed again, and those that are refused.
-use crate::readers::{algebra, algebra_of_file};
 use alg_model::{Alg, Amount};
 use meta_base::Text;
 use sig_text::LitFault::{BadText, NotALabel, NotInCarrier};
@@ -8,6 +7,7 @@ use sig_text::{
 };
 use std::alloc::Global;
 use std::test::Fail;
+use test_readers::{algebra, algebra_of_file};
 
 // The value that the text spells, printed again, or the fault of the text.
 fn value_again(alloc: Global, alg: &Alg, text: &str) -> Result<Result<Text, LitFault>, Fail> {

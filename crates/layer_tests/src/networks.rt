@@ -4,13 +4,13 @@ ghost use Rattle.std.specs.Prelude.{map};
 ghost use Rattle.net_graph.specs.Changes.{AreChanges};
 ghost use Rattle.net_graph.specs.Views.{pure_change};
 
-use crate::readers::{algebra, algebra_of_file, network};
 use alg_model::{Label, Value};
 use meta_base::{ArcId, DestId, List, MAX_FILE_BYTES, NoMemory, NodeId};
 use net_graph::{Change, DestTable, Net, NetDraft, Route};
 use sig_text::LitFault::{BadText, NotALabel};
 use std::alloc::Global;
 use std::test::Fail;
+use test_readers::{algebra, algebra_of_file, network};
 use topology_file::NetKind::*;
 use topology_file::{NetError, NetFault, NetKind, What, read_net};
 

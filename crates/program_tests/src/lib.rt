@@ -1,9 +1,13 @@
-//! The tests of the whole program, from words and files to what is printed, and of the adapters to the
-//! system. They stand apart from those of the layers, so that both are proved at once. It stands on
-//! `metacli`, `host_io` and the words of `meta_base`.
+//! The tests of the whole program, from words and files to what is printed, of the workers that find its
+//! routes, and of the adapters to the system. They stand apart from those of the layers, so that all are proved
+//! at once. It stands on `metacli`, `link_state` and `host_io`.
 #![tactic(auto)]
 
 #[cfg(test)]
 mod host;
 #[cfg(test)]
 mod program;
+#[cfg(test)]
+mod routes;
+#[cfg(test)]
+mod tables;

@@ -2,20 +2,21 @@
 use meta_base::{
     List, MAX_FILE_BYTES, MemFile, MemShelf, MemSink, NoMemory, OpenGate, Shelf, Sink, Text,
 };
-use metacli::{run_meta, status};
+use metacli::{Command, read_words, run_meta, status};
 use std::alloc::Global;
 use std::str;
 use std::test::Fail;
+use std::thread::Threads;
 
-// What a run over memory came to: its status, and the bytes that were taken.
+/// What a run over memory came to: its status, and the bytes that were taken.
 #[derive(Drop)]
-struct Outcome {
-    status: u8,
-    taken: Vec<u8>,
+pub struct Outcome {
+    pub status: u8,
+    pub taken: Vec<u8>,
 }
 
-// Whether the run wrote this text, and ended with this status.
-fn ended_with(outcome: Outcome, text: &[u8], status: u8) -> bool {
+/// Whether the run wrote this text, and ended with this status.
+pub fn ended_with(outcome: Outcome, text: &[u8], status: u8) -> bool {
     outcome.taken.as_slice() == text && outcome.status == status
 }
 
@@ -36,7 +37,7 @@ fn list_of<T: Copy>(alloc: Global, items: &[T]) -> Result<List<T>, NoMemory> {
 
 // The status of a run. It promises nothing of what was taken, so tests are quick to prove.
 fn status_of_run<S: Shelf, K: Sink>(
-    rt: &impl AllocGlobal,
+    rt: &(impl AllocGlobal + Threads + Sync),
     words: &[Text],
     shelf: &mut S,
     out: &mut K,
@@ -48,7 +49,11 @@ fn status_of_run<S: Shelf, K: Sink>(
 }
 
 // A run of these words.
-fn run_around(rt: &impl AllocGlobal, words: &[&str], around: Around) -> Result<Outcome, Fail> {
+fn run_around(
+    rt: &(impl AllocGlobal + Threads + Sync),
+    words: &[&str],
+    around: Around,
+) -> Result<Outcome, Fail> {
     let alloc = rt.alloc();
     let mut files = List::new(alloc);
     files.push(MemFile {
@@ -74,12 +79,21 @@ fn run_around(rt: &impl AllocGlobal, words: &[&str], around: Around) -> Result<O
 }
 
 // A run of these words without a fault.
-fn run(rt: &impl AllocGlobal, words: &[&str], file: &[u8]) -> Result<Outcome, Fail> {
+fn run(
+    rt: &(impl AllocGlobal + Threads + Sync),
+    words: &[&str],
+    file: &[u8],
+) -> Result<Outcome, Fail> {
     run_on(rt, words, file, b"")
 }
 
-// The same with a network.
-fn run_on(rt: &impl AllocGlobal, words: &[&str], file: &[u8], net: &[u8]) -> Result<Outcome, Fail> {
+/// The same with a network.
+pub fn run_on(
+    rt: &(impl AllocGlobal + Threads + Sync),
+    words: &[&str],
+    file: &[u8],
+    net: &[u8],
+) -> Result<Outcome, Fail> {
     run_around(
         rt,
         words,
@@ -125,19 +139,94 @@ fn strict_fails_on_zero(rt: HostRuntime) -> Result<(), Fail> {
     Ok(())
 }
 
+// Each fault of words, by its number. A fault is looked for only where the words have none of those in front of
+// it: no command, an unknown one, a bad flag, a wrong count, a bad number.
 #[test]
 fn words_are_refused(rt: HostRuntime) -> Result<(), Fail> {
-    let none: &[&str] = &[];
-    for words in [
-        none,
-        &["walk", "f"],
-        &["check"],
-        &["check", "f", "n", "n"],
-        &["route", "f"],
-        &["route", "f", "n", "n"],
-    ] {
-        let outcome = run(&rt, words, b"main add(1..10);")?;
-        assert!(rt; ended_with(outcome, b"words refused: C2\n", 1));
+    let refused: &[(&[u8], &[&[&str]])] = &[
+        (b"words refused: C1\n", &[&[]]),
+        (
+            b"words refused: C2\n",
+            &[&["walk", "f"], &["--help"], &["Check", "f"], &[""]],
+        ),
+        (
+            b"words refused: C3\n",
+            &[
+                &["check"],
+                &["check", "a", "b", "c"],
+                &["route", "f"],
+                &["route", "f", "n", "n"],
+                &["route", "f", "n", "--workers"],
+                &["route", "f", "--workers", "n"],
+                &["route", "f", "--workers", "x"],
+            ],
+        ),
+        (
+            b"words refused: C4\n",
+            &[
+                &["route", "f", "n", "--workers", "0"],
+                &["route", "f", "n", "--workers", "17"],
+                &["route", "f", "n", "--workers", "x"],
+                &["route", "f", "n", "--workers", ""],
+                &["route", "f", "n", "--workers", "+4"],
+                &["route", "f", "n", "--workers", "000000000000000000004"],
+                &["route", "f", "n", "--workers", "99999999999999999999"],
+                &["route", "f", "--workers", "--workers", "n"],
+            ],
+        ),
+        (
+            b"words refused: C5\n",
+            &[
+                &["route", "f", "n", "--workers=4"],
+                &["route", "f", "n", "--"],
+                &["route", "--"],
+                &["route", "f", "n", "--workers", "2", "--workers", "3"],
+                &["route", "f", "n", "--workers", "2", "--workers"],
+                &["check", "f", "--workers", "2"],
+            ],
+        ),
+    ];
+    for (text, lists) in refused {
+        for words in *lists {
+            let outcome = run(&rt, *words, b"main add(1..10);")?;
+            assert!(rt; ended_with(outcome, *text, 1), "{words:?}");
+        }
+    }
+    Ok(())
+}
+
+// Whether the words mean this command.
+fn words_mean(alloc: Global, words: &[&str], command: Command) -> Result<bool, Fail> {
+    let mut texts = Vec::new(alloc);
+    for word in words {
+        texts.push(Text::copy(alloc, *word)?)?;
+    }
+    Ok(read_words(&texts) == Ok(command))
+}
+
+// The places of the files are told from the arguments, wherever flags and their values stand.
+#[test]
+fn words_mean_commands(rt: HostRuntime) -> Result<(), Fail> {
+    let route = |file, net, workers| Command::Route { file, net, workers };
+    let meant: &[(&[&str], Command)] = &[
+        (&["check", "f"], Command::Check { file: 1, net: None }),
+        (
+            &["check", "f", "n"],
+            Command::Check {
+                file: 1,
+                net: Some(2),
+            },
+        ),
+        (&["route", "f", "n"], route(1, 2, 4)),
+        (&["route", "--workers", "2", "f", "n"], route(3, 4, 2)),
+        (&["route", "f", "--workers", "16", "n"], route(1, 4, 16)),
+        (
+            &["route", "f", "n", "--workers", "00000000000000000001"],
+            route(1, 2, 1),
+        ),
+    ];
+    for (words, command) in meant {
+        assert!(rt; words_mean(rt.alloc(), *words, *command)?, "{words:?}");
     }
     Ok(())
 }
@@ -169,20 +258,6 @@ fn expressions_are_refused(rt: HostRuntime) -> Result<(), Fail> {
     Ok(())
 }
 
-// `route` doesn't serve an algebra that isn't one `add` yet, and doesn't begin the network file; a fault comes first.
-#[test]
-fn other_algebras_are_not_routed(rt: HostRuntime) -> Result<(), Fail> {
-    let refused: &[(&[u8], &[u8])] = &[
-        (b"raml 2; main gate;", b"expression refused: X2 at 1:1\n"),
-        (b"main gate;", b"expression refused: X2 at 1:1\n"),
-        (b"main gate", b"expression refused: X3 at 1:10\n"),
-    ];
-    for (file, text) in refused {
-        assert!(rt; ended_with(run(&rt, &["route", "f", "m"], *file)?, *text, 2));
-    }
-    Ok(())
-}
-
 const PROPERTIES: [&str; 5] = ["monotone", "strict", "isotone", "cancellative", "total"];
 
 // Whether the five lines say of each property that it holds, where it is marked `y`, and else deny it with an
@@ -203,7 +278,7 @@ fn has_said(outcome: Outcome, marks: &str, lines: &str) -> Result<bool, Fail> {
     Ok(outcome.status == 0 && says(text, marks)? && text.contains(lines))
 }
 
-const CUSTOMERS: &[u8] = b"let rel = table {
+pub const CUSTOMERS: &[u8] = b"let rel = table {
   c < r < p;
   C: c -> c;
   R: c -> r;
@@ -211,7 +286,7 @@ const CUSTOMERS: &[u8] = b"let rel = table {
 };
 main lex(rel, add(1..1));";
 
-const BAD_GADGET: &[u8] = b"main table { o < a < d; D: o -> d; N: d -> a };";
+pub const BAD_GADGET: &[u8] = b"main table { o < a < d; D: o -> d; N: d -> a };";
 
 const BAD_LINES: &str = "monotone no: N on d gives a\nstrict no: N on d gives a\n";
 
@@ -297,7 +372,11 @@ fn long_files(rt: HostRuntime) -> Result<(), Fail> {
 }
 
 // A run of `check` on the file of this name, where that call of the shelf fails.
-fn run_failing(rt: &impl AllocGlobal, name: &str, call: u64) -> Result<Outcome, Fail> {
+fn run_failing(
+    rt: &(impl AllocGlobal + Threads + Sync),
+    name: &str,
+    call: u64,
+) -> Result<Outcome, Fail> {
     let around = Around {
         file: b"main add(1..10);",
         net: b"",
@@ -335,72 +414,6 @@ fn writing_fails(rt: HostRuntime) -> Result<(), Fail> {
         let text = ALL_HOLD.get(..*length).unwrap_or_default();
         assert!(rt; ended_with(outcome, text, 6));
     }
-    Ok(())
-}
-
-// Two ways from a to d that are equally good: the one by the smaller node number is taken.
-const DIAMOND: &[u8] =
-    b"node a b c d\nlink a b : 1\nlink a c : 1\nlink b d : 1\nlink c d : 1\norigin x at d : 0\n";
-
-const DIAMOND_ROUTES: &[u8] = b"a x 2 a b d\nb x 1 b d\nc x 1 c d\nd x 0 d\n";
-
-// Two ways from a to c that are equally good: the shorter one is taken. From d there is none.
-const TRIANGLE: &[u8] =
-    b"node a b c d\nlink a b : 1\nlink b c : 1\nlink a c : 2\norigin x at c : 0\n";
-
-const TRIANGLE_ROUTES: &[u8] = b"a x 2 a c\nb x 1 b c\nc x 0 c\nd x none\n";
-
-// An arc each way. From c there is none.
-const BOTH_WAYS: &[u8] = b"node a b c\nboth a b : 3\norigin x at b : 0\n";
-
-const BOTH_WAYS_ROUTES: &[u8] = b"a x 3 a b\nb x 0 b\nc x none\n";
-
-// Routes are those of the network behind all its changes.
-const CHANGED: &[u8] = b"node a b c
-link a b : 1
-link b c : 1
-link a c : 5
-origin x at c : 0
-then link a b : 9
-then drop a c
-";
-
-const CHANGED_ROUTES: &[u8] = b"a x 10 a b c\nb x 1 b c\nc x 0 c\n";
-
-#[test]
-fn routes_are_found(rt: HostRuntime) -> Result<(), Fail> {
-    let cases: &[(&[u8], &[u8])] = &[
-        (DIAMOND, DIAMOND_ROUTES),
-        (TRIANGLE, TRIANGLE_ROUTES),
-        (BOTH_WAYS, BOTH_WAYS_ROUTES),
-        (CHANGED, CHANGED_ROUTES),
-        (b"node a\norigin x at a : 0\n", b"a x 0 a\n"),
-        (b"", b""),
-    ];
-    for (net, routes) in cases {
-        let outcome = run_on(&rt, &["route", "f", "n"], b"main add(1..10);", *net)?;
-        assert!(rt; ended_with(outcome, *routes, 0));
-    }
-    Ok(())
-}
-
-// In profile 2 a label may be as great as a word of 64 bits, and sums pass it.
-const WIDE: &[u8] = b"node a b c
-link a b : 18446744073709551615
-link b c : 18446744073709551615
-origin x at c : 18446744073709551615
-";
-
-const WIDE_ROUTES: &[u8] = b"a x 55340232221128654845 a b c
-b x 36893488147419103230 b c
-c x 18446744073709551615 c
-";
-
-#[test]
-fn sums_pass_a_word(rt: HostRuntime) -> Result<(), Fail> {
-    let file = b"raml 2; main add(1..18446744073709551615);";
-    let outcome = run_on(&rt, &["route", "f", "n"], file, WIDE)?;
-    assert!(rt; ended_with(outcome, WIDE_ROUTES, 0));
     Ok(())
 }
 

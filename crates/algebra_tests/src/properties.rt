@@ -5,7 +5,6 @@ ghost use Rattle.alg_model.specs.Bounds.{LabelAtMost, greatest_number};
 ghost use Rattle.alg_model.specs.Views.{pure_label};
 
 use crate::algebras::{image_text, order_of};
-use crate::readers::algebra;
 use alg_classes::{Profile, Property};
 use alg_model::{Alg, Label};
 use meta_base::NoMemory;
@@ -14,6 +13,7 @@ use sig_text::read_label;
 use std::alloc::Global;
 use std::cmp::Ordering;
 use std::test::Fail;
+use test_readers::algebra;
 
 // An algebra, values of its carrier, all of them where it has at most a dozen, and all its labels.
 const SMALL_ALGEBRAS: &str = "add(0..1) | 0 1 2 3 | 0 1

@@ -2,7 +2,7 @@ use Rattle.alg_model.specs.declared.edition.TheConstants.{MAX_LABEL_NUMBER}
 use Rattle.alg_model.specs.Bounds.{greatest_number}
 use Rattle.alg_model.specs.Laws.{label_at_most_more, greatest_is_bounded}
 use Rattle.alg_model.specs.Views.{pure_label}
-use Rattle.layer_tests.proofs.algebras.image_text.Goals as goal
+use Rattle.algebra_tests.proofs.algebras.image_text.Goals as goal
 
 pub apply-image-requires-clause-small_label : goal.apply-image-requires-clause-small_label
 apply-image-requires-clause-small_label c =

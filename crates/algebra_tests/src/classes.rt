@@ -1,6 +1,5 @@
 // Tests of the crates of classes: how many classes the labels of an algebra fall into, and that the calls
 // which make them succeed.
-use crate::readers::algebra;
 use alg_classes::{Class, ClassList};
 use alg_model::{Alg, Carrier, Label, Tree, Value};
 use base_classes::{base_class, base_class_list};
@@ -10,6 +9,7 @@ use scoped_classes::{inner_class, outer_class, scoped_class_list};
 use std::alloc::Global;
 use std::test::Fail;
 use table_classes::{table_class, table_class_list};
+use test_readers::algebra;
 use union_classes::{
     const_class, keep_class, left_class_list, plus_class_list, plus_first_class, plus_second_class,
     right_class_list, sum_class, sum_class_list, union_class_list, union_first_class,

@@ -9,7 +9,6 @@ ghost use Rattle.alg_model.specs.Carriers.{carrier_of, In};
 ghost use Rattle.alg_model.specs.Application.{IsLabel};
 ghost use Rattle.alg_model.specs.Bounds.{AtMost, LabelAtMost};
 
-use crate::readers::algebra;
 use alg_model::{
     Alg, Algebra, Carrier, Edition, Label, Shape, Tree, TreeAlgebra, Value, apply, carrier_of,
     label_in, order, same_carrier, value_in,
@@ -19,6 +18,7 @@ use sig_text::{print_value, read_label, read_value};
 use std::alloc::Global;
 use std::cmp::Ordering;
 use std::test::Fail;
+use test_readers::algebra;
 
 /// The text of what the label makes of the value, or `None` where it prohibits it.
 #[tactic(auto, using(alg_model::specs::BoundLaws::at_most_more))]

@@ -1,5 +1,8 @@
-// What the tests read their algebras and networks from: texts, by functions that promise nothing, so
-// that no test sees the contracts of the readers.
+//! What the crates of tests read their algebras and networks from: texts, by functions that promise nothing, so
+//! that no test's proof sees the contracts of the readers. It stands on the readers, and on no crate that it
+//! helps to test beyond them.
+#![tactic(auto)]
+
 use alg_model::Alg;
 use meta_base::MAX_FILE_BYTES;
 use net_graph::Net;

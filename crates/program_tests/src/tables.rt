@@ -1,0 +1,128 @@
+// Tests of `link_state`: that the tables of all destinations are found, the same by any number of workers.
+use alg_model::{Amount, TreeAlgebra, Value};
+use link_state::{MAX_WORKERS, all_tables};
+use meta_base::{List, NodeId};
+use net_graph::{DestTable, Net, RouteRow};
+use std::alloc::{AllocGlobal, Global};
+use std::test::Fail;
+use std::thread::Threads;
+use test_readers::network;
+
+// The tables of the network, found by so many workers.
+fn tables_by<R: AllocGlobal + Threads + Sync>(
+    rt: &R,
+    net: &Net,
+    workers: u32,
+) -> Result<List<DestTable>, Fail> {
+    if workers == 0 || workers > MAX_WORKERS {
+        return Err("there are 1 to 16 workers".into());
+    }
+    Ok(all_tables(rt, &TreeAlgebra::new(net.alg()), net, workers)?)
+}
+
+// The value of a route, and the numbers of the nodes of its path.
+type Found = (Amount, &'static [u32]);
+
+fn is_path(path: &[NodeId], nodes: &[u32]) -> bool {
+    path.len() == nodes.len()
+        && path
+            .iter()
+            .zip(nodes)
+            .all(|(node, number)| node.0 == *number)
+}
+
+fn is_row(row: &RouteRow, found: Found) -> bool {
+    let (value, nodes) = found;
+    match &row.route {
+        Some(route) => {
+            matches!(&route.value, Value::Number(number) if *number == value)
+                && is_path(route.path.as_slice(), nodes)
+        }
+        None => false,
+    }
+}
+
+fn is_table(table: &DestTable, dest: usize, rows: &[Found]) -> bool {
+    for (row, found) in table.rows.as_slice().iter().zip(rows) {
+        if !is_row(row, *found) {
+            return false;
+        }
+    }
+    table.dest.0 as usize == dest && table.rows.as_slice().len() == rows.len()
+}
+
+fn are_tables(tables: &[DestTable], expected: &[&[Found]]) -> bool {
+    for (dest, table) in tables.iter().enumerate() {
+        if dest >= expected.len() || !is_table(table, dest, expected[dest]) {
+            return false;
+        }
+    }
+    tables.len() == expected.len()
+}
+
+const SQUARE: &[u8] = b"node a b c d\n\
+both a b : 1\nboth b d : 1\nboth a c : 2\nboth c d : 0\n\
+origin x at d : 0\norigin y at a : 3\norigin z at b : 1\n";
+
+// Two ways from a to x weigh the same, and so do two from d to y.
+const SQUARE_TABLES: &[&[Found]] = &[
+    &[(2, &[0, 1, 3]), (1, &[1, 3]), (0, &[2, 3]), (0, &[3])],
+    &[(3, &[0]), (4, &[1, 0]), (5, &[2, 0]), (5, &[3, 1, 0])],
+    &[(2, &[0, 1]), (1, &[1]), (2, &[2, 3, 1]), (2, &[3, 1])],
+];
+
+// Whether so many workers find those tables.
+fn find_tables<R: AllocGlobal + Threads + Sync>(
+    rt: &R,
+    net: &Net,
+    workers: u32,
+) -> Result<bool, Fail> {
+    let tables = tables_by(rt, net, workers)?;
+    Ok(are_tables(tables.as_slice(), SQUARE_TABLES))
+}
+
+#[test]
+fn workers_find_the_same_tables(rt: HostRuntime) -> Result<(), Fail> {
+    let net = network(rt.alloc(), "add(0..9)", SQUARE)?;
+    for workers in [1, 2, 3, 16] {
+        assert!(rt; find_tables(&rt, &net, workers)?, "by {workers} workers");
+    }
+    Ok(())
+}
+
+// One node, and so many destinations there, each with its number for its value.
+fn many_dests(alloc: Global, count: usize) -> Result<Net, Fail> {
+    let mut text = Vec::from_slice(alloc, b"node a\n")?;
+    for dest in 0..count {
+        let line = format!(in alloc; "origin d{dest} at a : {dest}\n")?;
+        text.extend_from_slice(line.as_bytes())?;
+    }
+    network(alloc, "add(0..9)", &text)
+}
+
+// Whether so many workers find the tables of so many destinations, in order.
+fn find_in_order<R: AllocGlobal + Threads + Sync>(
+    rt: &R,
+    dests: usize,
+    workers: u32,
+) -> Result<bool, Fail> {
+    let net = many_dests(rt.alloc(), dests)?;
+    let tables = tables_by(rt, &net, workers)?;
+    for (dest, table) in tables.as_slice().iter().enumerate() {
+        if !is_table(table, dest, &[(dest as Amount, &[0])]) {
+            return Ok(false);
+        }
+    }
+    Ok(tables.as_slice().len() == dests)
+}
+
+#[test]
+fn tables_come_in_order(rt: HostRuntime) -> Result<(), Fail> {
+    for (dests, workers) in [(0, 3), (1, 16), (17, 16), (64, 5), (64, 16)] {
+        assert!(rt;
+            find_in_order(&rt, dests, workers)?,
+            "{dests} by {workers} workers"
+        );
+    }
+    Ok(())
+}
