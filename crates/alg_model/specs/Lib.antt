@@ -20,3 +20,4 @@ pub mod PartLaws
 pub mod CarrierLaws
 pub mod Laws
 pub mod Names
+pub mod Tests

@@ -2,7 +2,7 @@ ghost use Rattle.std.specs.Prelude.{◌≡◌, ◌≤◌, ◌<◌, ◌==◌, ◌
 ghost use Rattle.std.specs.List.{list_any};
 ghost use Rattle.alg_model.specs.declared.edition.TheConstants.{MAX_LABEL_NUMBER};
 ghost use Rattle.alg_model.specs.declared.alg.TheConstants.{MAX_VALUE_NUMBER};
-ghost use Rattle.alg_model.specs.Expressions.{seq, simseq, tags, guard, lex, scoped, union, sum, number, number_label, pair, first, second};
+ghost use Rattle.alg_model.specs.Expressions.{seq, simseq, tags, guard, table, lex, scoped, union, sum, number, number_label, pair, first, second};
 ghost use Rattle.alg_model.specs.Views.{expression_of, pure_value, pure_label};
 ghost use Rattle.alg_model.specs.Carriers.{carrier_of, In};
 ghost use Rattle.alg_model.specs.Application.{IsLabel, App, has_mark, image_of};
@@ -73,10 +73,7 @@ pub(crate) fn image(
             Label::Allow => Ok(Some(Value::Unit)),
             _ => Ok(None),
         },
-        Tree::Table(table) => match (label, value) {
-            (Label::Row(r), Value::Name(k)) => Ok(image_in(table, *r, *k).map(Value::Name)),
-            _ => Ok(None),
-        },
+        Tree::Table(spec) => Ok(table_image(spec, label, value)),
         Tree::Lex(a, b) => lex_image(alloc, a, b, label, value),
         Tree::Scoped(a, b) => scoped_image(alloc, a, b, label, value),
         Tree::Union(a, b) => union_image(alloc, a, b, label, value),
@@ -94,7 +91,7 @@ pub(crate) fn image(
 }
 
 #[cycle(image)]
-fn lex_image(
+pub(crate) fn lex_image(
     alloc: Global,
     a: &Tree,
     b: &Tree,
@@ -119,7 +116,7 @@ fn lex_image(
 }
 
 #[cycle(image)]
-fn scoped_image(
+pub(crate) fn scoped_image(
     alloc: Global,
     a: &Tree,
     b: &Tree,
@@ -210,7 +207,7 @@ fn simseq_image(
     }
 }
 
-fn tags_image(count: u64, label: &Label, value: &Value) -> Option<Value>
+pub(crate) fn tags_image(count: u64, label: &Label, value: &Value) -> Option<Value>
     requires { MayActOn (tags count) label.now value.now }
     ensures { IsImage (tags count) label.now value.now result }
 {
@@ -233,8 +230,17 @@ fn guard_image(count: u64, label: &Label, value: &Value) -> Option<Value>
     }
 }
 
+fn table_image(spec: &TableSpec, label: &Label, value: &Value) -> Option<Value>
+    ensures { IsImage (table spec.now) label.now value.now result }
+{
+    match (label, value) {
+        (Label::Row(r), Value::Name(k)) => image_in(spec, *r, *k).map(Value::Name),
+        _ => None,
+    }
+}
+
 // What the label n makes of the number m, where numbers are values and labels.
-fn number_image(tree: &Tree, n: u64, m: Amount) -> Option<Amount>
+pub(crate) fn number_image(tree: &Tree, n: u64, m: Amount) -> Option<Amount>
     requires label { n ≤ MAX_LABEL_NUMBER }
     requires value { m ≤ MAX_VALUE_NUMBER }
     ensures { option_map number result ≡ App (expression_of tree.now) (number_label n) (number m) }
@@ -304,7 +310,7 @@ fn paired(alloc: Global, u: Value, v: Value) -> Result<Value, NoMemory>
 }
 
 // The value as one of the first side.
-fn in_first(alloc: Global, value: Option<Value>) -> Result<Option<Value>, NoMemory>
+pub(crate) fn in_first(alloc: Global, value: Option<Value>) -> Result<Option<Value>, NoMemory>
     ensures { IfOk result (λ image. option_map pure_value image ≡ option_map first (option_map pure_value value)) }
 {
     match value {
@@ -314,7 +320,7 @@ fn in_first(alloc: Global, value: Option<Value>) -> Result<Option<Value>, NoMemo
 }
 
 // The value as one of the second side.
-fn in_second(alloc: Global, value: Option<Value>) -> Result<Option<Value>, NoMemory>
+pub(crate) fn in_second(alloc: Global, value: Option<Value>) -> Result<Option<Value>, NoMemory>
     ensures { IfOk result (λ image. option_map pure_value image ≡ option_map second (option_map pure_value value)) }
 {
     match value {

@@ -1,8 +1,9 @@
 // Equal values, labels and trees.
-ghost use Rattle.std.specs.Prelude.{◌≡◌, IfOk};
+ghost use Rattle.std.specs.Prelude.{◌≡◌, IfOk, OnOk};
+ghost use Rattle.alg_model.specs.Expressions.{number, pair, first, second};
 ghost use Rattle.alg_model.specs.Views.{expression_of, pure_value, pure_label};
 
-use crate::{Label, TableRow, TableSpec, Tree, Value};
+use crate::{Amount, Label, TableRow, TableSpec, Tree, Value};
 use meta_base::{List, NoMemory, Text};
 use std::alloc::Global;
 
@@ -32,6 +33,79 @@ impl Value {
             Value::First(u) => Value::First(copy_boxed_value(alloc, u)?),
             Value::Second(v) => Value::Second(copy_boxed_value(alloc, v)?),
         })
+    }
+}
+
+// Makes `out` an equal value, in the memory that it has where it has the same shape. Where that is refused,
+// nothing is said of `out`, which is some value.
+#[cycle(copy_into)]
+pub(crate) fn copy_into(alloc: Global, value: &Value, out: &mut Value) -> Result<(), NoMemory>
+    ensures { OnOk result (pure_value out.new ≡ pure_value value.now) }
+{
+    match value {
+        Value::Number(n) => put_number(*n, out),
+        Value::Pair(u, v) => copy_pair_into(alloc, u, v, out)?,
+        Value::First(u) => copy_first_into(alloc, u, out)?,
+        Value::Second(v) => copy_second_into(alloc, v, out)?,
+        _ => *out = value.copy(alloc)?,
+    }
+    Ok(())
+}
+
+#[cycle(copy_into)]
+fn copy_pair_into(
+    alloc: Global,
+    u: &Box<Value>,
+    v: &Box<Value>,
+    out: &mut Value,
+) -> Result<(), NoMemory>
+    ensures { OnOk result (pure_value out.new ≡ pair (pure_value u.now.value) (pure_value v.now.value)) }
+{
+    match out {
+        Value::Pair(first, second) => {
+            copy_into(alloc, u, first)?;
+            copy_into(alloc, v, second)
+        }
+        out => {
+            *out = Value::Pair(copy_boxed_value(alloc, u)?, copy_boxed_value(alloc, v)?);
+            Ok(())
+        }
+    }
+}
+
+#[cycle(copy_into)]
+fn copy_first_into(alloc: Global, u: &Box<Value>, out: &mut Value) -> Result<(), NoMemory>
+    ensures { OnOk result (pure_value out.new ≡ first (pure_value u.now.value)) }
+{
+    match out {
+        Value::First(out) => copy_into(alloc, u, out),
+        out => {
+            *out = Value::First(copy_boxed_value(alloc, u)?);
+            Ok(())
+        }
+    }
+}
+
+#[cycle(copy_into)]
+fn copy_second_into(alloc: Global, v: &Box<Value>, out: &mut Value) -> Result<(), NoMemory>
+    ensures { OnOk result (pure_value out.new ≡ second (pure_value v.now.value)) }
+{
+    match out {
+        Value::Second(out) => copy_into(alloc, v, out),
+        out => {
+            *out = Value::Second(copy_boxed_value(alloc, v)?);
+            Ok(())
+        }
+    }
+}
+
+// Puts the number into the place.
+pub(crate) fn put_number(n: Amount, place: &mut Value)
+    ensures { pure_value place.new ≡ number n }
+{
+    match place {
+        Value::Number(m) => *m = n,
+        _ => *place = Value::Number(n),
     }
 }
 

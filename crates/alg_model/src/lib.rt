@@ -8,6 +8,7 @@ mod alg;
 mod algebra;
 mod application;
 mod carrier;
+mod comparing;
 mod copying;
 mod edition;
 mod formation;
@@ -25,6 +26,7 @@ pub use alg::{
 pub use algebra::{Algebra, TreeAlgebra};
 pub use application::apply;
 pub use carrier::{carrier_of, have_same_carrier, same_carrier, tree_carrier};
+pub use comparing::{is_at_most, same_value};
 pub use edition::{Edition, MAX_LABEL_NUMBER};
 pub use laws::{
     carriers_are_carriers, images_are_bounded, images_are_values, preference_is_total_preorder,

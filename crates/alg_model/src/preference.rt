@@ -2,7 +2,7 @@ ghost use Rattle.std.specs.Prelude.{◌≡◌, slice_index};
 ghost use Rattle.alg_model.specs.Views.{expression_of, pure_value};
 ghost use Rattle.alg_model.specs.Carriers.{carrier_of, In, Order};
 
-use crate::{Alg, Tree, Value};
+use crate::{Alg, TableSpec, Tree, Value};
 use std::cmp::Ordering;
 
 /// Which of two values of the algebra is preferred: `Less` is the first, `Greater` the second, and
@@ -40,16 +40,14 @@ fn compare(tree: &Tree, u: &Value, v: &Value) -> Ordering
         },
         Tree::Tags { .. } | Tree::Guard { .. } | Tree::Gate => Ordering::Equal,
         Tree::Table(table) => match (u, v) {
-            (Value::Name(j), Value::Name(k)) => {
-                let ranks = table.ranks.as_slice();
-                rank(ranks, *j).cmp(&rank(ranks, *k))
-            }
+            (Value::Name(j), Value::Name(k)) => rank(table, *j).cmp(&rank(table, *k)),
             _ => Ordering::Equal,
         },
         Tree::Lex(a, b) | Tree::Scoped(a, b) => match (u, v) {
-            (Value::Pair(u1, u2), Value::Pair(v1, v2)) => {
-                compare(a, u1, v1).then(compare(b, u2, v2))
-            }
+            (Value::Pair(u1, u2), Value::Pair(v1, v2)) => match compare(a, u1, v1) {
+                Ordering::Equal => compare(b, u2, v2),
+                unequal => unequal,
+            },
             _ => Ordering::Equal,
         },
         Tree::Union(a, b) | Tree::Sum(a, b) => match (u, v) {
@@ -64,8 +62,9 @@ fn compare(tree: &Tree, u: &Value, v: &Value) -> Ordering
 }
 
 // The rank of the value at that place of a table. A table of an algebra has one for each place.
-fn rank(ranks: &[u8], place: u8) -> u8
-    ensures { result ≡ slice_index ranks.now place }
+fn rank(table: &TableSpec, place: u8) -> u8
+    ensures { result ≡ slice_index table.now.ranks place }
 {
+    let ranks = table.ranks.as_slice();
     ranks.get(usize::from(place)).copied().unwrap_or(0)
 }

@@ -152,7 +152,8 @@ fn push_pair(
     requires first { IsLabel (expression_of a.now) (pure_label l.now) }
     requires second_ranges { MeetsRanges (expression_of b.now) }
     requires second { IsLabel (expression_of b.now) (pure_label m.now) }
-    ensures { OnOk result (Gains out.old (codes "(" ++ label_text (expression_of a.now) (pure_label l.now) ++ mark.now
+    ensures { OnOk result (Gains out.old (codes "("
+        ++ label_text (expression_of a.now) (pure_label l.now) ++ mark.now
         ++ label_text (expression_of b.now) (pure_label m.now) ++ codes ")") out.new) }
 {
     out.push_str("(")?;
@@ -167,7 +168,8 @@ fn push_pair(
 fn push_behind(out: &mut String, start: &str, tree: &Tree, label: &Label) -> Result<(), NoMemory>
     requires ranges { MeetsRanges (expression_of tree.now) }
     requires label { IsLabel (expression_of tree.now) (pure_label label.now) }
-    ensures { OnOk result (Gains out.old (start.now ++ label_text (expression_of tree.now) (pure_label label.now)) out.new) }
+    ensures { OnOk result (Gains out.old
+        (start.now ++ label_text (expression_of tree.now) (pure_label label.now)) out.new) }
 {
     out.push_str(start)?;
     push_tree_label(out, tree, label)
@@ -180,7 +182,8 @@ fn push_outer(out: &mut String, a: &Tree, l: &Label, b: &Tree, v: &Value) -> Res
     requires second_ranges { MeetsRanges (expression_of b.now) }
     requires label { IsLabel (expression_of a.now) (pure_label l.now) }
     requires value { In (carrier_of (expression_of b.now)) (pure_value v.now) }
-    ensures { OnOk result (Gains out.old (codes "out(" ++ label_text (expression_of a.now) (pure_label l.now) ++ codes ","
+    ensures { OnOk result (Gains out.old (codes "out("
+        ++ label_text (expression_of a.now) (pure_label l.now) ++ codes ","
         ++ value_text (carrier_of (expression_of b.now)) (pure_value v.now) ++ codes ")") out.new) }
 {
     out.push_str("out(")?;
