@@ -8,9 +8,9 @@ use Rattle.alg_model.specs.Expressions.{PureCarrier}
 use Rattle.alg_model.specs.Carriers.{In, Order}
 use Rattle.alg_model.specs.Laws.{total_preorder}
 use Rattle.meta_base.specs.NodePaths.{compare_nodes, compare_paths}
-use Rattle.net_graph.specs.Routes.{PureRoute, compare_routes, Better}
-use Rattle.best_first.specs.Found.{is_less, is_better, better_of}
-use Rattle.best_first.proofs.Routes.{paths_flip}
+use Rattle.net_graph.specs.Routes.{PureRoute, compare_routes, Better, is_less, is_better}
+use Rattle.best_first.specs.Found.{better_of}
+use Rattle.net_graph.specs.RouteLaws.{paths_flip}
 
 -- the second isn't better than the first
 abbrev pub IsUnbeaten : PureCarrier → Option PureRoute → Option PureRoute → Type 0

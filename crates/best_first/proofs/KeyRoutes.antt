@@ -7,9 +7,8 @@ use Rattle.std.specs.declared.cmp.Ordering.TheVariants.{Less, Equal, Greater}
 use Rattle.alg_model.specs.Expressions.{PureCarrier}
 use Rattle.alg_model.specs.Carriers.{Order}
 use Rattle.meta_base.specs.NodePaths.{compare_nodes, compare_paths}
-use Rattle.net_graph.specs.Routes.{compare_routes}
+use Rattle.net_graph.specs.Routes.{compare_routes, is_less, is_better}
 use Rattle.net_graph.specs.Tables.{Told}
-use Rattle.best_first.specs.Found.{is_less, is_better}
 use Rattle.best_first.specs.Keys.{RouteKey, compare_keys, is_first, route_of, path_or_none, IsShaped}
 
 cmp_same : (n : ℕ) → nat_cmp n n ≡ Equal

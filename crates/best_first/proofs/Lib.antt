@@ -1,6 +1,3 @@
-pub mod Preferred
-pub mod Arcs
-pub mod Routes
 pub mod Offers
 pub mod Better
 pub mod Places

@@ -1,13 +1,13 @@
 -- The arcs that a node speaks on, one after the other.
-use Rattle.std.proofs.Common.{◌≡◌, ◌≢◌, ℕ, ◌+◌, ◌<◌, zero, suc, List, [], ◌∷◌, Option, Some, None, Bool, true, false, ◌==◌, ◌||◌, if◌then◌else◌, map, filter, take, get_or, is_some, option_map, option_and_then, length, refl, sym, ap, ◌∙◌, arith}
+use Rattle.std.proofs.Common.{◌≡◌, ◌≢◌, ℕ, ◌+◌, ◌<◌, zero, suc, List, [], ◌∷◌, Option, Some, None, Bool, true, false, ◌==◌, ◌||◌, if◌then◌else◌, map, filter, take, get_or, is_some, option_map, option_and_then, length, inl, inr, refl, sym, ap, ◌∙◌, arith}
 use Rattle.std.specs.List.{slice_get, list_any, find, AllByRecursion}
 use Rattle.std.proofs.lemmas.Bool.{false≢true}
 use Rattle.std.proofs.lemmas.Bool.Decides.{nat_tests}
 use Rattle.std.proofs.Math.Seq.{take-length}
 use Rattle.std.proofs.lemmas.List.Folds.{list_any_more}
-use Rattle.std.proofs.lemmas.Option.{slice_get_within, get_or_from_slice_get, slice_get-map}
+use Rattle.std.proofs.lemmas.Option.{slice_get_within, slice_get_cases, get_or_from_slice_get, slice_get-map}
 use Rattle.meta_base.specs.declared.ids.ArcId.{ArcId}
-use Rattle.alg_model.specs.Expressions.{PureValue}
+use Rattle.alg_model.specs.Expressions.{PureValue, PureLabel}
 use Rattle.alg_model.specs.declared.edition.TheConstants.{MAX_LABEL_NUMBER}
 use Rattle.alg_model.specs.Application.{App}
 use Rattle.alg_model.specs.Bounds.{LabelAtMost, greatest_number}
@@ -15,9 +15,11 @@ use Rattle.alg_model.specs.Laws.{label_at_most_more, greatest_is_bounded}
 use Rattle.net_graph.specs.Nets.{PureArc, PureNet, IsNet, IsArcOf, AreNumbered, AreDistinct, joins_same, is_arc_between, arcs_to, label_between}
 use Rattle.net_graph.specs.Routes.{PureRoute}
 use Rattle.net_graph.specs.Tables.{carrier}
+use Rattle.best_first.specs.declared.labels.Listener.{Listener}
+use Rattle.best_first.specs.Labels.{IsListener, AreListeners}
 use Rattle.best_first.specs.Found.{better_of, arc_offer}
 use Rattle.best_first.specs.State.{relaxed}
-use Rattle.best_first.proofs.Arcs.{of_some, IsArc, arcs_are}
+use Rattle.net_graph.specs.ArcLaws.{of_some, all_at, found_between, IsArc, arcs_are}
 use Rattle.best_first.proofs.Better.{better_twice}
 
 record IsAt (arcs : List PureArc) (p : PureArc → Bool) (n : ℕ) (b : PureArc) : Type 0 where
@@ -43,24 +45,6 @@ numbered_at (a ∷ arcs) p n h m b e = by (λ k f. numbered_at arcs p (n + 1) h.
     by rest true f (suc k) e = later (rest k (rw f at e))
     by rest false f m e = later (rest m (rw f at e))
 
-pub all_at : {X : Type 0} (P : X → Type 0) (xs : List X) (k : ℕ) (x : X) → AllByRecursion P xs → slice_get xs k ≡ Some x → P x
-all_at P [] k x h e = absurd (cc)
-all_at P (y ∷ ys) zero x h e =
-    let same : y ≡ x = cc in
-    rw same at h.0
-all_at P (y ∷ ys) (suc k) x h e = all_at P ys k x h.1 e
-
--- an arc is the one between its nodes
-found_between : (arcs : List PureArc) → AreDistinct joins_same arcs → (k : ℕ) (b : PureArc) → slice_get arcs k ≡ Some b → find (is_arc_between b.tail b.head) arcs ≡ Some b
-found_between [] h k b e = absurd (cc)
-found_between (a ∷ arcs) h zero b e =
-    let same : a ≡ b = cc in
-    let test : is_arc_between b.tail b.head b ≡ true = grind (arith, nat_tests) in
-    rw (same, test) refl
-found_between (a ∷ arcs) h (suc k) b e =
-    let apart : is_arc_between b.tail b.head a ≡ false = all_at (λ y. joins_same a y ≡ false) arcs k b h.0 e in
-    rw apart (found_between arcs h.1 k b e)
-
 -- what the network says of the arc of an id
 pub arc_of_net : (net : PureNet) → IsNet net → (id : ℕ) (a : PureArc) → slice_get net.arcs id ≡ Some a → IsArcOf net.alg (length net.nodes) a
 arc_of_net net n id a e = all_at (IsArcOf net.alg (length net.nodes)) net.arcs id a n.arcs_in e
@@ -80,8 +64,29 @@ pub record IsHeard (net : PureNet) (i m : ℕ) (a : PureArc) : Type 0 where
 
 pub record IsHeardId (net : PureNet) (i m id : ℕ) : Type 0 where
   pub arc : PureArc
+  pub at_place : slice_get (arcs_to net i) m ≡ Some arc
   pub there : slice_get net.arcs id ≡ Some arc
   pub heard : IsHeard net i m arc
+
+-- the arc at a place of those that a node speaks on
+module _ (net : PureNet) (n : IsNet net) (i m : ℕ) (a : PureArc) (at_place : slice_get (arcs_to net i) m ≡ Some a) where
+  numbered : IsAt net.arcs (λ (b : PureArc). b.head == i) 0 a
+  numbered = numbered_at net.arcs (λ (b : PureArc). b.head == i) 0 n.arc_ids m a at_place
+
+  pub heard_at : IsHeard net i m a
+  heard_at =
+      let head : a.head ≡ i = (let p = numbered.passes in grind (arith, nat_tests)) in
+      let between : label_between net a.tail i ≡ Some a.label = rw (← head) (ap (option_map (λ (b : PureArc). b.label)) (found_between net.arcs n.arc_apart numbered.place a numbered.there)) in
+      record {
+        within = slice_get_within (arcs_to net i) m a at_place;
+        at_place = sym (get_or_from_slice_get (arcs_to net i) m a a at_place);
+        head = head;
+        label = between;
+        facts = of_some (IsArc net a.tail i) (label_between net a.tail i) a.label (arcs_are net n a.tail i) between;
+      }
+
+  heard_there : slice_get net.arcs a.id ≡ Some a
+  heard_there = let k = numbered.number in let same : numbered.place ≡ a.id = omega arith in rw same at numbered.there
 
 pub heard_id : (net : PureNet) → IsNet net → (i : ℕ) (ids : List ArcId) → map (λ (d : ArcId). d.0) ids ≡ map (λ (a : PureArc). a.id) (arcs_to net i)
     → (m : ℕ) (id : ArcId) → slice_get ids m ≡ Some id → IsHeardId net i m id.0
@@ -97,22 +102,8 @@ heard_id net n i ids e m id f = by (slice_get (arcs_to net i) m) refl
     by None g = absurd (let h = mapped in cc)
     by (Some a) g =
         let number : Some a.id ≡ Some id.0 = rw g at mapped in
-        let place = numbered_at net.arcs (λ (b : PureArc). b.head == i) 0 n.arc_ids m a g in
-        let zero_more = place.number in
-        let same : place.place ≡ id.0 = (let k : a.id ≡ id.0 = cc in omega arith) in
-        let head : a.head ≡ i = (let p = place.passes in grind (arith, nat_tests)) in
-        let between : label_between net a.tail i ≡ Some a.label = rw (← head) (ap (option_map (λ (b : PureArc). b.label)) (found_between net.arcs n.arc_apart place.place a place.there)) in
-        record {
-          arc = a;
-          there = rw same at place.there;
-          heard = record {
-            within = slice_get_within (arcs_to net i) m a g;
-            at_place = sym (get_or_from_slice_get (arcs_to net i) m a a g);
-            head = head;
-            label = between;
-            facts = of_some (IsArc net a.tail i) (label_between net a.tail i) a.label (arcs_are net n a.tail i) between;
-          };
-        }
+        let same : a.id ≡ id.0 = cc in
+        record { arc = a; at_place = g; there = ap (λ k. slice_get net.arcs k) (sym same) ∙ heard_there net n i m a g; heard = heard_at net n i m a g }
 
 -- what the first m of the arcs that node i speaks on make of its route
 abbrev pub heard_so_far : PureNet → ℕ → PureRoute → ℕ → ℕ → Option PureRoute
@@ -196,11 +187,28 @@ heard_all net i r m k e = rw (e, take-length (arcs_to net i)) (by (list_any (λ 
     by true f = refl
     by false f = rw (none_between net.arcs k i f) refl
 
-pub heard_arc : (net : PureNet) (i m id : ℕ) (a : PureArc) → IsHeardId net i m id → slice_get net.arcs id ≡ Some a → IsHeard net i m a
-heard_arc net i m id a h e =
+-- the arc of that id stands at the place
+pub heard_place : (net : PureNet) (i m id : ℕ) (a : PureArc) → IsHeardId net i m id → slice_get net.arcs id ≡ Some a → slice_get (arcs_to net i) m ≡ Some a
+heard_place net i m id a h e =
     let f = h.there in
     let same : h.arc ≡ a = cc in
-    rw same at h.heard
+    rw same at h.at_place
 
 pub heard_within : (net : PureNet) (i m id : ℕ) → IsHeardId net i m id → id < length net.arcs
 heard_within net i m id h = slice_get_within net.arcs id h.arc h.there
+
+-- the arc that a listener hears on
+pub record IsHeardBy {L : Type 0} (stands_for : L → PureLabel → Type 0) (net : PureNet) (i m : ℕ) (listener : Listener L) : Type 0 where
+  pub arc : PureArc
+  pub heard : IsHeard net i m arc
+  pub is_listener : IsListener stands_for arc listener
+
+pub heard_by : {L : Type 0} (stands_for : L → PureLabel → Type 0) (net : PureNet) → IsNet net → (i m : ℕ) (listeners : List (Listener L)) (listener : Listener L)
+    → AreListeners stands_for (arcs_to net i) listeners → slice_get listeners m ≡ Some listener → IsHeardBy stands_for net i m listener
+heard_by stands_for net n i m listeners listener are e = elim (slice_get_cases (arcs_to net i) m).1 [
+  | inl (a, l, f, g) ↦ record { arc = a; heard = heard_at net n i m a f; is_listener = are.each m listener e a f }
+  | inr (l, f) ↦ absurd (omega (arith, slice_get_within listeners m listener e, are.count))
+]
+
+pub listener_within : {L : Type 0} (stands_for : L → PureLabel → Type 0) (net : PureNet) (i m : ℕ) (listener : Listener L) → IsHeardBy stands_for net i m listener → listener.node.0 < length net.nodes
+listener_within stands_for net i m listener h = omega (arith, h.heard.facts.tail_in, h.is_listener.node)

@@ -12,7 +12,7 @@ use Rattle.net_graph.specs.Tables.{Told}
 use Rattle.best_first.specs.declared.fixed.FixedRoute.{FixedRoute}
 use Rattle.best_first.specs.declared.route.OpenRoute.{OpenRoute}
 use Rattle.best_first.specs.Found.{found_at}
-use Rattle.best_first.specs.Keys.{is_first, beats, key_of, keys_of, best_of}
+use Rattle.best_first.specs.Keys.{is_first, beats, key_of, key_at, keys_of, best_of}
 use Rattle.best_first.specs.Fixed.{fixed_route, told_by}
 use Rattle.best_first.specs.Queue.{IsKept, IsQueue, IsOffered, IsNext}
 use Rattle.best_first.proofs.Places.{found-map, found-read, mapped_none, from_none}
@@ -22,16 +22,14 @@ some_of : {X : Type 0} (o : Option X) → is_some o ≡ true → (x : X) × (o �
 some_of None e = absurd (cc)
 some_of (Some x) e = (x, refl)
 
--- a route that beats its node's best is the best, and its key is kept
-pub offer_taken : {S : Type 0} (value : S → PureValue) (c : PureCarrier) (route pushed : OpenRoute S) (x : Option (OpenRoute S)) (best : List (Option (OpenRoute S))) (keys new_keys : List (OpenRoute S))
-    → route.place.node.0 < length best → x ≡ get_or best route.place.node.0 x → beats c (key_of value route) (option_map (key_of value) x) ≡ true
-    → key_of value pushed ≡ key_of value route → IsPermutation (pushed ∷ keys) new_keys
-    → IsOffered c (key_of value route) (best_of value best) (keys_of value keys) (best_of value (set best route.place.node.0 (Some route))) (keys_of value new_keys)
-offer_taken value c route pushed x best keys new_keys within there first same p = rw beaten
-    (map-set (option_map (key_of value)) best route.place.node.0 (Some route), rw same at (IsPermutation-map (key_of value) (pushed ∷ keys) new_keys p))
-  where
-    beaten : beats c (key_of value route) (found_at (best_of value best) route.place.node.0) ≡ true
-    beaten = ap (beats c (key_of value route)) (found-map (key_of value) best route.place.node.0 ∙ ap (option_map (key_of value)) (found-read best route.place.node.0 x within there)) ∙ first
+-- a route that beats its node's best is the best, and a key of the same value is kept
+pub offer_taken : {S : Type 0} (value : S → PureValue) (c : PureCarrier) (sig : S) (key : OpenRoute S) (best : List (Option (OpenRoute S))) (keys new_keys : List (OpenRoute S))
+    → beats c (key_of value key) (found_at (best_of value best) key.place.node.0) ≡ true → value sig ≡ value key.sig → IsPermutation (key ∷ keys) new_keys
+    → IsOffered c (key_of value key) (best_of value best) (keys_of value keys) (best_of value (set best key.place.node.0 (Some record { sig = sig; place = key.place }))) (keys_of value new_keys)
+offer_taken value c sig key best keys new_keys better same p = rw better (
+  map-set (option_map (key_of value)) best key.place.node.0 (Some record { sig = sig; place = key.place }) ∙ ap (λ v. set (best_of value best) key.place.node.0 (Some (key_at key.place v))) same,
+  IsPermutation-map (key_of value) (key ∷ keys) new_keys p,
+)
 
 -- a key that is taken out
 module _ {S : Type 0} (value : S → PureValue) (c : PureCarrier) (rows : List (Option (FixedRoute S))) (paths : List (List NodeId)) (best : List (Option (OpenRoute S))) (keys rest : List (OpenRoute S))

@@ -4,7 +4,7 @@ use Rattle.std.proofs.lemmas.Bool.Decides.{nat_tests}
 use Rattle.net_graph.specs.Nets.{PureNet}
 use Rattle.net_graph.specs.Routes.{PureRoute}
 use Rattle.net_graph.specs.Tables.{PureRow, route_at, is_among, IsOfferFrom}
-use Rattle.best_first.proofs.Routes.{same_route}
+use Rattle.net_graph.specs.RouteLaws.{same_route}
 
 -- with one node more, a node is that one or among the others
 pub among_split : (before : List ℕ) (i j : ℕ) → is_among (i ∷ before) j ≡ true → (i ≡ j) ⊎ (is_among before j ≡ true)

@@ -12,6 +12,7 @@ use Rattle.net_graph.specs.Routes.{PureRoute}
 use Rattle.net_graph.specs.Nets.{PureNet, PureOrigin, origins_of}
 use Rattle.net_graph.specs.Views.{pure_row}
 use Rattle.net_graph.specs.declared.route.RouteRow.{RouteRow}
+use Rattle.net_graph.specs.ArcLaws.{find-filter}
 use Rattle.best_first.specs.Found.{found_at, AllFound, none_count, own_offer, row_from, rows_from}
 
 pub found-map : {X Y : Type 0} (f : X → Y) (xs : List (Option X)) (k : ℕ) → found_at (map (option_map f) xs) k ≡ option_map f (found_at xs k)
@@ -107,16 +108,6 @@ none_count-set (Some y ∷ xs) (suc i) x l e = none_count-set xs i x (omega arit
 pub none_count-none : (X : Type 0) (n : ℕ) → none_count {X = X} (replicate n None) ≡ n
 none_count-none X zero = refl
 none_count-none X (suc n) = let h = none_count-none X n in omega arith
-
--- the first that passes two tests is the first of those that pass one to pass the other
-find-filter : {X : Type 0} (p q : X → Bool) (xs : List X) → find (λ x. p x && q x) xs ≡ find q (filter p xs)
-find-filter p q [] = refl
-find-filter p q (x ∷ xs) = by (find-filter p q xs) (p x) refl (q x) refl
-  where
-    by : find (λ x. p x && q x) xs ≡ find q (filter p xs) → (b : Bool) → p x ≡ b → (c : Bool) → q x ≡ c → find (λ x. p x && q x) (x ∷ xs) ≡ find q (filter p (x ∷ xs))
-    by rest true h true k = rw (h, k) refl
-    by rest true h false k = rw (h, k) rest
-    by rest false h c k = rw h rest
 
 -- a node's own offer, by its origin among those of the destination
 pub own-first : (net : PureNet) (dest node : ℕ) → option_map (λ (o : PureOrigin). record { value = o.value; path = node ∷ [] }) (find (λ (o : PureOrigin). o.node == node) (origins_of net dest)) ≡ own_offer net dest node

@@ -10,9 +10,9 @@ use Rattle.std.proofs.lemmas.Bool.{false≢true}
 use Rattle.std.proofs.lemmas.Bool.Decides.{nat_tests}
 use Rattle.alg_model.specs.Expressions.{PureCarrier}
 use Rattle.alg_model.specs.Carriers.{In}
-use Rattle.net_graph.specs.Routes.{PureRoute, Better}
+use Rattle.net_graph.specs.Routes.{PureRoute, Better, is_less, is_better}
 use Rattle.net_graph.specs.Tables.{Told}
-use Rattle.best_first.specs.Found.{found_at, is_less, is_better, better_of}
+use Rattle.best_first.specs.Found.{found_at, better_of}
 use Rattle.best_first.specs.KeyOrder.{asymmetric, transitive}
 use Rattle.best_first.specs.Keys.{RouteKey, is_first, beats, route_of, routes_of, IsBehind, IsShaped}
 use Rattle.best_first.specs.Queue.{IsBestAt, IsNoBetter, IsKept, IsQueue, IsOffered, IsNext, with_told}

@@ -6,7 +6,7 @@ use Rattle.net_graph.specs.Routes.{PureRoute}
 use Rattle.net_graph.specs.Walks.{Walk}
 use Rattle.net_graph.specs.Tables.{PureRow, route_at, AreRowsFrom, IsRouteOf, BestFirst}
 use Rattle.net_graph.specs.RowTexts.{AreNodesOf, IsRouteIn, IsRowOf}
-use Rattle.best_first.proofs.Arcs.{walk_within}
+use Rattle.net_graph.specs.ArcLaws.{walk_within}
 use Rattle.best_first.proofs.Sound.{best_first_walks}
 
 -- the nodes of a walk are the network's

@@ -7,8 +7,8 @@ use Rattle.net_graph.specs.Nets.{PureNet, IsNet, has_arc, label_between, origin_
 use Rattle.net_graph.specs.Routes.{PureRoute}
 use Rattle.net_graph.specs.Walks.{Walk, Weight, along}
 use Rattle.net_graph.specs.Tables.{PureRow, TableOf, HasWalks, route_at, is_among, IsOfferFrom, AreFixed, BestFirst}
-use Rattle.best_first.proofs.Arcs.{of_some, IsArc, arcs_are, IsOrigin, origins_are}
-use Rattle.best_first.proofs.Routes.{no_route_past}
+use Rattle.net_graph.specs.ArcLaws.{of_some, IsOrigin, origins_are, along_has}
+use Rattle.net_graph.specs.RouteLaws.{no_route_past}
 use Rattle.best_first.proofs.Offers.{among_split, among_first, among_more}
 
 -- the route's path is a walk from its node that weighs its value, over these nodes alone
@@ -21,14 +21,6 @@ pub record IsSound (net : PureNet) (dest : ℕ) (before : List ℕ) (i : ℕ) (r
 -- the routes of these nodes are sound
 abbrev pub AreSound : PureNet → ℕ → List PureRow → List ℕ → Type 0
 AreSound net dest t before = (j : ℕ) (r : PureRoute) → is_among before j ≡ true → route_at t j ≡ Some r → IsSound net dest before j r
-
--- an arc from i gives a value only if it is one
-along_has : (net : PureNet) → IsNet net → (i j : ℕ) (x : Option PureValue) (v : PureValue) → along net i j x ≡ Some v → has_arc net i j ≡ true
-along_has net n i j x v e = by (label_between net i j) (arcs_are net n i j) e
-  where
-    by : (o : Option PureLabel) → IfSome o (IsArc net i j) → option_and_then (λ l. option_and_then (App net.alg.expression l) x) o ≡ Some v → has_arc net i j ≡ true
-    by None a e = absurd (cc)
-    by (Some l) a e = a.has
 
 -- an offer by nodes whose routes are sound is sound
 offer_sound : (net : PureNet) (dest : ℕ) (t : List PureRow) (before : List ℕ) (i : ℕ) (r : PureRoute) → IsNet net → AreSound net dest t before

@@ -19,8 +19,8 @@ use Rattle.best_first.specs.Found.{found_at, better_of, arc_offer}
 use Rattle.best_first.specs.Keys.{RouteKey, key_of, key_at, best_of, route_of, routes_of, path_or_none}
 use Rattle.best_first.specs.Queue.{IsQueue, IsOpen, IsOffered, IsOfferedOf, no_route}
 use Rattle.best_first.specs.State.{relaxed, CanSpeak}
-use Rattle.best_first.proofs.Arcs.{of_some, along_in}
-use Rattle.best_first.proofs.Listeners.{IsHeard, all_at, heard_so_far, step_take, made_offer}
+use Rattle.net_graph.specs.ArcLaws.{of_some, all_at, along_in}
+use Rattle.best_first.proofs.Listeners.{IsHeard, heard_so_far, step_take, made_offer}
 use Rattle.best_first.proofs.Origins.{own_so_far, own_more}
 use Rattle.best_first.proofs.Places.{found-map, all-none}
 use Rattle.best_first.proofs.Queues.{offered_queue, offered_found}

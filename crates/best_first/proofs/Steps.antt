@@ -9,17 +9,17 @@ use Rattle.alg_model.specs.Expressions.{PureCarrier, PureValue, PureLabel}
 use Rattle.alg_model.specs.Carriers.{In}
 use Rattle.alg_model.specs.Laws.{at_most_more}
 use Rattle.net_graph.specs.Nets.{PureNet, IsNet, origin_value, label_between}
-use Rattle.net_graph.specs.Routes.{PureRoute, Better}
+use Rattle.net_graph.specs.Routes.{PureRoute, Better, is_better}
 use Rattle.net_graph.specs.Walks.{along}
 use Rattle.net_graph.specs.declared.limits.TheConstants.{MAX_NODES_TWO}
 use Rattle.net_graph.specs.Laws.{few_nodes}
 use Rattle.net_graph.specs.Tables.{PureRow, TableOf, IsRouteOf, AreRowsFrom, carrier, route_at, is_among, IsOfferBy, IsOfferFrom, AreFixed, BestFirst}
-use Rattle.best_first.specs.Found.{found_at, none_count, rows_from, is_better, better_of, own_offer, arc_offer}
+use Rattle.best_first.specs.Found.{found_at, none_count, rows_from, better_of, own_offer, arc_offer}
 use Rattle.alg_model.specs.Application.{App}
 use Rattle.best_first.specs.State.{WereFixed, IsBestIn, IsBestOffer, IsKept, IsState, CanSpeak, relaxed}
-use Rattle.best_first.proofs.Arcs.{of_some, IsArc, arcs_are, IsOrigin, origins_are, along_in, along_at_most}
+use Rattle.net_graph.specs.ArcLaws.{of_some, IsArc, arcs_are, IsOrigin, origins_are, along_in, along_at_most}
 use Rattle.best_first.proofs.Better.{unbeaten_by_all, not_itself, better_beats_both}
-use Rattle.best_first.proofs.Routes.{same_route}
+use Rattle.net_graph.specs.RouteLaws.{same_route}
 use Rattle.best_first.proofs.Offers.{among_split, among_first, among_more, Agree, offer_moves, offer_begins}
 
 -- a row's route is what was found

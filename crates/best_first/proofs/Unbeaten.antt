@@ -9,9 +9,9 @@ use Rattle.net_graph.specs.Nets.{PureNet, IsNet, label_between, origin_value}
 use Rattle.net_graph.specs.Routes.{PureRoute, Better}
 use Rattle.net_graph.specs.Walks.{Walk, Weight, along}
 use Rattle.net_graph.specs.Tables.{PureRow, TableOf, NetHas, route_at, value_at, carrier, is_among, IsOfferFrom, AreFixed, BestFirst, Optimal}
-use Rattle.best_first.proofs.Preferred.{IsUnbeatenBy, unbeaten_trans}
-use Rattle.best_first.proofs.Arcs.{walk_within, along_in, weight_in, along_monotone, along_isotone}
-use Rattle.best_first.proofs.Routes.{table_route_in}
+use Rattle.net_graph.specs.Unbeaten.{IsUnbeatenBy, unbeaten_trans, none_last}
+use Rattle.net_graph.specs.ArcLaws.{walk_within, along_none, along_in, weight_in, along_monotone, along_isotone}
+use Rattle.net_graph.specs.RouteLaws.{table_route_in, table_value_in}
 use Rattle.best_first.proofs.Offers.{among_split}
 use Rattle.best_first.proofs.Sound.{AreSound, sound_more, best_first_walks}
 
@@ -27,21 +27,10 @@ record Given (net : PureNet) (dest : ℕ) (t : List PureRow) : Type 0 where
   pub are_isotone : NetHas isotone net
   pub table_of : TableOf net dest t
 
-value_in : (net : PureNet) (dest : ℕ) (t : List PureRow) → TableOf net dest t → (i : ℕ) → IfSome (value_at t i) (In (carrier net))
-value_in net dest t h i = by (route_at t i) (λ r e. (table_route_in net dest t h i r e).value_in)
-  where
-    by : (o : Option PureRoute) → ((r : PureRoute) → o ≡ Some r → In (carrier net) r.value) → IfSome (option_map (λ (r : PureRoute). r.value) o) (In (carrier net))
-    by None f = tt
-    by (Some r) f = f r refl
-
 -- no offer by these nodes to another node has a value that is preferred
 NoneOffers : PureNet → ℕ → List PureRow → List ℕ → Option PureValue → Type 0
 NoneOffers net dest t before x = (k : ℕ) (s : PureRoute) → k < length net.nodes → is_among before k ≡ false → IsOfferFrom net dest (route_at t) before k s
     → IsUnbeatenBy (carrier net) x (Some s.value)
-
-none_last : (c : PureCarrier) (x : Option PureValue) → IsUnbeatenBy c x None
-none_last c None e = cc
-none_last c (Some v) e = cc
 
 abbrev route : PureValue → List ℕ → PureRoute
 route v p = record { value = v; path = p }
@@ -54,13 +43,6 @@ at_origin net dest t before x f k within out = by (origin_value net dest k) refl
     by : (o : Option PureValue) → origin_value net dest k ≡ o → IsUnbeatenBy (carrier net) x o
     by None e = none_last (carrier net) x
     by (Some v) e = f k (route v (k ∷ [])) within out (inl (e, refl))
-
-along_none : (net : PureNet) (i j : ℕ) → along net i j None ≡ None
-along_none net i j = by (label_between net i j)
-  where
-    by : (o : Option PureLabel) → option_and_then (λ l. option_and_then (App net.alg.expression l) None) o ≡ None
-    by None = refl
-    by (Some l) = refl
 
 at_arc : (net : PureNet) (dest : ℕ) (t : List PureRow) (before : List ℕ) (x : Option PureValue) → AreBest net dest t before → NoneOffers net dest t before x
     → (k j : ℕ) → k < length net.nodes → is_among before k ≡ false → is_among before j ≡ true → IsUnbeatenBy (carrier net) x (along net k j (value_at t j))
@@ -104,7 +86,7 @@ next_best net dest t before x g b i f k (j ∷ p) out w = by (λ e. next_best ne
     by : (is_among before j ≡ false → IsUnbeatenBy (carrier net) x (Weight net dest (j ∷ p))) → (c : Bool) → is_among before j ≡ c
         → IsUnbeatenBy (carrier net) x (along net k j (Weight net dest (j ∷ p)))
     by rest true e =
-        let row_in = value_in net dest t g.table_of j in
+        let row_in = table_value_in net dest t g.table_of j in
         unbeaten_trans (carrier net) x (along net k j (value_at t j)) (along net k j (Weight net dest (j ∷ p)))
         i (along_in net g.is_net k j (value_at t j) row_in) whole_in
         (at_arc net dest t before x b f k j (walk_within net g.is_net dest k (j ∷ p) w) out e)

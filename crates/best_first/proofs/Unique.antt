@@ -4,7 +4,7 @@ use Rattle.std.proofs.lemmas.Bool.{cases_lt}
 use Rattle.net_graph.specs.Nets.{PureNet, IsNet}
 use Rattle.net_graph.specs.Routes.{PureRoute, Better}
 use Rattle.net_graph.specs.Tables.{PureRow, TableOf, route_at, carrier, is_among, IsOfferFrom, AreFixed, BestFirst}
-use Rattle.best_first.proofs.Routes.{table_route_in, no_route_past, tables_equal, neither_better}
+use Rattle.net_graph.specs.RouteLaws.{table_route_in, no_route_past, tables_equal, neither_better}
 use Rattle.best_first.proofs.Offers.{among_split, Agree, BeginWithThem, offer_moves, offer_begins, same_offer}
 
 -- where tables agree so far, the next node is one, and so is its route

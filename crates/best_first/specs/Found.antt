@@ -1,10 +1,9 @@
 -- What is found on the way to a table: for each node a route, or none.
 use Rattle.std.specs.Prelude.{◌≡◌, ℕ, ◌+◌, List, [], ◌∷◌, Bool, true, false, cond, Option, Some, None, is_some, option_map, option_and_then, IfSome, slice_get}
-use Rattle.std.specs.declared.cmp.Ordering.{Ordering}
-use Rattle.std.specs.declared.cmp.Ordering.TheVariants.{Less, Equal, Greater}
 use Rattle.alg_model.specs.Expressions.{PureCarrier, PureValue}
+use Rattle.alg_model.specs.Actions.{held}
 use Rattle.net_graph.specs.Nets.{PureNet, origin_value}
-use Rattle.net_graph.specs.Routes.{PureRoute, compare_routes, Better}
+use Rattle.net_graph.specs.Routes.{PureRoute, is_better, Better}
 use Rattle.net_graph.specs.Walks.{along}
 use Rattle.net_graph.specs.Tables.{PureRow}
 
@@ -16,19 +15,14 @@ found_at {X} found k = option_and_then (λ (o : Option X). o) (slice_get found k
 abbrev pub AllFound : {X : Type 0} → (X → Type 0) → List (Option X) → Type 0
 AllFound P found = (k : ℕ) → IfSome (found_at found k) P
 
+-- what stands in a place, where the call that may have put it there says so
+abbrev pub made_in : {X : Type 0} → Bool → Option X → Option X
+made_in placed o = option_and_then (held placed) o
+
 -- for how many nodes nothing was found
 abbrev pub none_count : {X : Type 0} → List (Option X) → ℕ
 none_count [] = 0
 none_count (o ∷ os) = cond (is_some o) (none_count os) (none_count os + 1)
-
-abbrev pub is_less : Ordering → Bool
-is_less Less = true
-is_less Equal = false
-is_less Greater = false
-
--- whether the first route is better
-abbrev pub is_better : PureCarrier → PureRoute → PureRoute → Bool
-is_better c r s = is_less (compare_routes c r s)
 
 -- the better of what was found and what is offered
 abbrev pub better_of : PureCarrier → Option PureRoute → Option PureRoute → Option PureRoute

@@ -8,7 +8,7 @@ use Rattle.std.proofs.lemmas.Bool.Decides.{nat_tests}
 use Rattle.alg_model.specs.Expressions.{PureCarrier}
 use Rattle.alg_model.specs.Carriers.{In, Order}
 use Rattle.alg_model.specs.Laws.{total_preorder}
-use Rattle.best_first.specs.Found.{is_less}
+use Rattle.net_graph.specs.Routes.{is_less}
 use Rattle.best_first.specs.Keys.{RouteKey, is_first}
 
 flip : (m n : ℕ) → nat_cmp n m ≡ ordering_reverse (nat_cmp m n)

@@ -4,11 +4,10 @@ use Rattle.std.specs.Ordering.{ordering_then, nat_cmp}
 use Rattle.std.specs.declared.cmp.Ordering.{Ordering}
 use Rattle.alg_model.specs.Expressions.{PureCarrier, PureValue}
 use Rattle.alg_model.specs.Carriers.{Order}
-use Rattle.net_graph.specs.Routes.{PureRoute}
+use Rattle.net_graph.specs.Routes.{PureRoute, is_less}
 use Rattle.net_graph.specs.Tables.{Told}
 use Rattle.best_first.specs.declared.route.OpenRoute.{OpenRoute}
 use Rattle.best_first.specs.declared.route.Place.{Place}
-use Rattle.best_first.specs.Found.{is_less}
 
 -- an open route: its value, how many nodes its path has, its node, and the node behind it
 pub record RouteKey : Type 0 where

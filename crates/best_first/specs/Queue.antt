@@ -1,5 +1,5 @@
 -- What is kept of open routes: for each node the key of the best, and keys among which these are.
-use Rattle.std.specs.Prelude.{◌≡◌, ℕ, ◌<◌, List, ◌∷◌, false, ◌==◌, Option, Some, None, length, All, Contains, MatchBool, if◌then◌else◌}
+use Rattle.std.specs.Prelude.{◌≡◌, ℕ, ◌<◌, List, ◌∷◌, Bool, false, ◌==◌, Option, Some, None, length, All, Contains, MatchBool, if◌then◌else◌}
 use Rattle.std.specs.List.Sorted.{IsPermutation}
 use Rattle.std.proofs.Math.ListN.{set}
 use Rattle.alg_model.specs.Expressions.{PureCarrier}
@@ -41,6 +41,11 @@ pub record IsQueue (c : PureCarrier) (told : Told) (best : List (Option RouteKey
 pub record IsOpen {S : Type 0} (value : S → PureValue) (is_sig : S → Type 0) (c : PureCarrier) (told : Told) (best : List (Option (OpenRoute S))) (keys : List (OpenRoute S)) : Type 0 where
   pub sigs : AllFound (λ o. is_sig o.sig) best
   pub queue : IsQueue c told (best_of value best) (keys_of value keys)
+
+-- whether there is a value, and its key there beats the best of the node
+abbrev pub is_wanted : PureCarrier → Place → Option PureValue → List (Option RouteKey) → Bool
+is_wanted c place None best = false
+is_wanted c place (Some v) best = beats c (key_at place v) (found_at best place.node.0)
 
 -- where the key beats the best of its node it is the new best, and one of the keys; else nothing has changed
 abbrev pub IsOffered : PureCarrier → RouteKey → List (Option RouteKey) → List RouteKey → List (Option RouteKey) → List RouteKey → Type 0

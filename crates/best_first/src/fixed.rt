@@ -1,5 +1,6 @@
-ghost use Rattle.std.specs.Prelude.{◌≡◌, ◌^◌, ◌<◌, ◌∷◌, ◌++◌, [], Some, None, true, length, vec_len, replicate, is_some, IfOk, OnOk, IfSome};
+ghost use Rattle.std.specs.Prelude.{◌≡◌, ◌<◌, ◌∷◌, ◌++◌, [], Some, None, true, length, vec_len, replicate, is_some, IfOk, OnOk, IfSome};
 ghost use Rattle.std.proofs.Math.ListN.{set};
+ghost use Rattle.path_store.specs.PathOf.{HasNumber};
 ghost use Rattle.best_first.specs.Found.{found_at, AllFound};
 ghost use Rattle.best_first.specs.Fixed.{path_behind};
 
@@ -40,7 +41,7 @@ impl<S: Drop> Fixed<S> {
     pub fn fix(&mut self, route: OpenRoute<S>) -> Result<(), NoMemory>
         requires node { route.place.node.0 < vec_len self.old.rows }
         requires next { route.place.next.0 < vec_len self.old.rows }
-        requires few { length self.old.paths < 2 ^ 32 }
+        requires few { HasNumber (length self.old.paths) }
         requires ids { AllFound (λ f. f.path.0 < length self.old.paths) self.old.rows.items }
         ensures rows { OnOk result (self.new.rows.items ≡ set self.old.rows.items route.place.node.0
             (Some (record { sig = route.sig; path = record { 0 = length self.old.paths } }))) }
@@ -72,7 +73,7 @@ fn add_path<S>(
     node: NodeId,
     next: &Option<FixedRoute<S>>,
 ) -> Result<PathId, NoMemory>
-    requires few { length paths.old < 2 ^ 32 }
+    requires few { HasNumber (length paths.old) }
     requires id { IfSome next.now (λ f. f.path.0 < length paths.old) }
     ensures ok { OnOk result (paths.new ≡ paths.old ++ (node ∷ path_behind paths.old next.now) ∷ []) }
     ensures id { IfOk result (λ id. id.0 ≡ length paths.old) }

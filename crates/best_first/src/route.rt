@@ -1,5 +1,7 @@
 ghost use Rattle.std.specs.Prelude.{◌≡◌};
+ghost use Rattle.std.specs.Ordering.{ordering_then};
 ghost use Rattle.alg_model.specs.Carriers.{carrier_of};
+ghost use Rattle.net_graph.specs.Routes.{is_less};
 ghost use Rattle.best_first.specs.Keys.{key_of, compare_places, is_first};
 
 use alg_model::Algebra;
@@ -35,20 +37,15 @@ impl Place {
     }
 }
 
-// Whether the first route is better, by value and then by place. That is the order of the routes by value and
-// path, since what lies behind one next is one path.
-pub(crate) fn is_better<A: Algebra>(
-    algebra: &A,
-    first: &OpenRoute<A::Sig>,
-    second: &OpenRoute<A::Sig>,
-) -> bool
-    requires first { A.is_sig algebra.now first.now.sig }
-    requires second { A.is_sig algebra.now second.now.sig }
-    ensures { result ≡ is_first (carrier_of (A.expression algebra.now))
-        (key_of (A.sig_value algebra.now) first.now) (key_of (A.sig_value algebra.now) second.now) }
+// Whether the first of two routes is better, whose values compare so.
+pub(crate) fn comes_first(values: Ordering, first: Place, second: Place) -> bool
+    ensures { result ≡ is_less (ordering_then values (compare_places first second)) }
 {
-    let values = algebra.order(&first.sig, &second.sig);
-    values.then(first.place.compare(second.place)) == Ordering::Less
+    match values {
+        Ordering::Less => true,
+        Ordering::Equal => first.compare(second) == Ordering::Less,
+        Ordering::Greater => false,
+    }
 }
 
 // The order of open routes in a frontier: the better one first.
@@ -82,6 +79,6 @@ impl<'a, A: Algebra> Order<OpenRoute<A::Sig>> for ByRoute<'a, A> {
     ) -> bool {
         steps.tick();
         let values = self.algebra.order(&a.sig, &b.sig);
-        values.then(a.place.compare(b.place)) == Ordering::Less
+        comes_first(values, a.place, b.place)
     }
 }

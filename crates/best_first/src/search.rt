@@ -6,7 +6,7 @@ ghost use Rattle.alg_model.specs.Application.{App};
 ghost use Rattle.alg_model.specs.Bounds.{AtMost};
 ghost use Rattle.net_graph.specs.Nets.{CanBeNumbered, IsNet};
 ghost use Rattle.net_graph.specs.Tables.{carrier};
-ghost use Rattle.best_first.specs.Found.{found_at, AllFound, own_offer};
+ghost use Rattle.best_first.specs.Found.{found_at, AllFound, own_offer, made_in};
 ghost use Rattle.best_first.specs.Keys.{best_of, keys_of, routes_of};
 ghost use Rattle.best_first.specs.Fixed.{told_by, open_routes, AreFixedBy, FixesNone, FixesNext};
 ghost use Rattle.best_first.specs.Labels.{AreLabelsOf};
@@ -99,59 +99,59 @@ pub(crate) fn fix_next<'a, A: Algebra, L: Ledger>(
     Ok(Some(node))
 }
 
-// Offers the route of the node, which is fixed, to the tails of the arcs that it speaks on and that are not.
+// Offers the route of the node, which is fixed, to its listeners that are not. The clauses speak of the network,
+// and the labels are all that is read of it.
 pub(crate) fn relax<'a, A: Algebra, L: Ledger>(
     alloc: Global,
     algebra: &A,
-    net: &Net,
+    _net: &Net,
     labels: &ArcLabels<A::Lab>,
     fixed: &Fixed<A::Sig>,
     search: &mut Open<'a, A, L>,
     node: NodeId,
 ) -> Result<(), NoMemory>
-    requires algebra { A.expression algebra.now ≡ net.now.alg.expression }
+    requires algebra { A.expression algebra.now ≡ _net.now.alg.expression }
     requires order { search.old.frontier.order.algebra.now ≡ algebra.now }
-    requires net { IsNet net.now }
-    requires labels { AreLabelsOf (A.stands_for algebra.now) net.now labels.now }
-    requires node { node.0 < length net.now.nodes }
-    requires rows { vec_len fixed.now.rows ≡ length net.now.nodes }
-    requires count { vec_len search.old.best ≡ length net.now.nodes }
+    requires net { IsNet _net.now }
+    requires labels { AreLabelsOf (A.stands_for algebra.now) _net.now labels.now }
+    requires node { node.0 < length _net.now.nodes }
+    requires rows { vec_len fixed.now.rows ≡ length _net.now.nodes }
+    requires count { vec_len search.old.best ≡ length _net.now.nodes }
     requires fixed { AreFixedBy (A.is_sig algebra.now) fixed.now.rows.items fixed.now.paths }
     requires next { IsSomeAnd (told_by (A.sig_value algebra.now) fixed.now.paths fixed.now.rows.items node.0)
-        (CanSpeak net.now node.0) }
-    requires queue { IsOpen (A.sig_value algebra.now) (A.is_sig algebra.now) (carrier net.now)
+        (CanSpeak _net.now node.0) }
+    requires queue { IsOpen (A.sig_value algebra.now) (A.is_sig algebra.now) (carrier _net.now)
         (told_by (A.sig_value algebra.now) fixed.now.paths fixed.now.rows.items)
         search.old.best.items search.old.frontier.keys }
     ensures order { search.new.frontier.order ≡ search.old.frontier.order }
-    ensures count { vec_len search.new.best ≡ length net.now.nodes }
-    ensures queue { OnOk result (IsOpen (A.sig_value algebra.now) (A.is_sig algebra.now) (carrier net.now)
+    ensures count { vec_len search.new.best ≡ length _net.now.nodes }
+    ensures queue { OnOk result (IsOpen (A.sig_value algebra.now) (A.is_sig algebra.now) (carrier _net.now)
         (told_by (A.sig_value algebra.now) fixed.now.paths fixed.now.rows.items)
         search.new.best.items search.new.frontier.keys) }
     ensures routes { (k : ℕ) → let value = A.sig_value algebra.now in
         let rows = fixed.now.rows.items in let paths = fixed.now.paths in
         let told = told_by value paths rows in
         OnOk result (found_at (open_routes value paths rows search.new.best.items) k ≡
-        relaxed (carrier net.now) (told k)
-        (found_at (open_routes value paths rows search.old.best.items) k) (spoken net.now k node.0 (told node.0))) }
+        relaxed (carrier _net.now) (told k)
+        (found_at (open_routes value paths rows search.old.best.items) k) (spoken _net.now k node.0 (told node.0))) }
 {
     let next = fixed.route(node);
     let size = fixed.paths.path(next.path).len() as u32 + 1;
-    for id in net.listeners(node) {
-        let tail = net.arc(*id).tail;
-        if fixed.rows[tail.0 as usize].is_none() {
+    for listener in labels.listeners(node) {
+        if fixed.rows[listener.node.0 as usize].is_none() {
             let place = Place {
                 size,
-                node: tail,
+                node: listener.node,
                 next: node,
             };
-            let lab = labels.label(*id);
-            offer_image(alloc, algebra, lab, &next.sig, place, search)?;
+            offer_image(alloc, algebra, &listener.label, &next.sig, place, search)?;
         }
     }
     Ok(())
 }
 
-// Offers at the place what the label makes of the value, if it is a value.
+// Offers at the place what the label makes of the value, if it is a value. One that is kept is made once more for
+// its key, since that takes no memory where there are spare values.
 fn offer_image<'a, A: Algebra, L: Ledger>(
     alloc: Global,
     algebra: &A,
@@ -176,20 +176,25 @@ fn offer_image<'a, A: Algebra, L: Ledger>(
         (best_of value search.old.best.items) (keys_of value search.old.frontier.keys)
         (best_of value search.new.best.items) (keys_of value search.new.frontier.keys)) }
 {
-    if let Some(sig) = image(alloc, algebra, lab, sig, &mut search.spare)? {
-        search.offer(alloc, algebra, OpenRoute { sig, place })?;
+    if !image_into(alloc, algebra, lab, sig, &mut search.spare)?
+        || !search.wants_spare(algebra, place)
+    {
+        return Ok(());
     }
-    Ok(())
+    match image(alloc, algebra, lab, sig, search.spares.pop())? {
+        Some(sig) => search.keep_spare(algebra, OpenRoute { sig, place }),
+        None => Ok(()),
+    }
 }
 
-// What the label makes of the value, or `None` where it prohibits it. It is made in the spare value's
-// memory, where there is one; a spare that isn't used stays.
+// What the label makes of the value, in the memory of the spare value if there is one, or `None` where it
+// prohibits the value.
 fn image<A: Algebra>(
     alloc: Global,
     algebra: &A,
     lab: &A::Lab,
     sig: &A::Sig,
-    spare: &mut Option<A::Sig>,
+    spare: Option<A::Sig>,
 ) -> Result<Option<A::Sig>, NoMemory>
     requires lab { (l : PureLabel) × A.stands_for algebra.now lab.now l }
     requires sig { A.is_sig algebra.now sig.now }
@@ -199,13 +204,41 @@ fn image<A: Algebra>(
         option_map (A.sig_value algebra.now) image ≡
         App (A.expression algebra.now) l (A.sig_value algebra.now sig.now)) }
 {
-    let Some(mut out) = spare.take() else {
+    let Some(mut out) = spare else {
         return algebra.apply(alloc, lab, sig);
     };
     if algebra.apply_into(alloc, lab, sig, &mut out)? {
         Ok(Some(out))
     } else {
-        *spare = Some(out);
         Ok(None)
+    }
+}
+
+// Puts into the place what the label makes of the value: `true` where it stands there, and `false` where the
+// label prohibits it. It is made in the memory of what the place held.
+fn image_into<A: Algebra>(
+    alloc: Global,
+    algebra: &A,
+    lab: &A::Lab,
+    sig: &A::Sig,
+    place: &mut Option<A::Sig>,
+) -> Result<bool, NoMemory>
+    requires lab { (l : PureLabel) × A.stands_for algebra.now lab.now l }
+    requires sig { A.is_sig algebra.now sig.now }
+    requires small { AtMost MAX_VALUE_NUMBER (A.sig_value algebra.now sig.now) }
+    ensures sig { IfOk result (λ placed. IfSome (made_in placed place.new) (A.is_sig algebra.now)) }
+    ensures image { (l : PureLabel) → A.stands_for algebra.now lab.now l → IfOk result (λ placed.
+        option_map (A.sig_value algebra.now) (made_in placed place.new) ≡
+        App (A.expression algebra.now) l (A.sig_value algebra.now sig.now)) }
+{
+    match place {
+        Some(out) => algebra.apply_into(alloc, lab, sig, out),
+        None => {
+            let Some(image) = algebra.apply(alloc, lab, sig)? else {
+                return Ok(false);
+            };
+            *place = Some(image);
+            Ok(true)
+        }
     }
 }

@@ -5,26 +5,27 @@ use Rattle.std.specs.List.{AllByRecursion}
 use Rattle.link_state.specs.Tables as link
 use Rattle.net_graph.specs.declared.route.DestTable.{DestTable}
 use Rattle.net_graph.specs.Nets.{PureNet}
-use Rattle.net_graph.specs.Tables.{PureRow, BestFirst, Optimal}
+use Rattle.net_graph.specs.Tables.{PureRow, BestFirst, Optimal, OnTablesFrom, joined_rows}
 use Rattle.net_graph.specs.RowTexts.{IsRowOf}
 use Rattle.net_graph.specs.declared.route.RouteRow.{RouteRow}
 use Rattle.net_graph.specs.Views.{rows_of, pure_row}
-use Rattle.metacli.specs.Outcome.{AreTablesFrom, AreRoutesOn, joined_rows}
+use Rattle.metacli.specs.Outcome.{AreRoutesOn}
 
 -- what is made best first is beaten by no walk, and its rows can be printed
 pub record Laws (net : PureNet) : Type 0 where
   pub optimal : (dest : ℕ) (t : List PureRow) → BestFirst net dest t → Optimal net dest t
   pub rows : (dest : ℕ) (t : List PureRow) → dest < length net.dests → BestFirst net dest t → AllByRecursion (IsRowOf net) t
 
-tables_from : (net : PureNet) → Laws net → (dest : ℕ) (tables : List DestTable) → link.AreTablesFrom net dest tables → AreTablesFrom net dest (map rows_of tables)
+tables_from : (net : PureNet) → Laws net → (dest : ℕ) (tables : List DestTable) → link.AreTablesFrom net dest tables
+    → OnTablesFrom (λ dest table. BestFirst net dest table × Optimal net dest table) dest (map rows_of tables)
 tables_from net laws dest [] h = tt
 tables_from net laws dest (t ∷ ts) h =
-    (h.0.best_first, laws.optimal dest (rows_of t) h.0.best_first, tables_from net laws (dest + 1) ts h.1)
+    ((h.0.best_first, laws.optimal dest (rows_of t) h.0.best_first), tables_from net laws (dest + 1) ts h.1)
 
 pub routes_on : (net : PureNet) → Laws net → (tables : List DestTable) → link.AreTablesOf net tables → AreRoutesOn net (joined_rows (map rows_of tables))
 routes_on net laws tables h = record {
   tables = map rows_of tables;
-  are = tables_from net laws 0 tables h.tables_from;
+  hold = tables_from net laws 0 tables h.tables_from;
   count = length-map tables rows_of ∙ h.count;
   joined = refl;
 }

@@ -11,7 +11,7 @@ use Rattle.alg_model.specs.Verdicts.{PureVerdicts, ExactFor}
 use Rattle.alg_model.specs.Instances.{VerdictsAtMost}
 use Rattle.property_infer.specs.Views.{pure_verdicts}
 use Rattle.net_graph.specs.Nets.{PureNet, PureArc}
-use Rattle.net_graph.specs.Tables.{PureRow, BestFirst, Optimal}
+use Rattle.net_graph.specs.Tables.{PureRow, BestFirst, Optimal, AreRowsOfTables}
 use Rattle.net_graph.specs.Changes.{PureChange}
 use Rattle.net_graph.specs.Views.{pure_change, pure_row}
 use Rattle.topology_file.specs.NetText.{PureNetFile, changed_net}
@@ -93,23 +93,10 @@ labels_on net = map (λ (a : PureArc). a.label) net.arcs
 abbrev pub IsOnArc : PureNet → PureLabel → Type 0
 IsOnArc net = Contains (labels_on net)
 
--- the tables of the destinations from that one on: each is the one that is made best first, and no
--- walk beats it
-abbrev pub AreTablesFrom : PureNet → ℕ → List (List PureRow) → Type 0
-AreTablesFrom net dest [] = Unit {0}
-AreTablesFrom net dest (table ∷ tables) = BestFirst net dest table × Optimal net dest table × AreTablesFrom net (dest + 1) tables
-
--- the rows of tables, one table after another
-abbrev pub joined_rows : List (List PureRow) → List PureRow
-joined_rows [] = []
-joined_rows (table ∷ tables) = table ++ joined_rows tables
-
--- the rows are those of the tables of all destinations in order
-pub record AreRoutesOn (net : PureNet) (rows : List PureRow) : Type 0 where
-  pub tables : List (List PureRow)
-  pub are : AreTablesFrom net 0 tables
-  pub count : length tables ≡ length net.dests
-  pub joined : rows ≡ joined_rows tables
+-- the rows are those of the tables of all destinations in order, each of which is made best first and beaten by no
+-- walk
+abbrev pub AreRoutesOn : PureNet → List PureRow → Type 0
+AreRoutesOn net = AreRowsOfTables net (λ dest table. BestFirst net dest table × Optimal net dest table)
 
 -- what link state asks of all labels, in the order in which it looks
 abbrev pub unbeaten_properties : List PureProperty

@@ -6,10 +6,11 @@ ghost use Rattle.command_words.specs.Words.{AreWorkers};
 ghost use Rattle.net_graph.specs.Changes.{AreChanges};
 ghost use Rattle.net_graph.specs.Views.{pure_change, pure_row, rows_of};
 ghost use Rattle.net_graph.specs.RowTexts.{IsRowOf};
+ghost use Rattle.net_graph.specs.Tables.{joined_rows};
 ghost use Rattle.topology_file.specs.Views.{pure_file};
 ghost use Rattle.topology_file.specs.NetText.{changed_net};
 ghost use Rattle.metacli.specs.Behind.{last_of};
-ghost use Rattle.metacli.specs.Outcome.{AreRoutesOn, IsFit, IsRoutedAs, joined_rows};
+ghost use Rattle.metacli.specs.Outcome.{AreRoutesOn, IsFit, IsRoutedAs};
 ghost use Rattle.metacli.specs.Found.{IsFoundOn};
 ghost use Rattle.metacli.specs.Views.{CanBeWritten, pure_outcome};
 

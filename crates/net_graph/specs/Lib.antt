@@ -19,3 +19,6 @@ pub mod Parts
 pub mod Drafts
 pub mod NetParts
 pub mod RowTexts
+pub mod Unbeaten
+pub mod ArcLaws
+pub mod RouteLaws

@@ -1,6 +1,6 @@
 -- Tables of routes for a destination: what they are, and when they are optimal, relaxed, stable or made
 -- best first (Sobrinho 2002 and 2005).
-use Rattle.std.specs.Prelude.{◌≡◌, ℕ, ◌+◌, ◌<◌, ◌≤◌, ◌^◌, ◌⊎◌, List, [], ◌∷◌, Bool, true, false, ◌==◌, Option, Some, None, IfSome, option_map, option_and_then, length, slice_get}
+use Rattle.std.specs.Prelude.{◌≡◌, ℕ, ◌+◌, ◌<◌, ◌≤◌, ◌^◌, ◌⊎◌, List, [], ◌∷◌, ◌++◌, Bool, true, false, ◌==◌, Option, Some, None, IfSome, option_map, option_and_then, length, slice_get}
 use Rattle.std.specs.List.{list_any, AllByRecursion}
 use Rattle.alg_model.specs.Expressions.{PureCarrier, PureValue}
 use Rattle.alg_model.specs.Carriers.{carrier_of, In, IsPreferred}
@@ -122,3 +122,20 @@ pub record BestFirst (net : PureNet) (dest : ℕ) (table : List PureRow) : Type 
   pub table_of : TableOf net dest table
   pub order : List ℕ
   pub fixed : AreFixed net dest table [] order
+
+-- the rows of tables, one table after another
+abbrev pub joined_rows : List (List PureRow) → List PureRow
+joined_rows [] = []
+joined_rows (table ∷ tables) = table ++ joined_rows tables
+
+-- this holds of the table of each destination from that one on
+abbrev pub OnTablesFrom : (ℕ → List PureRow → Type 0) → ℕ → List (List PureRow) → Type 0
+OnTablesFrom Holds dest [] = Unit {0}
+OnTablesFrom Holds dest (table ∷ tables) = Holds dest table × OnTablesFrom Holds (dest + 1) tables
+
+-- the rows are those of the tables of all destinations in order, and of each of these this holds
+pub record AreRowsOfTables (net : PureNet) (Holds : ℕ → List PureRow → Type 0) (rows : List PureRow) : Type 0 where
+  pub tables : List (List PureRow)
+  pub hold : OnTablesFrom Holds 0 tables
+  pub count : length tables ≡ length net.dests
+  pub joined : rows ≡ joined_rows tables

@@ -1,4 +1,4 @@
-ghost use Rattle.std.specs.Prelude.{◌≡◌, ◌<◌, ◌≤◌, Some, true, map, length, slice_get, option_map, IfOk};
+ghost use Rattle.std.specs.Prelude.{◌≡◌, ◌<◌, ◌≤◌, Some, true, map, length, slice_get, option_map, IfOk, IfSome};
 ghost use Rattle.std.specs.List.{AllByRecursion};
 ghost use Rattle.net_graph.specs.declared.limits.TheConstants.{MAX_NODES_TWO, MAX_DESTS_ONE};
 ghost use Rattle.net_graph.specs.Nets.{IsNet, IsArcOf, IsOriginOf, is_name, number_of, has_arc, has_origin, arcs_from, arcs_to, origins_of};
@@ -167,6 +167,15 @@ impl Net {
         ensures within { IsArcOf self.now.alg (length self.now.nodes) (pure_arc result.now) }
     {
         self.out.item(self.arc_spots[id.0 as usize])
+    }
+
+    /// Where the arc of that number stands among the arcs of its tail, in file order, from 0.
+    pub fn place_of(&self, id: ArcId) -> usize
+        requires { id.0 < length self.now.arcs }
+        ensures { IfSome (slice_get self.now.arcs id.0) (λ arc.
+            slice_get (arcs_from self.now arc.tail) result ≡ Some arc) }
+    {
+        self.arc_spots[id.0 as usize].place
     }
 
     /// Lends the origins of the destination, in file order.

@@ -8,15 +8,15 @@ use Rattle.best_first.proofs.Listeners.{spoken_so_far}
 use Rattle.best_first.proofs.search.relax.Given as goal
 
 -- the arcs so far have made their offers
-abbrev pub invariant-loop-id : goal.invariant-loop-id
-invariant-loop-id g l =
+abbrev pub invariant-loop-listener : goal.invariant-loop-listener
+invariant-loop-listener g l =
     let value = g.A.Algebra.sig_value l.algebra in
     let rows = l.fixed.rows.items in
     let paths = l.fixed.paths in
     let told = told_by value paths rows in
     record {
       order : l.search.frontier.order ≡ l.fn.search.frontier.order;
-      count : vec_len l.search.best ≡ length l.net.nodes;
-      queue : IsOpen value (g.A.Algebra.is_sig l.algebra) (carrier l.net) told l.search.best.items l.search.frontier.keys;
-      found : (k : ℕ) → found_at (open_routes value paths rows l.search.best.items) k ≡ relaxed (carrier l.net) (told k) (found_at (open_routes value paths rows l.fn.search.best.items) k) (spoken_so_far l.net l.fn.node.0 (told l.fn.node.0) l.id-index k);
+      count : vec_len l.search.best ≡ length l._net.nodes;
+      queue : IsOpen value (g.A.Algebra.is_sig l.algebra) (carrier l._net) told l.search.best.items l.search.frontier.keys;
+      found : (k : ℕ) → found_at (open_routes value paths rows l.search.best.items) k ≡ relaxed (carrier l._net) (told k) (found_at (open_routes value paths rows l.fn.search.best.items) k) (spoken_so_far l._net l.fn.node.0 (told l.fn.node.0) l.listener-index k);
     }

@@ -1,6 +1,6 @@
 use Rattle.std.proofs.Common.{◌≡◌, map}
 use Rattle.net_graph.specs.Views.{pure_row, rows_of}
-use Rattle.metacli.specs.Outcome.{joined_rows}
+use Rattle.net_graph.specs.Tables.{joined_rows}
 use Rattle.metacli.proofs.routing.joined.Given as goal
 
 -- the rows so far are those of the tables so far

@@ -1,5 +1,6 @@
--- Equal routes, equal rows, and routes neither of which is better.
-use Rattle.std.proofs.Common.{◌≡◌, ◌≢◌, ℕ, ◌≤◌, ◌+◌, List, [], ◌∷◌, Option, Some, None, length, zero, suc, refl, arith}
+-- Equal routes, equal rows, and routes neither of which is better. Lemmas, so that proofs of other crates may cite
+-- them.
+use Rattle.std.proofs.Common.{◌≡◌, ◌≢◌, ℕ, ◌≤◌, ◌+◌, List, [], ◌∷◌, Option, Some, None, IfSome, option_map, length, zero, suc, refl, arith}
 use Rattle.std.specs.Ordering.{nat_cmp, ordering_then, ordering_reverse}
 use Rattle.std.specs.declared.cmp.Ordering.{Ordering}
 use Rattle.std.specs.declared.cmp.Ordering.TheVariants.{Less, Equal}
@@ -11,7 +12,7 @@ use Rattle.alg_model.specs.Laws.{total_preorder}
 use Rattle.net_graph.specs.Nets.{PureNet}
 use Rattle.meta_base.specs.NodePaths.{compare_nodes, compare_paths}
 use Rattle.net_graph.specs.Routes.{PureRoute, Better}
-use Rattle.net_graph.specs.Tables.{PureRow, IsRouteOf, AreRowsFrom, TableOf, route_at}
+use Rattle.net_graph.specs.Tables.{PureRow, IsRouteOf, AreRowsFrom, TableOf, route_at, value_at, carrier}
 
 abbrev route : PureValue → List ℕ → PureRoute
 route v p = record { value = v; path = p }
@@ -29,6 +30,14 @@ route_in net dest i (row ∷ rows) h (suc k) r e = route_in net dest (i + 1) row
 
 pub table_route_in : (net : PureNet) (dest : ℕ) (t : List PureRow) → TableOf net dest t → (k : ℕ) (r : PureRoute) → route_at t k ≡ Some r → IsRouteOf net r
 table_route_in net dest t h = route_in net dest 0 t h.rows
+
+-- and its value one of the carrier
+pub table_value_in : (net : PureNet) (dest : ℕ) (t : List PureRow) → TableOf net dest t → (i : ℕ) → IfSome (value_at t i) (In (carrier net))
+table_value_in net dest t h i = by (route_at t i) (λ r e. (table_route_in net dest t h i r e).value_in)
+  where
+    by : (o : Option PureRoute) → ((r : PureRoute) → o ≡ Some r → In (carrier net) r.value) → IfSome (option_map (λ (r : PureRoute). r.value) o) (In (carrier net))
+    by None f = tt
+    by (Some r) f = f r refl
 
 -- past its nodes a table has no route
 pub no_route_past : (net : PureNet) (dest : ℕ) (t : List PureRow) → TableOf net dest t → (i : ℕ) → length net.nodes ≤ i → route_at t i ≡ None
@@ -92,7 +101,8 @@ paths_flip p q = flipped (nat_cmp (length p) (length q)) (nat_cmp (length q) (le
     flipped : (a b c d : Ordering) → b ≡ ordering_reverse a → d ≡ ordering_reverse c → ordering_then b d ≡ ordering_reverse (ordering_then a c)
     flipped a b c d e f = grind arith
 
-paths_equal : (p q : List ℕ) → compare_paths p q ≡ Equal → p ≡ q
+-- equal in order is equal
+pub paths_equal : (p q : List ℕ) → compare_paths p q ≡ Equal → p ≡ q
 paths_equal p q e = nodes_equal p q (then_equal (nat_cmp (length p) (length q)) (compare_nodes p q) e).1
 
 -- routes neither of which is better have one path

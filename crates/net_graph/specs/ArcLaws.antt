@@ -1,6 +1,7 @@
--- What is found in a network's lists.
-use Rattle.std.proofs.Common.{◌≡◌, ℕ, ◌+◌, ◌<◌, List, [], ◌∷◌, Option, Some, None, IfSome, Bool, true, false, ◌==◌, option_map, option_and_then, length, refl, arith}
-use Rattle.std.specs.List.{list_any, find, AllByRecursion}
+-- What is found in a network's lists, and what an arc makes of values. Lemmas, so that proofs of other crates
+-- may cite them.
+use Rattle.std.proofs.Common.{◌≡◌, ℕ, zero, suc, ◌+◌, ◌<◌, List, [], ◌∷◌, Option, Some, None, IfSome, Bool, true, false, ◌==◌, ◌&&◌, filter, option_map, option_and_then, length, refl, arith}
+use Rattle.std.specs.List.{slice_get, list_any, find, AllByRecursion}
 use Rattle.std.proofs.lemmas.Bool.Decides.{nat_tests}
 use Rattle.alg_model.specs.Expressions.{PureLabel, PureValue}
 use Rattle.alg_model.specs.Carriers.{In}
@@ -9,10 +10,10 @@ use Rattle.alg_model.specs.Bounds.{AtMost, LabelAtMost, greatest_number}
 use Rattle.alg_model.specs.Laws.{images_in, images_at_most, at_most_more, label_at_most_more, greatest_is_bounded}
 use Rattle.alg_model.specs.declared.edition.TheConstants.{MAX_LABEL_NUMBER}
 use Rattle.alg_model.specs.Properties.{PureProperty, monotone, isotone, IsMonotone, IsIsotone, Has}
-use Rattle.net_graph.specs.Nets.{PureArc, PureOrigin, PureNet, IsNet, IsArcOf, IsOriginOf, is_arc_between, is_origin_at, has_arc, has_origin, label_between, origin_value}
+use Rattle.net_graph.specs.Nets.{PureArc, PureOrigin, PureNet, IsNet, IsArcOf, IsOriginOf, AreDistinct, joins_same, is_arc_between, is_origin_at, has_arc, has_origin, label_between, origin_value}
 use Rattle.net_graph.specs.Walks.{Walk, Weight, along}
 use Rattle.net_graph.specs.Tables.{NetHas, carrier}
-use Rattle.best_first.proofs.Preferred.{IsUnbeatenBy}
+use Rattle.net_graph.specs.Unbeaten.{IsUnbeatenBy}
 
 pub of_some : {X : Type 0} (P : X → Type 0) (o : Option X) (x : X) → IfSome o P → o ≡ Some x → P x
 of_some P o x i e = rw e at i
@@ -21,7 +22,7 @@ if_mapped : {X Y : Type 0} (f : X → Y) (P : Y → Type 0) (o : Option X) → (
 if_mapped f P None h = tt
 if_mapped f P (Some x) h = h x refl
 
-find_any : {X : Type 0} (p : X → Bool) (xs : List X) (x : X) → find p xs ≡ Some x → list_any p xs ≡ true
+pub find_any : {X : Type 0} (p : X → Bool) (xs : List X) (x : X) → find p xs ≡ Some x → list_any p xs ≡ true
 find_any p [] x e = absurd (cc)
 find_any p (y ∷ ys) x e = by (find_any p ys x) (p y) refl
   where
@@ -29,7 +30,7 @@ find_any p (y ∷ ys) x e = by (find_any p ys x) (p y) refl
     by rest true h = rw h refl
     by rest false h = rw h (rest (rw h at e))
 
-any_find : {X : Type 0} (p : X → Bool) (xs : List X) → list_any p xs ≡ true → (x : X) × (find p xs ≡ Some x)
+pub any_find : {X : Type 0} (p : X → Bool) (xs : List X) → list_any p xs ≡ true → (x : X) × (find p xs ≡ Some x)
 any_find {X = X} p [] e = absurd (cc)
 any_find {X = X} p (y ∷ ys) e = by (any_find p ys) (p y) refl
   where
@@ -37,7 +38,7 @@ any_find {X = X} p (y ∷ ys) e = by (any_find p ys) (p y) refl
     by rest true h = (y, rw h refl)
     by rest false h = let found = rest (rw h at e) in (found.0, rw h found.1)
 
-find_all : {X : Type 0} (P : X → Type 0) (p : X → Bool) (xs : List X) → AllByRecursion P xs → (x : X) → find p xs ≡ Some x → P x × (p x ≡ true)
+pub find_all : {X : Type 0} (P : X → Type 0) (p : X → Bool) (xs : List X) → AllByRecursion P xs → (x : X) → find p xs ≡ Some x → P x × (p x ≡ true)
 find_all P p [] all x e = absurd (cc)
 find_all P p (y ∷ ys) all x e = by (find_all P p ys all.1 x) (p y) refl
   where
@@ -47,6 +48,35 @@ find_all P p (y ∷ ys) all x e = by (find_all P p ys all.1 x) (p y) refl
         let same : y ≡ x = cc in
         (rw same at all.0, rw same at h)
     by rest false h = rest (rw h at e)
+
+-- the first that passes two tests is the first of those that pass one to pass the other
+pub find-filter : {X : Type 0} (p q : X → Bool) (xs : List X) → find (λ x. p x && q x) xs ≡ find q (filter p xs)
+find-filter p q [] = refl
+find-filter p q (x ∷ xs) = by (find-filter p q xs) (p x) refl (q x) refl
+  where
+    by : find (λ x. p x && q x) xs ≡ find q (filter p xs) → (b : Bool) → p x ≡ b → (c : Bool) → q x ≡ c → find (λ x. p x && q x) (x ∷ xs) ≡ find q (filter p (x ∷ xs))
+    by rest true h true k = rw (h, k) refl
+    by rest true h false k = rw (h, k) rest
+    by rest false h c k = rw h rest
+
+-- what holds of all holds of the one at a place
+pub all_at : {X : Type 0} (P : X → Type 0) (xs : List X) (k : ℕ) (x : X) → AllByRecursion P xs → slice_get xs k ≡ Some x → P x
+all_at P [] k x h e = absurd (cc)
+all_at P (y ∷ ys) zero x h e =
+    let same : y ≡ x = cc in
+    rw same at h.0
+all_at P (y ∷ ys) (suc k) x h e = all_at P ys k x h.1 e
+
+-- an arc is the one between its nodes
+pub found_between : (arcs : List PureArc) → AreDistinct joins_same arcs → (k : ℕ) (b : PureArc) → slice_get arcs k ≡ Some b → find (is_arc_between b.tail b.head) arcs ≡ Some b
+found_between [] h k b e = absurd (cc)
+found_between (a ∷ arcs) h zero b e =
+    let same : a ≡ b = cc in
+    let test : is_arc_between b.tail b.head b ≡ true = grind (arith, nat_tests) in
+    rw (same, test) refl
+found_between (a ∷ arcs) h (suc k) b e =
+    let apart : is_arc_between b.tail b.head a ≡ false = all_at (λ y. joins_same a y ≡ false) arcs k b h.0 e in
+    rw apart (found_between arcs h.1 k b e)
 
 -- what holds of the arc from i to j, and of its label
 pub record IsArc (net : PureNet) (i j : ℕ) (l : PureLabel) : Type 0 where
@@ -111,6 +141,22 @@ walk_within net n dest i (j ∷ p) w =
     let g = find_all (IsArcOf net.alg (length net.nodes)) (is_arc_between i j) net.arcs n.arcs_in f.0 f.1 in
     let tail : f.0.tail ≡ i = grind (arith, nat_tests, g.1) in
     rw tail at g.0.tail_in
+
+-- an arc from i gives a value only if it is one
+pub along_has : (net : PureNet) → IsNet net → (i j : ℕ) (x : Option PureValue) (v : PureValue) → along net i j x ≡ Some v → has_arc net i j ≡ true
+along_has net n i j x v e = by (label_between net i j) (arcs_are net n i j) e
+  where
+    by : (o : Option PureLabel) → IfSome o (IsArc net i j) → option_and_then (λ l. option_and_then (App net.alg.expression l) x) o ≡ Some v → has_arc net i j ≡ true
+    by None a e = absurd (cc)
+    by (Some l) a e = a.has
+
+-- and nothing of none
+pub along_none : (net : PureNet) (i j : ℕ) → along net i j None ≡ None
+along_none net i j = by (label_between net i j)
+  where
+    by : (o : Option PureLabel) → option_and_then (λ l. option_and_then (App net.alg.expression l) None) o ≡ None
+    by None = refl
+    by (Some l) = refl
 
 -- what an arc makes of a value is a value of the carrier
 pub along_in : (net : PureNet) → IsNet net → (i j : ℕ) (x : Option PureValue) → IfSome x (In (carrier net)) → IfSome (along net i j x) (In (carrier net))

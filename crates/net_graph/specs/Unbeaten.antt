@@ -1,4 +1,5 @@
--- Preference among values and none, from its laws on values.
+-- Preference among values and none, from its laws on values. Lemmas, so that proofs of other crates may cite
+-- them.
 use Rattle.std.proofs.Common.{◌≡◌, ◌≢◌, Option, Some, None, IfSome, arith}
 use Rattle.std.specs.Ordering.{ordering_reverse}
 use Rattle.std.specs.declared.cmp.Ordering.{Ordering}
@@ -30,3 +31,8 @@ unbeaten_trans c (Some u) None (Some w) i j k f g = λ e. g (cc)
 unbeaten_trans c (Some u) None None i j k f g = λ e. cc
 unbeaten_trans c None (Some v) z i j k f g = λ e. f (cc)
 unbeaten_trans c None None z i j k f g = g
+
+-- none is preferred neither to a value nor to none
+pub none_last : (c : PureCarrier) (x : Option PureValue) → IsUnbeatenBy c x None
+none_last c None e = cc
+none_last c (Some v) e = cc
