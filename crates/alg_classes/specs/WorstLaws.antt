@@ -1,18 +1,20 @@
 -- Laws of the worst value of a carrier and of its bounds, for the proofs of the crates above; and of the constants:
 -- the profile of each is that of the best value or that of the worst.
-use Rattle.std.proofs.Common.{◌≡◌, ℕ, refl, sym, ap, ◌∙◌, subst, ◌⊎◌, inl, inr, ◌-◌, ◌<◌, ◌≤◌, List, length, Bool, true, false, ◌||◌, Option, Some, None, option_map, arith}
+use Rattle.std.proofs.Common.{◌≡◌, ℕ, refl, sym, ap, ◌∙◌, subst, ◌⊎◌, inl, inr, ⊎_elim, ◌-◌, ◌<◌, ◌≤◌, List, length, Bool, true, false, ◌||◌, Option, Some, None, option_map, arith}
 use Rattle.std.specs.Prelude.{nat_lt, slice_index}
 use Rattle.std.specs.Option.{IfSome}
 use Rattle.std.specs.declared.cmp.Ordering.TheVariants.{Less, Equal}
 use Rattle.std.proofs.lemmas.Bool.Decides.{nat_tests}
 use Rattle.std.proofs.lemmas.Nat.{pow_pos}
+use Rattle.std.proofs.lemmas.Option.{same_Some, none-some}
+use Rattle.alg_model.specs.declared.edition.Edition.{Edition}
 use Rattle.alg_model.specs.Expressions.{Expression, add, cap, width, pref, orig, seq, simseq, tags, guard, gate, table, lex, scoped, union, sum, plus, left, right}
 use Rattle.alg_model.specs.Expressions as model
 use Rattle.alg_model.specs.Expressions.{PureCarrier, whole, up_to, down_from, seqs, simseqs, sets, one, named, pairs, sides}
 use Rattle.alg_model.specs.Expressions.{PureValue, pair, first, second}
 use Rattle.alg_model.specs.Carriers.{carrier_of, In, Order}
 use Rattle.alg_model.specs.Application.{both}
-use Rattle.alg_model.specs.Bounds.{AtMost, ExpressionAtMost}
+use Rattle.alg_model.specs.Bounds.{AtMost, ExpressionAtMost, greatest_number}
 use Rattle.alg_model.specs.Formation.{IsCarrier}
 use Rattle.alg_model.specs.PreferenceLaws.{each_pair, each_side}
 use Rattle.alg_classes.specs.Constants.{constant_bits, constant_profile}
@@ -71,7 +73,7 @@ worst_is_worst c is = by_test c (worst c) is (worst_by_test c is)
 
 -- The numbers of both.
 
-pub carrier_at_most : (n : ℕ) (a : Expression) → ExpressionAtMost n a → CarrierAtMost n (carrier_of a)
+carrier_at_most : (n : ℕ) (a : Expression) → ExpressionAtMost n a → CarrierAtMost n (carrier_of a)
 carrier_at_most n (add low high) h = tt
 carrier_at_most n (cap top low high) h = h.0
 carrier_at_most n (model.worst top low high) h = h.0
@@ -131,6 +133,12 @@ best_within c n h = best_at_most n c h
 pub worst_within : (c : PureCarrier) (w : PureValue) → worst c ≡ Some w → IsWithin c w
 worst_within c w e n h = subst (λ o. IfSome o (AtMost n)) e (worst_at_most n c h)
 
+-- a value whose numbers are among those of an algebra's carrier has none above its edition's greatest
+pub within_edition : (a : Expression) (e : Edition) (c : PureCarrier) (v : PureValue) → ExpressionAtMost (greatest_number e) a → c ≡ carrier_of a
+    → IsWithin c v → AtMost (greatest_number e) v
+within_edition a e c v bound same within =
+    within (greatest_number e) (subst (CarrierAtMost (greatest_number e)) (sym same) (carrier_at_most (greatest_number e) a bound))
+
 -- The constants.
 
 -- where some value has a worse one, the best has
@@ -154,9 +162,20 @@ as_worst : (c : PureCarrier) (v : PureValue) → In c v → has_worse c v ≡ fa
 as_worst c v i h None e worst_is = let f = worst_is v i in absurd (cc)
 as_worst c v i h (Some w) e worst_is = inr (w, e, same_profile c v w false h worst_is.1)
 
-as_either : (c : PureCarrier) (v : PureValue) → IsCarrier c → In c v → (b : Bool) → has_worse c v ≡ b → IsAsBestOrWorst c v
-as_either c v is i true h = inl (same_profile c v (best c) true h (best_has_worse c v is i h (is_flat c) refl))
-as_either c v is i false h = as_worst c v i h (worst c) refl (worst_by_test c is)
+by_worse : (c : PureCarrier) (v : PureValue) → IsCarrier c → In c v → (b : Bool) → has_worse c v ≡ b → IsAsBestOrWorst c v
+by_worse c v is i true h = inl (same_profile c v (best c) true h (best_has_worse c v is i h (is_flat c) refl))
+by_worse c v is i false h = as_worst c v i h (worst c) refl (worst_by_test c is)
 
-pub as_best_or_worst : (c : PureCarrier) (v : PureValue) → IsCarrier c → In c v → IsAsBestOrWorst c v
-as_best_or_worst c v is i = as_either c v is i (has_worse c v) refl
+as_best_or_worst : (c : PureCarrier) (v : PureValue) → IsCarrier c → In c v → IsAsBestOrWorst c v
+as_best_or_worst c v is i = by_worse c v is i (has_worse c v) refl
+
+-- the best value and the worst, where there is one, make the profiles of all constants
+pub as_best : (c : PureCarrier) (v : PureValue) → IsCarrier c → worst c ≡ None → In c v → constant_profile c v ≡ constant_profile c (best c)
+as_best c v is none i = ⊎_elim (λ e. e) (λ e. absurd (none-some e.0 (sym none ∙ e.1))) (as_best_or_worst c v is i)
+
+pub as_either : (c : PureCarrier) (v w : PureValue) → IsCarrier c → worst c ≡ Some w → In c v
+    → (constant_profile c v ≡ constant_profile c (best c)) ⊎ (constant_profile c v ≡ constant_profile c w)
+as_either c v w is worst_is i = ⊎_elim
+    (λ e. inl e)
+    (λ e. inr (e.2 ∙ ap (constant_profile c) (same_Some e.0 w (sym e.1 ∙ worst_is))))
+    (as_best_or_worst c v is i)

@@ -4,3 +4,5 @@ pub mod Labels
 pub mod PartLaws
 pub mod ToldLaws
 pub mod LabelLaws
+pub mod Shown
+pub mod ShownLaws

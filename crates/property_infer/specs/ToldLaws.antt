@@ -23,7 +23,7 @@ use Rattle.property_infer.specs.Labels.{CoversLabels}
 use Rattle.property_infer.specs.Told.{fact_of, instance_at, lack_of, first_lack, told, verdicts_of, has_all, all_hold}
 
 -- a property is its fact
-fact_has : (p : PureProperty) (a : Expression) (l : PureLabel) → Holds (carrier_of a) (App a l) (fact_of p) → Has p a l
+pub fact_has : (p : PureProperty) (a : Expression) (l : PureLabel) → Holds (carrier_of a) (App a l) (fact_of p) → Has p a l
 fact_has monotone a l h = h
 fact_has strict a l h = h
 fact_has isotone a l h = h
@@ -113,11 +113,18 @@ has_profile_too p (class ∷ classes) q all has = ⊎_elim
 abbrev pub CoversSet : PureAlg → (PureLabel → Type 0) → List Class → Type 0
 CoversSet a S classes = (l : PureLabel) → S l → IsCovered a classes l
 
-exact_by : (a : PureAlg) (p : PureProperty) (S : PureLabel → Type 0) (classes : List Class) → CoversSet a S classes → (o : Option PureInstance)
+-- where all classes have the property, it holds of each label of the set
+abbrev pub TellsOf : PureAlg → (PureLabel → Type 0) → List Class → PureProperty → Type 0
+TellsOf a S classes p = AllByRecursion (λ class. bit class.profile (fact_of p) ≡ true) classes → (l : PureLabel) → S l → Has p a.expression l
+
+covered_tells : (a : PureAlg) (p : PureProperty) (S : PureLabel → Type 0) (classes : List Class) → CoversSet a S classes → TellsOf a S classes p
+covered_tells a p S classes covers all l s =
+    let c = covers l s in fact_has p a.expression l ((c.1 (fact_of p)).0 (has_profile_too p classes c.0 all c.2))
+
+exact_by : (a : PureAlg) (p : PureProperty) (S : PureLabel → Type 0) (classes : List Class) → TellsOf a S classes p → (o : Option PureInstance)
     → ListTells a p S classes o → IsExact p a.expression S (told o)
-exact_by a p S classes covers None t = λ l s.
-    let c = covers l s in fact_has p a.expression l ((c.1 (fact_of p)).0 (has_profile_too p classes c.0 t c.2))
-exact_by a p S classes covers (Some x) t = t.0
+exact_by a p S classes tells None t = tells t
+exact_by a p S classes tells (Some x) t = t.0
 
 bound_by : (a : PureAlg) (p : PureProperty) (S : PureLabel → Type 0) (classes : List Class) (o : Option PureInstance)
     → ListTells a p S classes o → VerdictAtMost (greatest_number a.edition) MAX_INSTANCE_NUMBER (told o)
@@ -131,12 +138,17 @@ told_on classes isotone = refl
 told_on classes cancellative = refl
 told_on classes total = refl
 
--- what classes tell is exact for a set of labels whose profiles they have, and has small numbers
+-- what classes tell is exact for a set of labels of which it tells, and has small numbers
+told_exact_by : (a : PureAlg) (S : PureLabel → Type 0) (classes : List Class) → AllByRecursion (ClassOf a) classes
+    → AllByRecursion (λ class. S (pure_label class.label)) classes → ((p : PureProperty) → TellsOf a S classes p) → ExactFor a.expression S (verdicts_of classes)
+told_exact_by a S classes each of_set tells p =
+    subst (λ v. IsExact p a.expression S v) (sym (told_on classes p))
+    (exact_by a p S classes (tells p) (first_lack p classes) (list_tells a p S classes each of_set))
+
+-- so for one whose profiles they have
 pub told_exact : (a : PureAlg) (S : PureLabel → Type 0) (classes : List Class) → AllByRecursion (ClassOf a) classes
     → AllByRecursion (λ class. S (pure_label class.label)) classes → CoversSet a S classes → ExactFor a.expression S (verdicts_of classes)
-told_exact a S classes each of_set covers p =
-    subst (λ v. IsExact p a.expression S v) (sym (told_on classes p))
-    (exact_by a p S classes covers (first_lack p classes) (list_tells a p S classes each of_set))
+told_exact a S classes each of_set covers = told_exact_by a S classes each of_set (λ p. covered_tells a p S classes covers)
 
 pub told_bounded : (a : PureAlg) (S : PureLabel → Type 0) (classes : List Class) → AllByRecursion (ClassOf a) classes
     → AllByRecursion (λ class. S (pure_label class.label)) classes
@@ -149,13 +161,17 @@ labels_of : (a : PureAlg) (classes : List Class) → AllByRecursion (ClassOf a) 
 labels_of a [] each = tt
 labels_of a (class ∷ classes) each = (each.0.label, labels_of a classes each.1)
 
--- for all labels where the classes cover the algebra
+-- for all labels where the classes cover the algebra, or tell of them
 pub told_of_all : (a : PureAlg) (classes : List Class) → Covers a classes → ExactFor a.expression (IsLabel a.expression) (verdicts_of classes)
 told_of_all a classes c = told_exact a (IsLabel a.expression) classes c.each (labels_of a classes c.each) c.labels
 
-pub told_of_all_bounded : (a : PureAlg) (classes : List Class) → Covers a classes
+pub told_of_each : (a : PureAlg) (classes : List Class) → AllByRecursion (ClassOf a) classes → ((p : PureProperty) → TellsOf a (IsLabel a.expression) classes p)
+    → ExactFor a.expression (IsLabel a.expression) (verdicts_of classes)
+told_of_each a classes each = told_exact_by a (IsLabel a.expression) classes each (labels_of a classes each)
+
+pub told_of_each_bounded : (a : PureAlg) (classes : List Class) → AllByRecursion (ClassOf a) classes
     → VerdictsAtMost (greatest_number a.edition) MAX_INSTANCE_NUMBER (verdicts_of classes)
-told_of_all_bounded a classes c = told_bounded a (IsLabel a.expression) classes c.each (labels_of a classes c.each)
+told_of_each_bounded a classes each = told_bounded a (IsLabel a.expression) classes each (labels_of a classes each)
 
 -- for the labels of a list
 pub told_of_labels : (a : PureAlg) (labels : List PureLabel) (classes : List Class) → CoversLabels a labels classes

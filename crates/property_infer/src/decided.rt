@@ -9,11 +9,12 @@ ghost use Rattle.alg_model.specs.Views.{pure_label};
 ghost use Rattle.property_infer.specs.Told.{all_hold, has_all};
 ghost use Rattle.property_infer.specs.Views.{pure_verdicts};
 
-use crate::parts::part_classes;
+use crate::shown::shown_classes;
 use crate::{Verdict, Verdicts, label_class, label_profile, verdicts_of};
 use alg_classes::Profile;
 use alg_model::{Alg, Label};
 use meta_base::NoMemory;
+use profile_labels::covering_labels;
 use std::alloc::Global;
 
 /// The exact verdicts on an algebra: each property holds of all its labels, or an instance shows that one of
@@ -25,7 +26,8 @@ pub fn verdicts(alloc: Global, alg: &Alg) -> Result<Verdicts, NoMemory>
     ensures bound { IfOk result (λ verdicts.
         VerdictsAtMost (greatest_number alg.now.edition) MAX_INSTANCE_NUMBER (pure_verdicts verdicts)) }
 {
-    let classes = part_classes(alloc, alg, alg.tree())?;
+    let labels = covering_labels(alloc, alg)?;
+    let classes = shown_classes(alloc, alg, labels.as_slice())?;
     verdicts_of(alloc, classes.classes())
 }
 

@@ -7,6 +7,7 @@ mod decided;
 mod labels;
 mod laws;
 mod parts;
+mod shown;
 mod told;
 mod verdict;
 

@@ -1,12 +1,11 @@
 -- The laws of scoped classes, for the proofs of their calls.
 use Rattle.std.proofs.Common.{◌≡◌, refl, sym, ap, subst, ◌∙◌, ◌⊎◌, inl, inr, ⊎_elim, List, [], Some, None}
-use Rattle.std.proofs.lemmas.Option.{same_Some, none-some}
 use Rattle.alg_model.specs.declared.alg.TheConstants.{MAX_INSTANCE_NUMBER}
 use Rattle.alg_model.specs.declared.edition.Edition.{Edition}
 use Rattle.alg_model.specs.Expressions.{Expression, scoped, PureCarrier, pairs, PureValue, pair, PureLabel, outer, inner}
 use Rattle.alg_model.specs.Views.{pure_label}
 use Rattle.alg_model.specs.Application.{IsLabel, App}
-use Rattle.alg_model.specs.Bounds.{AtMost, ExpressionAtMost, greatest_number}
+use Rattle.alg_model.specs.Bounds.{AtMost, greatest_number}
 use Rattle.alg_model.specs.Carriers.{carrier_of, In}
 use Rattle.alg_model.specs.Formation.{IsFormed, IsCarrier}
 use Rattle.alg_model.specs.Laws.{formed_scoped}
@@ -25,8 +24,8 @@ use Rattle.alg_classes.specs.Growth.{Grown, Only, Over}
 use Rattle.alg_classes.specs.GrowthLaws.{grown_then}
 use Rattle.alg_classes.specs.Pairs.{paired, pair_profile, pair_examples}
 use Rattle.alg_classes.specs.PairLaws.{pair_settled, pair_profile_is, pair_bound, same_actions}
-use Rattle.alg_classes.specs.Worst.{worst, CarrierAtMost, IsWithin}
-use Rattle.alg_classes.specs.WorstLaws.{carrier_at_most, as_best_or_worst}
+use Rattle.alg_classes.specs.Worst.{worst}
+use Rattle.alg_classes.specs.WorstLaws.{as_best, as_either}
 use Rattle.scoped_classes.specs.Scoped.{outer_rule, inner_rule, IsOuterProfile, IsInnerProfile, OfOuters}
 
 -- What the labels do.
@@ -127,36 +126,27 @@ made_inner a b e c y z x formed same is settled small profile_is label_is exampl
     (subst (λ d. IsSettledBy d kept (kept_profile c) x) same settled) is.settled)
     (pair_bound MAX_INSTANCE_NUMBER x (pure_examples y.examples) small is.bound)
 
--- a value of the second whose numbers are among those of its carrier has none above its edition's greatest
-pub within_edition : (b : Expression) (e : Edition) (d : PureCarrier) (v : PureValue) → ExpressionAtMost (greatest_number e) b → d ≡ carrier_of b
-    → IsWithin d v → AtMost (greatest_number e) v
-within_edition b e d v bound same within =
-    within (greatest_number e) (subst (CarrierAtMost (greatest_number e)) (sym same) (carrier_at_most (greatest_number e) b bound))
-
 -- The constants: the best value and the worst, where there is one, make the profiles of all.
-as_best : (d : PureCarrier) (xs : List Class) → IsCarrier d → worst d ≡ None → (r : Profile) → Over (OfOuters d) xs r
+over_best : (d : PureCarrier) (xs : List Class) → IsCarrier d → worst d ≡ None → (r : Profile) → Over (OfOuters d) xs r
     → Over (λ p. Only (outer_rule d (best d) p)) xs r
-as_best d xs is none r t =
+over_best d xs is none r t =
     let made = t.2 in
-    ⊎_elim
-    (λ f. (t.0, t.1, made.2 ∙ ap (pair_profile t.0) f))
-    (λ f. absurd (none-some f.0 (sym none ∙ f.1)))
-    (as_best_or_worst d made.0 is made.1)
+    (t.0, t.1, made.2 ∙ ap (pair_profile t.0) (as_best d made.0 is none made.1))
 
-as_either : (d : PureCarrier) (w : PureValue) (xs : List Class) → IsCarrier d → worst d ≡ Some w → (r : Profile) → Over (OfOuters d) xs r
+over_either : (d : PureCarrier) (w : PureValue) (xs : List Class) → IsCarrier d → worst d ≡ Some w → (r : Profile) → Over (OfOuters d) xs r
     → Over (λ p. Only (outer_rule d (best d) p)) xs r ⊎ Over (λ p. Only (outer_rule d w p)) xs r
-as_either d w xs is worst_is r t =
+over_either d w xs is worst_is r t =
     let made = t.2 in
     ⊎_elim
     (λ f. inl (t.0, t.1, made.2 ∙ ap (pair_profile t.0) f))
-    (λ f. inr (t.0, t.1, made.2 ∙ ap (pair_profile t.0) (f.2 ∙ ap (constant_profile d) (same_Some f.0 w (sym f.1 ∙ worst_is)))))
-    (as_best_or_worst d made.0 is made.1)
+    (λ f. inr (t.0, t.1, made.2 ∙ ap (pair_profile t.0) f))
+    (as_either d made.0 w is worst_is made.1)
 
 pub grown_by_best : (P : Class → Type 0) (d : PureCarrier) (xs old new : List Class) → IsCarrier d → worst d ≡ None
     → Grown P (Over (λ p. Only (outer_rule d (best d) p)) xs) old new → Grown P (Over (OfOuters d) xs) old new
 grown_by_best P d xs old new is none g = record {
   kept = g.kept;
-  reached = λ r t. g.reached r (as_best d xs is none r t);
+  reached = λ r t. g.reached r (over_best d xs is none r t);
   each = g.each;
   distinct = g.distinct;
 }
@@ -165,7 +155,7 @@ pub grown_by_both : (P : Class → Type 0) (d : PureCarrier) (w : PureValue) (xs
     → Grown P (Over (λ p. Only (outer_rule d (best d) p)) xs) old mid → Grown P (Over (λ p. Only (outer_rule d w p)) xs) mid new
     → Grown P (Over (OfOuters d) xs) old new
 grown_by_both P d w xs old mid new is worst_is = grown_then P (Over (λ p. Only (outer_rule d (best d) p)) xs) (Over (λ p. Only (outer_rule d w p)) xs)
-    (Over (OfOuters d) xs) old mid new (as_either d w xs is worst_is)
+    (Over (OfOuters d) xs) old mid new (over_either d w xs is worst_is)
 
 -- a label of the product is of one of the two kinds
 each_of_both : (a b : Expression) (P : PureLabel → Type 0)

@@ -1,6 +1,5 @@
 -- Classes of the labels of left and right products, and lists of them that cover.
 use Rattle.std.proofs.Common.{◌≡◌, refl, sym, ap, subst, ◌∙◌, ◌⊎◌, inl, inr, ⊎_elim, List, [], Some, None}
-use Rattle.std.proofs.lemmas.Option.{same_Some, none-some}
 use Rattle.alg_model.specs.declared.alg.TheConstants.{MAX_INSTANCE_NUMBER}
 use Rattle.alg_model.specs.declared.edition.Edition.{Edition}
 use Rattle.alg_model.specs.Expressions.{Expression, PureCarrier, PureValue, left, right}
@@ -8,7 +7,7 @@ use Rattle.alg_model.specs.Expressions.{PureLabel, const_label, keep}
 use Rattle.alg_model.specs.Views.{pure_label}
 use Rattle.alg_model.specs.Carriers.{carrier_of, In}
 use Rattle.alg_model.specs.Application.{IsLabel}
-use Rattle.alg_model.specs.Bounds.{AtMost, ExpressionAtMost, greatest_number}
+use Rattle.alg_model.specs.Bounds.{AtMost, greatest_number}
 use Rattle.alg_model.specs.Formation.{IsFormed, IsCarrier}
 use Rattle.alg_model.specs.Laws.{formed_left, formed_right}
 use Rattle.alg_classes.specs.declared.profile.Profile.{Profile}
@@ -19,11 +18,11 @@ use Rattle.alg_classes.specs.ClassLaws.{class_profile}
 use Rattle.alg_model.specs.CarrierLaws.{carriers_are}
 use Rattle.alg_classes.specs.Constants.{constant, kept, constant_profile, kept_profile, left_profile, right_profile}
 use Rattle.alg_classes.specs.Flat.{best}
-use Rattle.alg_classes.specs.Worst.{worst, CarrierAtMost, IsWithin}
-use Rattle.alg_classes.specs.WorstLaws.{carrier_at_most, as_best_or_worst}
+use Rattle.alg_classes.specs.Worst.{worst}
+use Rattle.alg_classes.specs.WorstLaws.{as_best, as_either}
 use Rattle.alg_classes.specs.Growth.{Grown, Only}
 use Rattle.alg_classes.specs.RuleLaws.{class_from}
-use Rattle.alg_classes.specs.GrowthLaws.{grown_by_one}
+use Rattle.alg_classes.specs.GrowthLaws.{grown_by_one, grown_then}
 use Rattle.union_classes.specs.Made.{OfConstants}
 
 -- the profiles, by a carrier that is the part's
@@ -74,39 +73,19 @@ right_covers a e z zs label is grown =
     }
 
 -- The constants of the best value and of the worst have the profiles of all.
-as_best : (c : PureCarrier) → IsCarrier c → worst c ≡ None → (p : Profile) → OfConstants c p → p ≡ constant_profile c (best c)
-as_best c is none p t = ⊎_elim (λ e. t.2 ∙ e) (λ e. absurd (none-some e.0 (sym none ∙ e.1))) (as_best_or_worst c t.0 is t.1)
-
-as_either : (c : PureCarrier) (w : PureValue) → IsCarrier c → worst c ≡ Some w → (p : Profile) → OfConstants c p
-    → (p ≡ constant_profile c (best c)) ⊎ (p ≡ constant_profile c w)
-as_either c w is worst_is p t = ⊎_elim
-    (λ e. inl (t.2 ∙ e))
-    (λ e. inr (t.2 ∙ e.2 ∙ ap (constant_profile c) (same_Some e.0 w (sym e.1 ∙ worst_is))))
-    (as_best_or_worst c t.0 is t.1)
-
 pub grown_by_best : (P : Class → Type 0) (c : PureCarrier) (old new : List Class) → IsCarrier c → worst c ≡ None
     → Grown P (Only (constant_profile c (best c))) old new → Grown P (OfConstants c) old new
 grown_by_best P c old new is none g = record {
   kept = g.kept;
-  reached = λ p t. g.reached p (as_best c is none p t);
+  reached = λ p t. g.reached p (t.2 ∙ as_best c t.0 is none t.1);
   each = g.each;
   distinct = g.distinct;
 }
 
 pub grown_by_both : (P : Class → Type 0) (c : PureCarrier) (w : PureValue) (old mid new : List Class) → IsCarrier c → worst c ≡ Some w
     → Grown P (Only (constant_profile c (best c))) old mid → Grown P (Only (constant_profile c w)) mid new → Grown P (OfConstants c) old new
-grown_by_both P c w old mid new is worst_is g h = record {
-  kept = λ p has. h.kept p (g.kept p has);
-  reached = λ p t. ⊎_elim (λ e. h.kept p (g.reached p e)) (λ e. h.reached p e) (as_either c w is worst_is p t);
-  each = λ all. h.each (g.each all);
-  distinct = λ are. h.distinct (g.distinct are);
-}
-
--- their numbers are the edition's, where those of the algebra are
-pub within_edition : (a : Expression) (e : Edition) (c : PureCarrier) (v : PureValue) → ExpressionAtMost (greatest_number e) a → c ≡ carrier_of a
-    → IsWithin c v → AtMost (greatest_number e) v
-within_edition a e c v bound same within =
-    within (greatest_number e) (subst (CarrierAtMost (greatest_number e)) (sym same) (carrier_at_most (greatest_number e) a bound))
+grown_by_both P c w old mid new is worst_is = grown_then P (Only (constant_profile c (best c))) (Only (constant_profile c w)) (OfConstants c) old mid new
+    (λ p t. ⊎_elim (λ e. inl (t.2 ∙ e)) (λ e. inr (t.2 ∙ e)) (as_either c t.0 w is worst_is t.1))
 
 -- a left product's labels are the constants, so a list of classes that has their profiles covers
 each_of_left : (a : Expression) (P : PureLabel → Type 0) → ((v : PureValue) → In (carrier_of a) v → P (const_label v))

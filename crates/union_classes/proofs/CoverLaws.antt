@@ -22,7 +22,7 @@ use Rattle.alg_classes.specs.RuleLaws.{class_from}
 use Rattle.alg_classes.specs.Inhabited.{carrier_inhabited, labels_inhabited}
 use Rattle.union_classes.specs.Sums.{of_either, across, or_else, beside_profile, first_profile, second_profile, beside_examples, denied_examples}
 use Rattle.union_classes.specs.Made.{AreExamples, IsSumOf, IsFirstOf, IsSecondOf, IsValueOf, SomeValueOf, either_value, shown_value}
-use Rattle.union_classes.proofs.LabelLaws.{sum_settled, union_first_settled, union_second_settled, plus_first_settled, plus_second_settled, sum_profile_of, first_profile_of, second_profile_of, plus_first_profile_of, plus_second_profile_of}
+use Rattle.union_classes.specs.LabelLaws.{sum_settled, union_first_settled, union_second_settled, plus_first_settled, plus_second_settled, sum_profile_of, first_profile_of, second_profile_of, plus_first_profile_of, plus_second_profile_of}
 
 each_example : (x : Examples) (w : PureExamples) → AreExamples x w → (k : Fact) → pure_examples x k ≡ w k
 each_example x w are total = are.outside

@@ -1,3 +1,2 @@
-mod LabelLaws
 mod CoverLaws
 mod ConstLaws

@@ -2,3 +2,4 @@ pub mod Sums
 pub mod Made
 pub mod SideLaws
 pub mod SumLaws
+pub mod LabelLaws

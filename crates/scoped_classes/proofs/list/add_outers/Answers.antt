@@ -7,9 +7,9 @@ use Rattle.alg_classes.specs.Classes.{ClassOf, alg_in}
 use Rattle.alg_classes.specs.FlatLaws.{best_in}
 use Rattle.alg_classes.specs.Growth.{Grown, Only, Over}
 use Rattle.alg_classes.specs.Worst.{IsWithin}
-use Rattle.alg_classes.specs.WorstLaws.{best_within, worst_within}
+use Rattle.alg_classes.specs.WorstLaws.{best_within, worst_within, within_edition}
 use Rattle.scoped_classes.specs.Scoped.{outer_rule}
-use Rattle.scoped_classes.specs.ScopedLaws.{within_edition, grown_by_best, grown_by_both}
+use Rattle.scoped_classes.specs.ScopedLaws.{grown_by_best, grown_by_both}
 use Rattle.scoped_classes.proofs.list.add_outers.Goals as goal
 
 pub add_outers_to-requires-clause-value : goal.add_outers_to-requires-clause-value

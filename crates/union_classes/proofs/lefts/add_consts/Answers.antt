@@ -8,8 +8,8 @@ use Rattle.alg_classes.specs.Constants.{constant_profile}
 use Rattle.alg_classes.specs.FlatLaws.{best_in}
 use Rattle.alg_classes.specs.Growth.{Grown, Only}
 use Rattle.alg_classes.specs.Worst.{IsWithin}
-use Rattle.alg_classes.specs.WorstLaws.{best_within, worst_within}
-use Rattle.union_classes.proofs.ConstLaws.{within_edition, grown_by_best, grown_by_both}
+use Rattle.alg_classes.specs.WorstLaws.{best_within, worst_within, within_edition}
+use Rattle.union_classes.proofs.ConstLaws.{grown_by_best, grown_by_both}
 use Rattle.union_classes.proofs.lefts.add_consts.Goals as goal
 
 pub add_const-requires-clause-value : goal.add_const-requires-clause-value

@@ -1,7 +1,7 @@
 use Rattle.std.proofs.Common.{sym, subst}
 use Rattle.alg_model.specs.Expressions.{sum, both_label}
 use Rattle.alg_classes.specs.Profiles.{ProfileOf}
-use Rattle.union_classes.proofs.LabelLaws.{sum_profile_of}
+use Rattle.union_classes.specs.LabelLaws.{sum_profile_of}
 use Rattle.union_classes.proofs.profiles.sum_profile.Goals as goal
 
 pub returns-clause-exact : goal.returns-clause-exact

@@ -1,4 +1,4 @@
-use Rattle.union_classes.proofs.LabelLaws.{first_profile_of}
+use Rattle.union_classes.specs.LabelLaws.{first_profile_of}
 use Rattle.union_classes.proofs.profiles.union_first_profile.Goals as goal
 
 pub returns-clause-exact : goal.returns-clause-exact

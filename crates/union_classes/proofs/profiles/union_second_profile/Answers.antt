@@ -1,4 +1,4 @@
-use Rattle.union_classes.proofs.LabelLaws.{second_profile_of}
+use Rattle.union_classes.specs.LabelLaws.{second_profile_of}
 use Rattle.union_classes.proofs.profiles.union_second_profile.Goals as goal
 
 pub returns-clause-exact : goal.returns-clause-exact

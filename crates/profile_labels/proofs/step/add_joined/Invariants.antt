@@ -1,0 +1,12 @@
+use Rattle.std.proofs.Common.{take}
+use Rattle.std.specs.List.{AllByRecursion}
+use Rattle.alg_model.specs.Expressions.{PureAlg}
+use Rattle.profile_labels.specs.Growth.{Grown, Only, Over}
+use Rattle.profile_labels.specs.Labels.{LabelledOf}
+use Rattle.profile_labels.specs.Steps.{Joins, joint_profile}
+use Rattle.profile_labels.proofs.step.add_joined.Given as goal
+
+-- grown by those that begin with the labels so far
+abbrev pub invariant-loop-x : goal.invariant-loop-x
+invariant-loop-x l = (a b c : PureAlg) → Joins l.joint a b c → AllByRecursion (LabelledOf a) l.xs → AllByRecursion (LabelledOf b) l.ys
+    → Grown (LabelledOf c) (Over (λ p. Over (λ q. Only (joint_profile l.joint p q)) l.ys) (take l.x-index l.xs)) l.fn.list l.list
