@@ -1,0 +1,11 @@
+use Rattle.std.proofs.Common.{refl, arith}
+use Rattle.net_graph.specs.Views.{rows_of}
+use Rattle.stable_check.proofs.WalkRows.{all_relaxed}
+use Rattle.stable_check.proofs.relaxed.is_relaxed.Goals as goal
+
+pub returns : goal.returns
+returns c = (
+  λ e. all_relaxed c.args.net.now c.args.table.now.dest.0 c.loop-node.node (rows_of c.args.table.now) c.requires.table
+      (omega (arith, c.loop-node-test.false, c.loop-node.auto.node-end, c.node_count-node-end.ensures.count)) c.loop-node.invariant,
+  λ h. refl,
+)

@@ -1,0 +1,20 @@
+//! Checks of a finished table of routes: what a walk weighs, and whether a table is relaxed or stable, each
+//! exactly, and the law that ties relaxed tables to optimal ones. It makes no table. It stands on `net_graph`
+//! and `alg_model`, and on `path_store` for the order of paths.
+#![tactic(auto)]
+
+mod equality;
+mod laws;
+mod lookup;
+mod offers;
+mod own;
+mod relaxed;
+mod stable;
+mod table;
+mod weight;
+
+pub use laws::relaxed_is_optimal;
+pub use relaxed::is_relaxed;
+pub use stable::is_stable;
+pub use table::{are_nodes_of, is_table_of};
+pub use weight::{MAX_WALK_NODES, weight_of};
