@@ -1,0 +1,15 @@
+pub mod Node
+pub mod Coherent
+pub mod Items
+pub mod Telling
+pub mod Lawful
+pub mod RouteOrder
+pub mod Choosing
+pub mod Words
+pub mod Delivering
+pub mod Starting
+pub mod Quiet
+pub mod Beginning
+pub mod RowLists
+pub mod Runs
+pub mod Laws

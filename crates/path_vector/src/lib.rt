@@ -1,0 +1,9 @@
+//! Path vector: nodes that tell each other their rows, over any algebra, and what holds of every machine of
+//! such nodes. It stands on `node_core`, `net_graph` and `alg_model`.
+#![tactic(auto)]
+
+mod laws;
+
+pub use laws::{
+    carried_nodes_may_begin, new_nodes_may_begin, quiet_runs_are_stable, runs_are_coherent,
+};
