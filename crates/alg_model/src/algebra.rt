@@ -14,13 +14,14 @@ use std::alloc::Global;
 use std::cmp::Ordering;
 
 /// An algebra as a mechanism sees it: values and labels in a form of its own, which is fast to
-/// compare and to apply. All mechanisms are generic over it.
-pub trait Algebra: Sync {
+/// compare and to apply. All mechanisms are generic over it. A mechanism that works on threads asks that the
+/// algebra and its labels are `Sync`, and its values `Send`.
+pub trait Algebra {
     /// A value in that form.
-    type Sig: Send + Drop;
+    type Sig: Drop;
 
     /// A label in that form.
-    type Lab: Send + Sync + Drop;
+    type Lab: Drop;
 
     /// The algebra.
     ghost expression: { Self → Expression };

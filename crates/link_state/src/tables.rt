@@ -45,7 +45,7 @@ fn table_of<A: Algebra>(
 
 // For each destination its table, or none for want of memory, found by so many workers. Each of them has
 // destinations that follow one another.
-fn found_by<A: Algebra, R: Threads + Sync>(
+fn found_by<A: Algebra + Sync, R: Threads + Sync>(
     rt: &R,
     alloc: Global,
     algebra: &A,
@@ -53,6 +53,9 @@ fn found_by<A: Algebra, R: Threads + Sync>(
     labels: &ArcLabels<A::Lab>,
     workers: usize,
 ) -> Result<Vec<Option<DestTable>>, NoMemory>
+where
+    A::Sig: Send,
+    A::Lab: Sync,
     requires algebra { A.expression algebra.now ≡ net.now.alg.expression }
     requires labels { AreLabelsOf (A.stands_for algebra.now) net.now labels.now }
     requires workers { 0 < workers }
@@ -94,12 +97,15 @@ fn all_of(alloc: Global, found: Vec<Option<DestTable>>) -> Result<List<DestTable
 ///
 /// The algebra is the network's, in whatever form its values have. It is refused for want of memory alone.
 #[tactic(auto, using(crate::proofs::Placed::all_placed))]
-pub fn all_tables<A: Algebra, R: AllocGlobal + Threads + Sync>(
+pub fn all_tables<A: Algebra + Sync, R: AllocGlobal + Threads + Sync>(
     rt: &R,
     algebra: &A,
     net: &Net,
     workers: u32,
 ) -> Result<List<DestTable>, NoMemory>
+where
+    A::Sig: Send,
+    A::Lab: Sync,
     requires algebra { A.expression algebra.now ≡ net.now.alg.expression }
     requires some_workers { 0 < workers }
     requires few_workers { workers ≤ MAX_WORKERS }

@@ -1,20 +1,30 @@
-ghost use Rattle.std.specs.Prelude.{◌≡◌, ◌<◌, ◌≤◌, ◌^◌};
+ghost use Rattle.std.specs.Prelude.{◌≡◌, ◌<◌, ◌≤◌};
+ghost use Rattle.quiet_ledger.specs.declared.book.TheConstants.{MAX_BASE, MAX_SHARE, MAX_WORKERS};
 
 use crate::{Sight, Totals};
 use meta_base::{List, NoMemory};
 use std::alloc::Global;
 use std::sync::{Mutex, Wait};
 
-/// What one worker sent and took: two exact numbers, each at most 2^56.
+/// The most workers that may share a book.
+pub const MAX_WORKERS: u32 = 16;
+
+/// The most that one worker may send, and the most that it may take.
+pub const MAX_SHARE: u64 = 1 << 56;
+
+/// The most that a book's base may say was sent, and that was taken.
+pub const MAX_BASE: u64 = 1 << 62;
+
+/// What one worker sent and took: two exact numbers, each at most [`MAX_SHARE`].
 #[derive(Debug, Drop)]
 pub struct Share {
     sent: u64,
     taken: u64,
-    ghost sent_bound: { sent ≤ 2 ^ 56 },
-    ghost taken_bound: { taken ≤ 2 ^ 56 },
+    ghost sent_bound: { sent ≤ MAX_SHARE },
+    ghost taken_bound: { taken ≤ MAX_SHARE },
 }
 
-/// The book of 1 to 16 workers. Workers may use it from several threads at once, each with a share
+/// The book of 1 to [`MAX_WORKERS`] workers. Workers may use it from several threads at once, each with a share
 /// of its own.
 #[derive(Debug, Drop)]
 pub struct Book {
@@ -22,19 +32,19 @@ pub struct Book {
     workers: u32,
     // The base and what was committed. No contract speaks of it.
     running: Mutex<Totals>,
-    ghost base_bound: { (base.sent ≤ 2 ^ 62) × (base.taken ≤ 2 ^ 62) },
-    ghost workers_bound: { (0 < workers) × (workers ≤ 16) },
+    ghost base_bound: { (base.sent ≤ MAX_BASE) × (base.taken ≤ MAX_BASE) },
+    ghost workers_bound: { (0 < workers) × (workers ≤ MAX_WORKERS) },
 }
 
 impl Book {
     ghost use Rattle.std.specs.Prelude.{◌+◌, length, sum_by, All, IfOk};
     ghost use Rattle.quiet_ledger.specs.Ledger.{sent_by, taken_by, base_of, workers_of};
 
-    /// A book of 1 to 16 workers over a base, whose numbers are at most 2^62, and a share for each
-    /// worker, whose numbers are 0. The running totals begin with the base.
+    /// A book of 1 to [`MAX_WORKERS`] workers over a base, whose numbers are at most [`MAX_BASE`], and a share
+    /// for each worker, whose numbers are 0. The running totals begin with the base.
     pub fn new(alloc: Global, workers: u32, base: Totals) -> Result<(Book, List<Share>), NoMemory>
-        requires workers { (0 < workers) × (workers ≤ 16) }
-        requires base { (base.sent ≤ 2 ^ 62) × (base.taken ≤ 2 ^ 62) }
+        requires workers { (0 < workers) × (workers ≤ MAX_WORKERS) }
+        requires base { (base.sent ≤ MAX_BASE) × (base.taken ≤ MAX_BASE) }
         ensures base { IfOk result (λ made. base_of made.0 ≡ base) }
         ensures workers { IfOk result (λ made. workers_of made.0 ≡ workers) }
         ensures shares { IfOk result (λ made. length made.1 ≡ workers) }
@@ -56,11 +66,11 @@ impl Book {
     }
 
     /// Adds the numbers to the worker's share and to the running totals, and gives the totals as they
-    /// then stand. It waits for the lock. The share's numbers must stay at most 2^56; the running
+    /// then stand. It waits for the lock. The share's numbers must stay at most [`MAX_SHARE`]; the running
     /// totals stop at the greatest `u64`.
     pub fn commit<R: Wait>(&self, rt: &R, share: &mut Share, sent: u64, taken: u64) -> Sight
-        requires sent { sent_by share.old + sent ≤ 2 ^ 56 }
-        requires taken { taken_by share.old + taken ≤ 2 ^ 56 }
+        requires sent { sent_by share.old + sent ≤ MAX_SHARE }
+        requires taken { taken_by share.old + taken ≤ MAX_SHARE }
         ensures sent { sent_by share.new ≡ sent_by share.old + sent }
         ensures taken { taken_by share.new ≡ taken_by share.old + taken }
     {

@@ -6,5 +6,5 @@
 mod book;
 mod totals;
 
-pub use book::{Book, Share};
+pub use book::{Book, MAX_BASE, MAX_SHARE, MAX_WORKERS, Share};
 pub use totals::{Sight, Totals};

@@ -29,7 +29,7 @@ index-requires g c =
     omega arith
 
 pub offer_image-requires-clause-node : goal.offer_image-requires-clause-node
-offer_image-requires-clause-node g c κs _ =
+offer_image-requires-clause-node g c =
     let listeners = c.listeners-listener-items.result.now in
     let listener = c.listener-item.result in
     let m = c.loop-listener.listener-index in
@@ -41,7 +41,7 @@ offer_image-requires-clause-node g c κs _ =
     omega arith
 
 pub offer_image-requires-clause-lab : goal.offer_image-requires-clause-lab
-offer_image-requires-clause-lab g c κs within =
+offer_image-requires-clause-lab g c =
     let listeners = c.listeners-listener-items.result.now in
     let listener = c.listener-item.result in
     let m = c.loop-listener.listener-index in
@@ -51,7 +51,7 @@ offer_image-requires-clause-lab g c κs within =
     (by.arc.label, by.is_listener.label)
 
 pub offer_image-requires-clause-small : goal.offer_image-requires-clause-small
-offer_image-requires-clause-small g c κs within =
+offer_image-requires-clause-small g c =
     let value = g.A.Algebra.sig_value c.args.algebra.now in
     let rows = c.args.fixed.now.rows.items in
     let paths = c.args.fixed.now.paths in

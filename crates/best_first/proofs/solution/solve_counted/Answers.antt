@@ -10,7 +10,7 @@ use Rattle.best_first.proofs.Advancing.{told_before, fixed_before, state_before,
 use Rattle.best_first.proofs.solution.solve_counted.Goals as goal
 
 pub offer_own-requires-clause-best : goal.offer_own-requires-clause-best
-offer_own-requires-clause-best g c κs within = λ k. rw c.in_ok-search.ensures.best (found-none c.node_count-count.result k)
+offer_own-requires-clause-best g c = λ k. rw c.in_ok-search.ensures.best (found-none c.node_count-count.result k)
 
 pub loop-search-init : goal.loop-search-init
 loop-search-init g c =
@@ -34,10 +34,10 @@ loop-search-init g c =
     }
 
 pub fix_next-requires-clause-queue : goal.fix_next-requires-clause-queue
-fix_next-requires-clause-queue g c κs within = rw (c.loop-search.invariant.order, c.requires.algebra) c.loop-search.invariant.queue
+fix_next-requires-clause-queue g c = rw (c.loop-search.invariant.order, c.requires.algebra) c.loop-search.invariant.queue
 
 pub relax-requires-clause-node : goal.relax-requires-clause-node
-relax-requires-clause-node g c κs within =
+relax-requires-clause-node g c =
     let value = g.A.Algebra.sig_value c.args.algebra.now in
     let net = c.args.net.now in
     let dest = c.args.dest.0 in
@@ -54,7 +54,7 @@ relax-requires-clause-node g c κs within =
     node_in value net dest rows new_rows paths new_paths best taken node is_net st fixes
 
 pub relax-requires-clause-next : goal.relax-requires-clause-next
-relax-requires-clause-next g c κs within =
+relax-requires-clause-next g c =
     let value = g.A.Algebra.sig_value c.args.algebra.now in
     let net = c.args.net.now in
     let dest = c.args.dest.0 in
@@ -71,7 +71,7 @@ relax-requires-clause-next g c κs within =
     rw (told_next value net dest rows new_rows paths new_paths best taken node is_net st fixes) (speaks value net dest rows new_rows paths new_paths best taken node is_net st fixes)
 
 pub relax-requires-clause-queue : goal.relax-requires-clause-queue
-relax-requires-clause-queue g c κs within = rw (c.in-Some.is, c.loop-search.invariant.order, c.requires.algebra) at c.in_ok-node.ensures.queue
+relax-requires-clause-queue g c = rw (c.in-Some.is, c.loop-search.invariant.order, c.requires.algebra) at c.in_ok-node.ensures.queue
 
 pub loop-search-preserved : goal.loop-search-preserved
 loop-search-preserved g c =
