@@ -24,22 +24,22 @@ use Rattle.path_vector.specs.RouteOrder.{not_better_trans, better_asymmetric}
 
 -- ---- the best of some routes
 
-not_less : (o : Ordering) → is_less o ≡ false → ¬ (o ≡ Less)
+pub not_less : (o : Ordering) → is_less o ≡ false → ¬ (o ≡ Less)
 not_less Less e = absurd (cc)
 not_less Equal e = λ f. cc
 not_less Greater e = λ f. cc
 
-less : (o : Ordering) → is_less o ≡ true → o ≡ Less
+pub less : (o : Ordering) → is_less o ≡ true → o ≡ Less
 less Less e = refl
 less Equal e = absurd (cc)
 less Greater e = absurd (cc)
 
-to_not_less : (o : Ordering) → ¬ (o ≡ Less) → is_less o ≡ false
+pub to_not_less : (o : Ordering) → ¬ (o ≡ Less) → is_less o ≡ false
 to_not_less Less e = absurd (e refl)
 to_not_less Equal e = refl
 to_not_less Greater e = refl
 
-to_not : (b : Bool) → b ≡ false → not b ≡ true
+pub to_not : (b : Bool) → b ≡ false → not b ≡ true
 to_not true e = absurd (cc)
 to_not false e = refl
 
@@ -299,7 +299,7 @@ module _ (net : PureNet) (n : IsNet net) (dest i : ℕ) (heard : ℕ → Option 
   offer_is_item r (inl own) = item_left (own_offers net dest i) (filter_map (λ (a : PureArc). option_and_then (offer_by net a) (heard a.id)) (arcs_from net i)) r (item_own r own)
   offer_is_item r (inr (j, o)) = item_right (own_offers net dest i) (filter_map (λ (a : PureArc). option_and_then (offer_by net a) (heard a.id)) (arcs_from net i)) r (item_arc r (to_arc r j o))
 
-  offer_in : ((a : PureArc) (r : PureRoute) → IsItem a net.arcs → a.tail ≡ i → heard a.id ≡ Some r → In (carrier net) r.value)
+  pub offer_in : ((a : PureArc) (r : PureRoute) → IsItem a net.arcs → a.tail ≡ i → heard a.id ≡ Some r → In (carrier net) r.value)
       → (r : PureRoute) → Offers net dest (told_by net i heard) i r → In (carrier net) r.value
   offer_in h r (inl (value, path)) = (own_origin net dest i r.value n value).2
   offer_in h r (inr (j, o)) =

@@ -1,5 +1,7 @@
 pub mod Node
 pub mod Coherent
+pub mod Updates
+pub mod Known
 pub mod Items
 pub mod Telling
 pub mod Lawful

@@ -1,9 +1,19 @@
 //! Path vector: nodes that tell each other their rows, over any algebra, and what holds of every machine of
-//! such nodes. It stands on `node_core`, `net_graph` and `alg_model`.
+//! such nodes. It stands on `node_core`, `path_store`, `net_graph` and `alg_model`.
 #![tactic(auto)]
 
+mod choosing;
+mod fitting;
+mod known;
 mod laws;
+mod neighbour;
+mod offer;
+mod paths;
+mod rechoosing;
+mod telling;
+mod update;
 
 pub use laws::{
     carried_nodes_may_begin, new_nodes_may_begin, quiet_runs_are_stable, runs_are_coherent,
 };
+pub use update::Update;

@@ -1,0 +1,4 @@
+pub mod Bounds
+pub mod Choices
+pub mod PathTests
+pub mod Tellings

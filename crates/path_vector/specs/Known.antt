@@ -1,0 +1,52 @@
+-- Routes in an algebra's own form, and what a node offers itself by them. Sigs stand for values by `value`.
+use Rattle.std.specs.Prelude.{◌≡◌, ℕ, ◌==◌, Bool, true, List, [], ◌∷◌, Option, Some, None, cond, find, length, option_map, option_and_then, slice_get}
+use Rattle.alg_model.specs.Expressions.{PureCarrier, PureValue, PureLabel}
+use Rattle.meta_base.specs.declared.ids.NodeId.{NodeId}
+use Rattle.meta_base.specs.NodePaths.{numbers}
+use Rattle.net_graph.specs.Nets.{PureArc, PureNet}
+use Rattle.net_graph.specs.Routes.{PureRoute, is_better}
+use Rattle.path_vector.specs.declared.known.Known.{Known}
+use Rattle.path_vector.specs.declared.neighbour.Neighbour.{Neighbour}
+use Rattle.path_vector.specs.declared.offer.Offer.{Offer}
+use Rattle.path_vector.specs.Node.{may_be_of}
+
+module _ {S : Type 0} (value : S → PureValue) where
+  -- what a known route stands for
+  abbrev pub known_route : Known S → PureRoute
+  known_route k = record { value = value k.sig; path = numbers k.path }
+
+  -- what an offer to a node stands for
+  abbrev pub offered_route : ℕ → Offer S → PureRoute
+  offered_route node o = record { value = value o.sig; path = node ∷ numbers o.behind.now }
+
+-- the entry for a destination of what was heard, or of the rows
+abbrev pub entry_of : {X : Type 0} → List (Option X) → ℕ → Option X
+entry_of entries dest = option_and_then (λ x. x) (slice_get entries dest)
+
+module _ {L S : Type 0} (value : S → PureValue) where
+  -- what was heard on an arc for a destination
+  abbrev pub heard_by : List (Neighbour L S) → ℕ → ℕ → Option PureRoute
+  heard_by neighbours a dest = option_and_then (λ (n : Neighbour L S). option_map (known_route value) (entry_of n.heard.items dest)) (find (λ (n : Neighbour L S). n.arc.0 == a) neighbours)
+
+module _ {L S : Type 0} (stands_for : L → PureLabel → Type 0) (is_sig : S → Type 0) (value : S → PureValue) (net : PureNet) where
+  -- the neighbour at an arc: the arc's label, and for each destination of the network a route that may be the
+  -- speaker's, or none
+  pub record IsNeighbour (a : PureArc) (n : Neighbour L S) : Type 0 where
+    pub arc : n.arc.0 ≡ a.id
+    pub label : stands_for n.label a.label
+    pub count : length n.heard.items ≡ length net.dests
+    pub known : (dest : ℕ) (k : Known S) → entry_of n.heard.items dest ≡ Some k
+        → is_sig k.sig × (may_be_of net a.head (known_route value k) ≡ true)
+
+  -- a neighbour for each of these arcs, in order
+  abbrev pub AreNeighbours : List PureArc → List (Neighbour L S) → Type 0
+  AreNeighbours [] [] = Unit {0}
+  AreNeighbours (a ∷ arcs) (n ∷ neighbours) = IsNeighbour a n × AreNeighbours arcs neighbours
+  AreNeighbours [] (n ∷ neighbours) = ⊥
+  AreNeighbours (a ∷ arcs) [] = ⊥
+
+-- the better of two offers; the first, where neither is better
+abbrev pub better_of : PureCarrier → Option PureRoute → Option PureRoute → Option PureRoute
+better_of c None next = next
+better_of c (Some b) None = Some b
+better_of c (Some b) (Some x) = cond (is_better c x b) (Some x) (Some b)

@@ -1,0 +1,19 @@
+-- What updates of the program stand for.
+use Rattle.std.specs.Prelude.{ℕ, Bool, false, Option, option_map}
+use Rattle.std.specs.Option.{option_map_or}
+use Rattle.net_graph.specs.Nets.{PureNet, has_arc}
+use Rattle.meta_base.specs.declared.ids.ArcId.{ArcId}
+use Rattle.net_graph.specs.Views.{pure_route}
+use Rattle.path_vector.specs.declared.update.Update.{Update}
+use Rattle.path_vector.specs.Node.{PureUpdate}
+
+abbrev pub pure_update : Update → PureUpdate
+pure_update u = record { dest = u.dest.0; route = option_map pure_route u.route; stamp = u.stamp }
+
+-- an update that is put on an arc
+abbrev pub noted : ArcId × Update → ℕ × PureUpdate
+noted p = (p.0.0, pure_update p.1)
+
+-- the network that a node comes from has an arc between these nodes, if it was carried
+abbrev pub spoken_in : Option PureNet → ℕ → ℕ → Bool
+spoken_in before tail head = option_map_or (λ net. has_arc net tail head) before false

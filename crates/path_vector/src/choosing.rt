@@ -1,0 +1,66 @@
+ghost use Rattle.std.specs.Prelude.{◌≡◌, ◌<◌, ◌∷◌, [], ℕ, IfOk, IfSome, length, option_map};
+ghost use Rattle.net_graph.specs.Nets.{IsNet, arcs_from, origin_value};
+ghost use Rattle.path_vector.specs.Known.{known_route, offered_route, heard_by, AreNeighbours};
+ghost use Rattle.path_vector.specs.Node.{choice};
+
+use crate::known::Known;
+use crate::neighbour::Neighbour;
+use crate::offer::{Offer, better_offer, offer_of, taken_by};
+use alg_model::Algebra;
+use meta_base::{DestId, NoMemory, NodeId};
+use net_graph::Net;
+use std::alloc::Global;
+
+// What the node's own origin offers it, if there is one with that value.
+fn own_offer<'p, A: Algebra>(
+    alloc: Global,
+    algebra: &A,
+    own: &Option<A::Sig>,
+) -> Result<Option<Offer<'p, A::Sig>>, NoMemory>
+    requires { IfSome own.now (A.is_sig algebra.now) }
+    ensures sig { IfOk result (λ offer. IfSome offer (λ o. A.is_sig algebra.now o.sig)) }
+    ensures offer { (node : ℕ) → let value = A.sig_value algebra.now in IfOk result (λ offer.
+        option_map (offered_route value node) offer ≡
+        option_map (λ s. record { value = value s; path = node ∷ [] }) own.now) }
+{
+    match own {
+        Some(sig) => Ok(Some(Offer {
+            sig: algebra.copy(alloc, sig)?,
+            behind: &[],
+        })),
+        None => Ok(None),
+    }
+}
+
+// The node's choice for a destination, from its own origin's value there and what it heard of its neighbours, one
+// for each arc that it may route by.
+pub(crate) fn choose<A: Algebra>(
+    alloc: Global,
+    algebra: &A,
+    net: &Net,
+    node: NodeId,
+    own: &Option<A::Sig>,
+    neighbours: &[Neighbour<A::Lab, A::Sig>],
+    dest: DestId,
+) -> Result<Option<Known<A::Sig>>, NoMemory>
+    requires algebra { A.expression algebra.now ≡ net.now.alg.expression }
+    requires net { IsNet net.now }
+    requires dest { dest.0 < length net.now.dests }
+    requires own { IfSome own.now (A.is_sig algebra.now) }
+    requires origin { option_map (A.sig_value algebra.now) own.now ≡ origin_value net.now dest.0 node.0 }
+    requires neighbours { AreNeighbours (A.stands_for algebra.now) (A.is_sig algebra.now) (A.sig_value algebra.now)
+        net.now (arcs_from net.now node.0) neighbours.now }
+    ensures sig { IfOk result (λ row. IfSome row (λ k. A.is_sig algebra.now k.sig)) }
+    ensures choice { let value = A.sig_value algebra.now in IfOk result (λ row. option_map (known_route value) row ≡
+        choice net.now dest.0 node.0 (heard_by value neighbours.now)) }
+{
+    let mut best = own_offer(alloc, algebra, own)?;
+    for neighbour in neighbours {
+        let next = offer_of(alloc, algebra, net, node, neighbour, dest)?;
+        best = better_offer(algebra, best, next);
+    }
+    match best {
+        Some(offer) => Ok(Some(taken_by(alloc, node, offer)?)),
+        None => Ok(None),
+    }
+}

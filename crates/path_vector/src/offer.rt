@@ -1,0 +1,116 @@
+ghost use Rattle.std.specs.Prelude.{◌≡◌, ◌<◌, ◌∷◌, ℕ, IfOk, IfSome, length, option_map, option_and_then};
+ghost use Rattle.alg_model.specs.Carriers.{carrier_of};
+ghost use Rattle.net_graph.specs.Nets.{PureArc, PureNet, IsNet};
+ghost use Rattle.net_graph.specs.Routes.{is_better};
+ghost use Rattle.path_vector.specs.Known.{entry_of, known_route, offered_route, better_of, IsNeighbour};
+ghost use Rattle.path_vector.specs.Node.{offer_by};
+
+use crate::known::Known;
+use crate::neighbour::Neighbour;
+use crate::paths::passes;
+use alg_model::Algebra;
+use meta_base::{DestId, List, NoMemory, NodeId};
+use net_graph::Net;
+use path_store::compare;
+use std::alloc::Global;
+use std::cmp::Ordering;
+
+// A route that a node is offered: its value, and the path of the neighbour that it goes by. There is none behind
+// the node where the offer is its own origin's.
+#[derive(Drop)]
+pub(crate) struct Offer<'p, S> {
+    pub sig: S,
+    pub behind: &'p [NodeId],
+}
+
+// What the neighbour offers the node for a destination, if what was heard of it makes a route.
+pub(crate) fn offer_of<'p, A: Algebra>(
+    alloc: Global,
+    algebra: &A,
+    net: &Net,
+    node: NodeId,
+    neighbour: &'p Neighbour<A::Lab, A::Sig>,
+    dest: DestId,
+) -> Result<Option<Offer<'p, A::Sig>>, NoMemory>
+    requires algebra { A.expression algebra.now ≡ net.now.alg.expression }
+    requires net { IsNet net.now }
+    requires dest { dest.0 < length net.now.dests }
+    requires neighbour { (a : PureArc) ×
+        IsNeighbour (A.stands_for algebra.now) (A.is_sig algebra.now) (A.sig_value algebra.now) net.now a neighbour.now }
+    ensures sig { IfOk result (λ offer. IfSome offer (λ o. A.is_sig algebra.now o.sig)) }
+    ensures offer { (a : PureArc) → a.tail ≡ node.0 →
+        IsNeighbour (A.stands_for algebra.now) (A.is_sig algebra.now) (A.sig_value algebra.now) net.now a neighbour.now →
+        let value = A.sig_value algebra.now in IfOk result (λ offer.
+        option_map (offered_route value node.0) offer ≡ option_and_then (offer_by net.now a)
+        (option_map (known_route value) (entry_of neighbour.now.heard.items dest.0))) }
+{
+    let Some(known) = &neighbour.heard[dest.0 as usize] else {
+        return Ok(None);
+    };
+    if passes(known.path.as_slice(), node) {
+        return Ok(None);
+    }
+    match algebra.apply(alloc, &neighbour.label, &known.sig)? {
+        Some(sig) => Ok(Some(Offer {
+            sig,
+            behind: known.path.as_slice(),
+        })),
+        None => Ok(None),
+    }
+}
+
+// Whether the first offer to a node is better. The paths of both begin with the node.
+fn is_first<A: Algebra>(algebra: &A, first: &Offer<'_, A::Sig>, second: &Offer<'_, A::Sig>) -> bool
+    requires first { A.is_sig algebra.now first.now.sig }
+    requires second { A.is_sig algebra.now second.now.sig }
+    ensures { (node : ℕ) → let value = A.sig_value algebra.now in
+        result ≡ is_better (carrier_of (A.expression algebra.now))
+        (offered_route value node first.now) (offered_route value node second.now) }
+{
+    let values = algebra.order(&first.sig, &second.sig);
+    values.then(compare(first.behind, second.behind)) == Ordering::Less
+}
+
+// The better of two offers to a node; the first, where neither is better.
+pub(crate) fn better_offer<'p, A: Algebra>(
+    algebra: &A,
+    best: Option<Offer<'p, A::Sig>>,
+    next: Option<Offer<'p, A::Sig>>,
+) -> Option<Offer<'p, A::Sig>>
+    requires best { IfSome best (λ o. A.is_sig algebra.now o.sig) }
+    requires next { IfSome next (λ o. A.is_sig algebra.now o.sig) }
+    ensures sig { IfSome result (λ o. A.is_sig algebra.now o.sig) }
+    ensures better { (node : ℕ) → let value = A.sig_value algebra.now in
+        option_map (offered_route value node) result ≡ better_of (carrier_of (A.expression algebra.now))
+        (option_map (offered_route value node) best.entry) (option_map (offered_route value node) next.entry) }
+{
+    match (best, next) {
+        (Some(best), Some(next)) => {
+            if is_first(algebra, &next, &best) {
+                Some(next)
+            } else {
+                Some(best)
+            }
+        }
+        (Some(best), None) => Some(best),
+        (None, next) => next,
+    }
+}
+
+// The offer as a route that the node knows.
+pub(crate) fn taken_by<S: Drop>(
+    alloc: Global,
+    node: NodeId,
+    offer: Offer<'_, S>,
+) -> Result<Known<S>, NoMemory>
+    ensures sig { IfOk result (λ known. known.sig ≡ offer.entry.sig) }
+    ensures path { IfOk result (λ known. known.path ≡ node ∷ offer.entry.behind.now) }
+{
+    let mut path = Vec::with_capacity(alloc, offer.behind.len().saturating_add(1))?;
+    path.push(node)?;
+    path.extend_from_slice(offer.behind)?;
+    Ok(Known {
+        sig: offer.sig,
+        path: List::from_vec(path),
+    })
+}

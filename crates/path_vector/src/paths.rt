@@ -1,0 +1,42 @@
+// Tests of paths.
+ghost use Rattle.std.specs.Prelude.{◌≡◌, ◌==◌, nat_lt};
+ghost use Rattle.std.specs.List.{list_all, list_any};
+ghost use Rattle.meta_base.specs.NodePaths.{numbers};
+ghost use Rattle.alg_model.specs.Carriers.{distinct};
+ghost use Rattle.path_vector.specs.Node.{begins_with};
+
+use meta_base::NodeId;
+
+// Whether the path passes the node.
+pub(crate) fn passes(path: &[NodeId], node: NodeId) -> bool
+    ensures { result ≡ list_any (λ n. n.0 == node.0) path.now }
+{
+    path.iter().any(|passed| passed.0 == node.0)
+}
+
+// Whether the path begins with the node.
+pub(crate) fn starts_at(path: &[NodeId], node: NodeId) -> bool
+    ensures { result ≡ begins_with node.0 (numbers path.now) }
+{
+    match path.first() {
+        Some(first) => first.0 == node.0,
+        None => false,
+    }
+}
+
+// Whether no node is on the path twice.
+pub(crate) fn has_each_once(path: &[NodeId]) -> bool
+    ensures { result ≡ distinct (numbers path.now) }
+{
+    match path {
+        [] => true,
+        [node, behind @ ..] => !passes(behind, *node) && has_each_once(behind),
+    }
+}
+
+// Whether all nodes of the path are below this number.
+pub(crate) fn are_below(path: &[NodeId], count: usize) -> bool
+    ensures { result ≡ list_all (λ n. nat_lt n.0 count) path.now }
+{
+    path.iter().all(|node| (node.0 as usize) < count)
+}
