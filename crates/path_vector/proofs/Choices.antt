@@ -5,7 +5,7 @@ use Rattle.std.specs.Option.{option_map_or}
 use Rattle.std.specs.List.{list_all, filter_map, AllByRecursion}
 use Rattle.std.proofs.Math.ListN.{take, drop}
 use Rattle.std.proofs.lemmas.List.{take-append-drop, append_assoc}
-use Rattle.std.proofs.lemmas.Option.{slice_get-get_or}
+use Rattle.std.proofs.lemmas.Option.{slice_get-get_or, slice_get_within}
 use Rattle.std.proofs.Math.ListN.{get_or}
 use Rattle.std.proofs.lemmas.List.Elements.{filter_map-append}
 use Rattle.std.proofs.lemmas.Bool.Decides.{nat_tests}
@@ -16,7 +16,7 @@ use Rattle.net_graph.specs.Tables.{carrier}
 use Rattle.net_graph.specs.Routes.{PureRoute, Better, compare_routes, is_less, is_better}
 use Rattle.path_vector.specs.Node.{best_of, choice, own_offers, offer_by, offers_to, may_be_of}
 use Rattle.path_vector.specs.Items.{IsItem, of_all, item_at, item_passed, item_left, item_right, items_all, from_not}
-use Rattle.path_vector.specs.Choosing.{MayBeOf, may_be_parts, item_is_offer, offer_in, IsBestOf, best_is, none_best, not_less, less, to_not_less, to_not}
+use Rattle.path_vector.specs.Choosing.{choice_may_be, MayBeOf, may_be_parts, item_is_offer, offer_in, IsBestOf, best_is, none_best, not_less, less, to_not_less, to_not}
 use Rattle.net_graph.specs.Tables.{is_among}
 use Rattle.alg_model.specs.Application.{App}
 use Rattle.meta_base.specs.NodePaths.{numbers}
@@ -224,6 +224,14 @@ better_none : (c : PureCarrier) (o : Option PureRoute) → better_of c o None �
 better_none c None = refl
 better_none c (Some b) = refl
 
+-- an entry is within its list
+entry_inside : {X : Type 0} (xs : List (Option X)) (i : ℕ) (x : X) → entry_of xs i ≡ Some x → i < length xs
+entry_inside {X = X} xs i x e = by (slice_get xs i) refl e
+  where
+    by : (o : Option (Option X)) → slice_get xs i ≡ o → option_and_then (λ z. z) o ≡ Some x → i < length xs
+    by None f g = absurd (cc)
+    by (Some z) f g = slice_get_within xs i z f
+
 -- what an arc offers, and the offers of the node's own origin and of the first arcs
 abbrev pub offered_on : {L S : Type 0} → (S → PureValue) → PureNet → ℕ → List (Neighbour L S) → PureArc → Option PureRoute
 offered_on value net dest ns a = option_and_then (offer_by net a) (heard_by value ns a.id dest)
@@ -234,26 +242,26 @@ firsts value net i dest ns k = own_offers net dest i ++ filter_map (offered_on v
 module _ {L S : Type 0} (stands_for : L → PureLabel → Type 0) (is_sig : S → Type 0) (value : S → PureValue) (net : PureNet) where
   -- what was heard on an arc may be its speaker's
   pub heard_may_be : (arcs : List PureArc) (ns : List (Neighbour L S)) (b dest : ℕ) (r : PureRoute) → AreNeighbours stands_for is_sig value net arcs ns
-      → heard_by value ns b dest ≡ Some r → (a : PureArc) × IsItem a arcs × (a.id ≡ b) × (may_be_of net a.head r ≡ true)
+      → heard_by value ns b dest ≡ Some r → (a : PureArc) × IsItem a arcs × (a.id ≡ b) × (may_be_of net a.head r ≡ true) × (dest < length net.dests)
   heard_may_be [] [] b dest r are e = absurd (cc)
   heard_may_be [] (n ∷ ns) b dest r are e = absurd are
   heard_may_be (a ∷ arcs) [] b dest r are e = absurd are
   heard_may_be (a ∷ arcs) (n ∷ ns) b dest r are e = by (n.arc.0 == b) refl e (λ f. heard_may_be arcs ns b dest r are.1 f)
     where
-      known : (o : Option (Known S)) → entry_of n.heard.items dest ≡ o → option_map (known_route value) o ≡ Some r → may_be_of net a.head r ≡ true
+      known : (o : Option (Known S)) → entry_of n.heard.items dest ≡ o → option_map (known_route value) o ≡ Some r → (may_be_of net a.head r ≡ true) × (dest < length net.dests)
       known None f g = absurd (cc)
       known (Some k) f g =
           let same : known_route value k ≡ r = cc in
-          subst (λ z. may_be_of net a.head z ≡ true) same (are.0.known dest k f).1
+          (subst (λ z. may_be_of net a.head z ≡ true) same (are.0.known dest k f).1, subst (λ z. dest < z) are.0.count (entry_inside n.heard.items dest k f))
 
       by : (t : Bool) → (n.arc.0 == b) ≡ t → option_and_then (λ (m : Neighbour L S). option_map (known_route value) (entry_of m.heard.items dest)) (cond t (Some n) (find (λ (m : Neighbour L S). m.arc.0 == b) ns)) ≡ Some r
-          → (heard_by value ns b dest ≡ Some r → (x : PureArc) × IsItem x arcs × (x.id ≡ b) × (may_be_of net x.head r ≡ true))
-          → (x : PureArc) × IsItem x (a ∷ arcs) × (x.id ≡ b) × (may_be_of net x.head r ≡ true)
+          → (heard_by value ns b dest ≡ Some r → (x : PureArc) × IsItem x arcs × (x.id ≡ b) × (may_be_of net x.head r ≡ true) × (dest < length net.dests))
+          → (x : PureArc) × IsItem x (a ∷ arcs) × (x.id ≡ b) × (may_be_of net x.head r ≡ true) × (dest < length net.dests)
       by true f g more =
           let number = are.0.arc in
           let same : a.id ≡ b = grind (arith, nat_tests) in
-          (a, inl refl, same, known (entry_of n.heard.items dest) refl g)
-      by false f g more = let found = more g in (found.0, inr found.1, found.2, found.3)
+          (let k = known (entry_of n.heard.items dest) refl g in (a, inl refl, same, k.0, k.1))
+      by false f g more = let found = more g in (found.0, inr found.1, found.2, found.3, found.4)
 
   as_many : (arcs : List PureArc) (ns : List (Neighbour L S)) → AreNeighbours stands_for is_sig value net arcs ns → length arcs ≡ length ns
   as_many [] [] are = refl
@@ -316,6 +324,17 @@ module _ {L S : Type 0} (stands_for : L → PureLabel → Type 0) (is_sig : S �
             → option_map {U = PureRoute} (λ s. record { value = value s; path = i ∷ [] }) o ≡ best_of (carrier net) (alone (option_map value o))
         by None h = refl
         by (Some s) h = sym (best_with (carrier net) [] (record { value = value s; path = i ∷ [] }) h)
+
+    -- there is no choice for what isn't a destination
+    pub none_outside : (dest_out : ¬ (dest < length net.dests)) → choice net dest i (heard_by value ns) ≡ None
+    none_outside out = by (choice net dest i (heard_by value ns)) refl
+      where
+        heard_inside : (a : PureArc) (r : PureRoute) → IsItem a net.arcs → a.tail ≡ i → heard_by value ns a.id dest ≡ Some r → (dest < length net.dests) × (may_be_of net a.head r ≡ true)
+        heard_inside a r item tail e = absurd (out (heard_may_be (arcs_from net i) ns a.id dest r are e).4)
+
+        by : (o : Option PureRoute) → choice net dest i (heard_by value ns) ≡ o → choice net dest i (heard_by value ns) ≡ None
+        by None e = e
+        by (Some r) e = absurd (out (choice_may_be net n dest i (λ a. heard_by value ns a dest) heard_inside r e).0)
 
     -- once no arc is left, the best of the offers is the node's choice
     pub chosen_at_end : (k : ℕ) → length ns ≤ k → best_of (carrier net) (firsts value net i dest ns k) ≡ choice net dest i (heard_by value ns)

@@ -1,3 +1,4 @@
+pub mod Beginnings
 pub mod Bounds
 pub mod Choices
 pub mod PathTests

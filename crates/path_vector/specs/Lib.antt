@@ -2,6 +2,7 @@ pub mod Node
 pub mod Coherent
 pub mod Updates
 pub mod Known
+pub mod State
 pub mod Items
 pub mod Telling
 pub mod Lawful

@@ -2,6 +2,7 @@
 //! such nodes. It stands on `node_core`, `path_store`, `net_graph` and `alg_model`.
 #![tactic(auto)]
 
+mod beginning;
 mod choosing;
 mod fitting;
 mod known;

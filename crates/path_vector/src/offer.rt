@@ -35,11 +35,11 @@ pub(crate) fn offer_of<'p, A: Algebra>(
     requires algebra { A.expression algebra.now ≡ net.now.alg.expression }
     requires net { IsNet net.now }
     requires dest { dest.0 < length net.now.dests }
-    requires neighbour { (a : PureArc) ×
-        IsNeighbour (A.stands_for algebra.now) (A.is_sig algebra.now) (A.sig_value algebra.now) net.now a neighbour.now }
+    requires neighbour { (a : PureArc) × IsNeighbour (A.stands_for algebra.now) (A.is_sig algebra.now)
+        (A.sig_value algebra.now) net.now a neighbour.now }
     ensures sig { IfOk result (λ offer. IfSome offer (λ o. A.is_sig algebra.now o.sig)) }
-    ensures offer { (a : PureArc) → a.tail ≡ node.0 →
-        IsNeighbour (A.stands_for algebra.now) (A.is_sig algebra.now) (A.sig_value algebra.now) net.now a neighbour.now →
+    ensures offer { (a : PureArc) → a.tail ≡ node.0 → IsNeighbour (A.stands_for algebra.now)
+        (A.is_sig algebra.now) (A.sig_value algebra.now) net.now a neighbour.now →
         let value = A.sig_value algebra.now in IfOk result (λ offer.
         option_map (offered_route value node.0) offer ≡ option_and_then (offer_by net.now a)
         (option_map (known_route value) (entry_of neighbour.now.heard.items dest.0))) }

@@ -1,0 +1,56 @@
+ghost use Rattle.std.specs.Prelude.{◌≡◌, ◌<◌, ℕ, IfOk, length, map, option_map};
+ghost use Rattle.std.specs.List.{range_with_len};
+ghost use Rattle.net_graph.specs.Nets.{IsNet};
+ghost use Rattle.path_vector.specs.Known.{heard_by};
+ghost use Rattle.path_vector.specs.Node.{PvState, all_begun_updates, choice};
+ghost use Rattle.path_vector.specs.State.{IsKept, row_routes};
+ghost use Rattle.path_vector.specs.Updates.{noted};
+
+use crate::choosing::choose;
+use crate::known::Known;
+use crate::neighbour::Neighbour;
+use crate::rechoosing::{is_same_row, update_of};
+use crate::telling::tell_begun;
+use crate::update::Update;
+use alg_model::Algebra;
+use meta_base::{DestId, List, NoMemory, NodeId};
+use net_graph::Net;
+use node_core::Outgoing;
+use std::alloc::Global;
+
+// The rows that a node chooses when it begins, and what it tells of them.
+pub(crate) fn begun_rows<A: Algebra>(
+    alloc: Global,
+    algebra: &A,
+    net: &Net,
+    before: Option<&Net>,
+    node: NodeId,
+    own: &[Option<A::Sig>],
+    neighbours: &[Neighbour<A::Lab, A::Sig>],
+    rows: &[Option<Known<A::Sig>>],
+) -> Result<(Vec<Option<Known<A::Sig>>>, Outgoing<Update>), NoMemory>
+    requires algebra { A.expression algebra.now ≡ net.now.alg.expression }
+    requires net { IsNet net.now }
+    requires kept { IsKept (A.stands_for algebra.now) (A.is_sig algebra.now) (A.sig_value algebra.now)
+        net.now node.0 own.now neighbours.now rows.now }
+    ensures kept { IfOk result (λ r. IsKept (A.stands_for algebra.now) (A.is_sig algebra.now)
+        (A.sig_value algebra.now) net.now node.0 own.now neighbours.now r.0.items) }
+    ensures rows { let value = A.sig_value algebra.now in IfOk result (λ r. row_routes value r.0.items ≡
+        λ dest. choice net.now dest node.0 (heard_by value neighbours.now)) }
+    ensures told { let value = A.sig_value algebra.now in (s : PvState) → s.net ≡ net.now →
+        s.before ≡ option_map (λ n. n.now) before.entry → s.number ≡ node.0 → s.heard ≡ heard_by value neighbours.now →
+        s.rows ≡ row_routes value rows.now →
+        IfOk result (λ r. map noted r.1 ≡ all_begun_updates s (range_with_len 0 (length net.now.dests))) }
+{
+    let mut begun = Vec::with_capacity(alloc, rows.len())?;
+    let mut out = List::new(alloc);
+    for place in 0..rows.len() {
+        let dest = DestId(place as u32);
+        let row = choose(alloc, algebra, net, node, &own[place], neighbours, dest)?;
+        let is_same = is_same_row(alloc, algebra, &row, &rows[place])?;
+        let update = update_of(alloc, algebra, dest, &row, 0)?;
+        tell_begun(alloc, net, before, node, !is_same, &update, &mut out)?;
+        begun.push(row)?;
+    }
+    Ok((begun, out))
+}
