@@ -1,5 +1,6 @@
 pub mod Beginnings
 pub mod Bounds
 pub mod Choices
+pub mod Hearings
 pub mod PathTests
 pub mod Tellings

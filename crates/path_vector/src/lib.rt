@@ -5,6 +5,7 @@
 mod beginning;
 mod choosing;
 mod fitting;
+mod hearing;
 mod known;
 mod laws;
 mod neighbour;

@@ -1,5 +1,9 @@
+ghost use Rattle.std.specs.Prelude.{◌≡◌, ◌<◌, vec_len};
+ghost use Rattle.std.proofs.Math.ListN.{set, get_or};
+
 use crate::known::Known;
 use meta_base::ArcId;
+use std::mem::replace;
 
 // The neighbour at an arc that a node may route by: the arc, its label in the algebra's form, and the route
 // that was heard for each destination.
@@ -8,4 +12,17 @@ pub(crate) struct Neighbour<L, S> {
     pub arc: ArcId,
     pub label: L,
     pub heard: Vec<Option<Known<S>>>,
+}
+
+impl<L, S> Neighbour<L, S> {
+    // Keeps a route, or that there is none, for the destination, and gives what was kept there.
+    pub fn hear(&mut self, dest: usize, route: Option<Known<S>>) -> Option<Known<S>>
+        requires { dest < vec_len self.old.heard }
+        ensures arc { self.new.arc ≡ self.old.arc }
+        ensures label { self.new.label ≡ self.old.label }
+        ensures heard { self.new.heard.items ≡ set self.old.heard.items dest route }
+        ensures earlier { result ≡ get_or self.old.heard.items dest result }
+    {
+        replace(&mut self.heard[dest], route)
+    }
 }

@@ -79,7 +79,8 @@ pub(crate) fn rechoose<A: Algebra>(
         choice net.now dest.0 node.0 (heard_by value neighbours.now)) }
     ensures told { let value = A.sig_value algebra.now in
         let row = choice net.now dest.0 node.0 (heard_by value neighbours.now) in IfOk result (λ r. map noted r.1 ≡
-        cond (same_row row (option_map (known_route value) before.now)) [] (told_on (arcs_to net.now node.0) (record { dest = dest.0; route = row; stamp = clock }))) }
+        cond (same_row row (option_map (known_route value) before.now)) []
+        (told_on (arcs_to net.now node.0) (record { dest = dest.0; route = row; stamp = clock }))) }
 {
     let row = choose(alloc, algebra, net, node, own, neighbours, dest)?;
     if is_same_row(alloc, algebra, &row, before)? {

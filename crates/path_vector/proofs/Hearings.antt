@@ -1,0 +1,130 @@
+-- What a node heard, once it heard one more update.
+use Rattle.std.proofs.Common.{◌≡◌, ℕ, zero, suc, ◌+◌, ◌<◌, List, [], ◌∷◌, Bool, true, false, ◌&&◌, ◌==◌, length, cond, slice_get, Option, Some, None, subst, refl, sym, ap, ◌∙◌, arith}
+use Rattle.std.specs.Prelude.{find, option_map, option_and_then}
+use Rattle.std.proofs.Math.ListN.{set}
+use Rattle.std.proofs.Math.Path.{fun_ext}
+use Rattle.std.proofs.lemmas.Bool.Decides.{nat_tests}
+use Rattle.alg_model.specs.Expressions.{PureValue, PureLabel}
+use Rattle.net_graph.specs.Nets.{PureArc, PureNet, AreDistinct}
+use Rattle.net_graph.specs.Routes.{PureRoute}
+use Rattle.path_vector.specs.declared.known.Known.{Known}
+use Rattle.path_vector.specs.declared.neighbour.Neighbour.{Neighbour}
+use Rattle.path_vector.specs.Known.{entry_of, known_route, heard_by, IsNeighbour, AreNeighbours}
+use Rattle.path_vector.specs.Node.{may_be_of}
+use Rattle.path_vector.specs.Items.{of_all, item_at}
+
+set_length : {X : Type 0} (xs : List X) (i : ℕ) (y : X) → length (set xs i y) ≡ length xs
+set_length [] i y = refl
+set_length (x ∷ xs) zero y = refl
+set_length (x ∷ xs) (suc i) y = ap (λ z. suc z) (set_length xs i y)
+
+-- what stands in entries of which one was replaced
+pub entry_set : {X : Type 0} (xs : List (Option X)) (i : ℕ) (y : Option X) (d : ℕ) → i < length xs → entry_of (set xs i y) d ≡ cond (d == i) y (entry_of xs d)
+entry_set [] i y d l = absurd (omega arith)
+entry_set (x ∷ xs) zero y zero l = refl
+entry_set (x ∷ xs) zero y (suc d) l =
+    let apart : (suc d == 0) ≡ false = grind (arith, nat_tests) in
+    rw apart refl
+entry_set (x ∷ xs) (suc i) y zero l =
+    let apart : (0 == suc i) ≡ false = grind (arith, nat_tests) in
+    rw apart refl
+entry_set (x ∷ xs) (suc i) y (suc d) l =
+    let same : (suc d == suc i) ≡ (d == i) = grind (arith, nat_tests) in
+    rw same (entry_set xs i y d (omega arith))
+
+-- the neighbour was heard to say this for the destination, and is as it was otherwise
+pub record IsAfter {L S : Type 0} (n m : Neighbour L S) (dest : ℕ) (route : Option (Known S)) : Type 0 where
+  pub arc : m.arc ≡ n.arc
+  pub label : m.label ≡ n.label
+  pub heard : m.heard.items ≡ set n.heard.items dest route
+  pub inside : dest < length n.heard.items
+
+module _ {L S : Type 0} (stands_for : L → PureLabel → Type 0) (is_sig : S → Type 0) (value : S → PureValue) (net : PureNet) where
+  -- neighbours of which one heard a route that may be its own are neighbours
+  pub neighbours_after : (arcs : List PureArc) (ns : List (Neighbour L S)) (k : ℕ) (a : PureArc) (n m : Neighbour L S) (dest : ℕ) (route : Option (Known S)) → AreNeighbours stands_for is_sig value net arcs ns
+      → slice_get arcs k ≡ Some a → slice_get ns k ≡ Some n → IsAfter n m dest route → ((x : Known S) → route ≡ Some x → is_sig x.sig × (may_be_of net a.head (known_route value x) ≡ true))
+      → AreNeighbours stands_for is_sig value net arcs (set ns k m)
+  neighbours_after [] ns k a n m dest route are e f is fit = absurd (cc)
+  neighbours_after (b ∷ arcs) [] k a n m dest route are e f is fit = absurd are
+  neighbours_after (b ∷ arcs) (x ∷ ns) zero a n m dest route are e f is fit = (this, are.1)
+    where
+      same_arc : b ≡ a
+      same_arc = cc
+
+      same : x ≡ n
+      same = cc
+
+      old : IsNeighbour stands_for is_sig value net b n
+      old = subst (IsNeighbour stands_for is_sig value net b) same are.0
+
+      known : (d : ℕ) (y : Known S) → entry_of m.heard.items d ≡ Some y → is_sig y.sig × (may_be_of net b.head (known_route value y) ≡ true)
+      known d y g = by (d == dest) (sym (ap (λ z. entry_of z d) is.heard ∙ entry_set n.heard.items dest route d is.inside) ∙ g)
+        where
+          by : (t : Bool) → cond t route (entry_of n.heard.items d) ≡ Some y → is_sig y.sig × (may_be_of net b.head (known_route value y) ≡ true)
+          by true h = subst (λ (z : PureArc). is_sig y.sig × (may_be_of net z.head (known_route value y) ≡ true)) (sym same_arc) (fit y h)
+          by false h = old.known d y h
+
+      this : IsNeighbour stands_for is_sig value net b m
+      this = record {
+        arc = ap (λ z. z.0) is.arc ∙ old.arc;
+        label = subst (λ z. stands_for z b.label) (sym is.label) old.label;
+        count = ap length is.heard ∙ (set_length n.heard.items dest route ∙ old.count);
+        known = known;
+      }
+  neighbours_after (b ∷ arcs) (x ∷ ns) (suc k) a n m dest route are e f is fit = (are.0, neighbours_after arcs ns k a n m dest route are.1 e f is fit)
+
+  -- and what they were heard to say
+  heard_at_once : (arcs : List PureArc) (ns : List (Neighbour L S)) (k : ℕ) (a : PureArc) (n m : Neighbour L S) (dest : ℕ) (route : Option (Known S)) → AreNeighbours stands_for is_sig value net arcs ns
+      → AreDistinct (λ (x y : PureArc). x.id == y.id) arcs → slice_get arcs k ≡ Some a → slice_get ns k ≡ Some n → IsAfter n m dest route
+      → (b d : ℕ) → heard_by value (set ns k m) b d ≡ cond (b == a.id && d == dest) (option_map (known_route value) route) (heard_by value ns b d)
+  heard_at_once [] ns k a n m dest route are apart e f is b d = absurd (cc)
+  heard_at_once (y ∷ arcs) [] k a n m dest route are apart e f is b d = absurd are
+  heard_at_once (y ∷ arcs) (x ∷ ns) zero a n m dest route are apart e f is b d = by (x.arc.0 == b) refl
+    where
+      same_arc : y ≡ a
+      same_arc = cc
+
+      same : x ≡ n
+      same = cc
+
+      number : x.arc.0 ≡ a.id
+      number = are.0.arc ∙ ap (λ (z : PureArc). z.id) same_arc
+
+      kept : m.arc.0 ≡ x.arc.0
+      kept = ap (λ z. z.0) is.arc ∙ ap (λ (z : Neighbour L S). z.arc.0) (sym same)
+
+      entry : entry_of m.heard.items d ≡ cond (d == dest) route (entry_of x.heard.items d)
+      entry = ap (λ z. entry_of z d) is.heard ∙ (entry_set n.heard.items dest route d is.inside ∙ ap (λ (z : Neighbour L S). cond (d == dest) route (entry_of z.heard.items d)) (sym same))
+
+      one : (t : Bool) → option_map (known_route value) (cond t route (entry_of x.heard.items d)) ≡ cond t (option_map (known_route value) route) (option_map (known_route value) (entry_of x.heard.items d))
+      one true = refl
+      one false = refl
+
+      by : (t : Bool) → (x.arc.0 == b) ≡ t → heard_by value (m ∷ ns) b d ≡ cond (b == a.id && d == dest) (option_map (known_route value) route) (heard_by value (x ∷ ns) b d)
+      by true g =
+          let there : (m.arc.0 == b) ≡ true = grind (arith, nat_tests) in
+          let here : (b == a.id) ≡ true = grind (arith, nat_tests) in
+          rw (there, here, g) (ap (option_map (known_route value)) entry ∙ one (d == dest))
+      by false g =
+          let there : (m.arc.0 == b) ≡ false = grind (arith, nat_tests) in
+          let here : (b == a.id) ≡ false = grind (arith, nat_tests) in
+          rw (there, here, g) refl
+  heard_at_once (y ∷ arcs) (x ∷ ns) (suc k) a n m dest route are apart e f is b d = by (x.arc.0 == b) refl (heard_at_once arcs ns k a n m dest route are.1 apart.1 e f is b d)
+    where
+      other : (y.id == a.id) ≡ false
+      other = of_all (λ (z : PureArc). (y.id == z.id) ≡ false) arcs a apart.0 (item_at arcs k a e)
+
+      number : x.arc.0 ≡ y.id
+      number = are.0.arc
+
+      by : (t : Bool) → (x.arc.0 == b) ≡ t → heard_by value (set ns k m) b d ≡ cond (b == a.id && d == dest) (option_map (known_route value) route) (heard_by value ns b d)
+          → heard_by value (x ∷ set ns k m) b d ≡ cond (b == a.id && d == dest) (option_map (known_route value) route) (heard_by value (x ∷ ns) b d)
+      by true g more =
+          let here : (b == a.id) ≡ false = (let apart_ids = other in let same = number in grind (arith, nat_tests)) in
+          rw (g, here) refl
+      by false g more = rw g more
+
+  pub heard_after : (arcs : List PureArc) (ns : List (Neighbour L S)) (k : ℕ) (a : PureArc) (n m : Neighbour L S) (dest : ℕ) (route : Option (Known S)) → AreNeighbours stands_for is_sig value net arcs ns
+      → AreDistinct (λ (x y : PureArc). x.id == y.id) arcs → slice_get arcs k ≡ Some a → slice_get ns k ≡ Some n → IsAfter n m dest route
+      → heard_by value (set ns k m) ≡ λ b d. cond (b == a.id && d == dest) (option_map (known_route value) route) (heard_by value ns b d)
+  heard_after arcs ns k a n m dest route are apart e f is = fun_ext (λ b. fun_ext (λ d. heard_at_once arcs ns k a n m dest route are apart e f is b d))
