@@ -263,7 +263,7 @@ module _ {L S : Type 0} (stands_for : L → PureLabel → Type 0) (is_sig : S �
           (let k = known (entry_of n.heard.items dest) refl g in (a, inl refl, same, k.0, k.1))
       by false f g more = let found = more g in (found.0, inr found.1, found.2, found.3, found.4)
 
-  as_many : (arcs : List PureArc) (ns : List (Neighbour L S)) → AreNeighbours stands_for is_sig value net arcs ns → length arcs ≡ length ns
+  pub as_many : (arcs : List PureArc) (ns : List (Neighbour L S)) → AreNeighbours stands_for is_sig value net arcs ns → length arcs ≡ length ns
   as_many [] [] are = refl
   as_many [] (n ∷ ns) are = absurd are
   as_many (a ∷ arcs) [] are = absurd are

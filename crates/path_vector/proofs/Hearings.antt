@@ -1,17 +1,20 @@
 -- What a node heard, once it heard one more update.
 use Rattle.std.proofs.Common.{◌≡◌, ℕ, zero, suc, ◌+◌, ◌<◌, List, [], ◌∷◌, Bool, true, false, ◌&&◌, ◌==◌, length, cond, slice_get, Option, Some, None, subst, refl, sym, ap, ◌∙◌, arith}
-use Rattle.std.specs.Prelude.{find, option_map, option_and_then}
+use Rattle.std.specs.Prelude.{find, option_map, option_and_then, IfSome}
 use Rattle.std.proofs.Math.ListN.{set}
 use Rattle.std.proofs.Math.Path.{fun_ext}
 use Rattle.std.proofs.lemmas.Bool.Decides.{nat_tests}
 use Rattle.alg_model.specs.Expressions.{PureValue, PureLabel}
-use Rattle.net_graph.specs.Nets.{PureArc, PureNet, AreDistinct}
+use Rattle.net_graph.specs.Nets.{PureArc, PureNet, IsNet, AreDistinct, arcs_from}
 use Rattle.net_graph.specs.Routes.{PureRoute}
 use Rattle.path_vector.specs.declared.known.Known.{Known}
 use Rattle.path_vector.specs.declared.neighbour.Neighbour.{Neighbour}
-use Rattle.path_vector.specs.Known.{entry_of, known_route, heard_by, IsNeighbour, AreNeighbours}
+use Rattle.path_vector.specs.Known.{entry_of, known_route, heard_by, IsNeighbour, AreNeighbours, HasHeard}
 use Rattle.path_vector.specs.Node.{may_be_of}
-use Rattle.path_vector.specs.Items.{of_all, item_at}
+use Rattle.std.proofs.lemmas.Option.{slice_get_within}
+use Rattle.path_vector.specs.Items.{of_all, item_at, item_there}
+use Rattle.path_vector.specs.Telling.{id_is_place}
+use Rattle.path_vector.proofs.Choices.{as_many, neighbour_at, neighbour_found, ids_from_apart}
 
 set_length : {X : Type 0} (xs : List X) (i : ℕ) (y : X) → length (set xs i y) ≡ length xs
 set_length [] i y = refl
@@ -128,3 +131,71 @@ module _ {L S : Type 0} (stands_for : L → PureLabel → Type 0) (is_sig : S �
       → AreDistinct (λ (x y : PureArc). x.id == y.id) arcs → slice_get arcs k ≡ Some a → slice_get ns k ≡ Some n → IsAfter n m dest route
       → heard_by value (set ns k m) ≡ λ b d. cond (b == a.id && d == dest) (option_map (known_route value) route) (heard_by value ns b d)
   heard_after arcs ns k a n m dest route are apart e f is = fun_ext (λ b. fun_ext (λ d. heard_at_once arcs ns k a n m dest route are apart e f is b d))
+
+-- ---- the neighbour at the place of an arc
+
+module _ {L S : Type 0} (stands_for : L → PureLabel → Type 0) (is_sig : S → Type 0) (value : S → PureValue) (net : PureNet) (i : ℕ) (n : IsNet net) (ns : List (Neighbour L S))
+    (are : AreNeighbours stands_for is_sig value net (arcs_from net i) ns) (b k dest : ℕ) (a : PureArc) (stands : slice_get net.arcs b ≡ Some a) (tail : a.tail ≡ i)
+    (at : IfSome (slice_get net.arcs b) (λ (x : PureArc). slice_get (arcs_from net x.tail) k ≡ Some x)) (inside : dest < length net.dests)
+  where
+    placed : slice_get (arcs_from net i) k ≡ Some a
+    placed = subst (λ z. slice_get (arcs_from net z) k ≡ Some a) tail (subst (λ z. IfSome z (λ (x : PureArc). slice_get (arcs_from net x.tail) k ≡ Some x)) stands at)
+
+    -- the neighbour, and that it has a place for the destination
+    pub neighbour_there : (m : Neighbour L S) × (slice_get ns k ≡ Some m) × (dest < length m.heard.items)
+    neighbour_there =
+        let few : k < length ns = subst (λ z. k < z) (as_many stands_for is_sig value net (arcs_from net i) ns are) (slice_get_within (arcs_from net i) k a placed) in
+        let there = item_there ns k few in
+        let is = neighbour_at stands_for is_sig value net (arcs_from net i) ns k there.0 are there.1 in
+        (there.0, there.1, subst (λ z. dest < z) (sym is.2.count) inside)
+
+    same_neighbour : IsNeighbour stands_for is_sig value net a neighbour_there.0
+    same_neighbour =
+        let is = neighbour_at stands_for is_sig value net (arcs_from net i) ns k neighbour_there.0 are neighbour_there.1 in
+        let same : is.0 ≡ a = (let e = sym is.1 ∙ placed in cc) in
+        subst (λ z. IsNeighbour stands_for is_sig value net z neighbour_there.0) same is.2
+
+    number : a.id ≡ b
+    number = id_is_place 0 b net.arcs a n.arc_ids stands ∙ (let e : 0 + b ≡ b = omega arith in e)
+
+    module _ (route earlier : Option (Known S)) (new : List (Neighbour L S)) (has : HasHeard dest route earlier ns k neighbour_there.0 new) where
+      after : IsAfter neighbour_there.0 has.now dest route
+      after = record { arc = has.arc; label = has.label; heard = has.heard; inside = neighbour_there.2 }
+
+      pub still_neighbours : ((x : Known S) → route ≡ Some x → is_sig x.sig × (may_be_of net a.head (known_route value x) ≡ true)) → AreNeighbours stands_for is_sig value net (arcs_from net i) new
+      still_neighbours fit = subst (AreNeighbours stands_for is_sig value net (arcs_from net i)) (sym has.at)
+          (neighbours_after stands_for is_sig value net (arcs_from net i) ns k a neighbour_there.0 has.now dest route are placed neighbour_there.1 after fit)
+
+      pub heard_now : heard_by value new ≡ λ c d. cond (c == b && d == dest) (option_map (known_route value) route) (heard_by value ns c d)
+      heard_now = ap (heard_by value) has.at
+          ∙ (heard_after stands_for is_sig value net (arcs_from net i) ns k a neighbour_there.0 has.now dest route are (ids_from_apart net i n.arc_ids) placed neighbour_there.1 after
+          ∙ ap (λ z. λ c d. cond (c == z && d == dest) (option_map (known_route value) route) (heard_by value ns c d)) number)
+
+      -- what was heard there before may be the speaker's, and is what the neighbours were heard to say
+      pub earlier_fits : (x : Known S) → earlier ≡ Some x → is_sig x.sig × (may_be_of net a.head (known_route value x) ≡ true)
+      earlier_fits x e = same_neighbour.known dest x (has.was ∙ e)
+
+      pub earlier_is : heard_by value ns b dest ≡ option_map (known_route value) earlier
+      earlier_is =
+          let found = neighbour_found stands_for is_sig value net (arcs_from net i) ns k a neighbour_there.0 are (ids_from_apart net i n.arc_ids) placed neighbour_there.1 in
+          subst (λ z. heard_by value ns z dest ≡ option_map (known_route value) earlier) number (rw found (ap (option_map (known_route value)) has.was))
+
+-- what is replaced and put back is as it was
+pub put_back : (f g h : ℕ → ℕ → Option PureRoute) (b dest : ℕ) (x y : Option PureRoute) → g ≡ (λ c d. cond (c == b && d == dest) x (f c d)) → h ≡ (λ c d. cond (c == b && d == dest) y (g c d)) → f b dest ≡ y → h ≡ f
+put_back f g h b dest x y e k same = k ∙ fun_ext (λ c. fun_ext (λ d. by c d (c == b) (d == dest) refl refl))
+  where
+    by : (c d : ℕ) (s t : Bool) → (c == b) ≡ s → (d == dest) ≡ t → cond (c == b && d == dest) y (g c d) ≡ f c d
+    by c d true true p q =
+        let one : c ≡ b = grind (arith, nat_tests) in
+        let two : d ≡ dest = grind (arith, nat_tests) in
+        rw (p, q, one, two) (sym same)
+    by c d true false p q = rw (p, q) (ap (λ z. z c d) e ∙ rw (p, q) refl)
+    by c d false t p q = rw p (ap (λ z. z c d) e ∙ rw p refl)
+
+-- the route of an update that fits may be the speaker's
+pub known_fits : {S : Type 0} (is_sig : S → Type 0) (value : S → PureValue) (net : PureNet) (a : PureArc) (known : Option (Known S)) (route : Option PureRoute) → IfSome known (λ (k : Known S). is_sig k.sig)
+    → option_map (known_route value) known ≡ route → ((r : PureRoute) → route ≡ Some r → may_be_of net a.head r ≡ true) → (x : Known S) → known ≡ Some x → is_sig x.sig × (may_be_of net a.head (known_route value x) ≡ true)
+known_fits is_sig value net a None route sig e fit x f = absurd (cc)
+known_fits is_sig value net a (Some k) route sig e fit x f =
+    let same : k ≡ x = cc in
+    (subst (λ (z : Known _). is_sig z.sig) same sig, fit (known_route value x) (sym e ∙ ap (λ z. option_map (known_route value) z) f))

@@ -1,5 +1,6 @@
 -- Routes in an algebra's own form, and what a node offers itself by them. Sigs stand for values by `value`.
 use Rattle.std.specs.Prelude.{◌≡◌, ℕ, ◌==◌, Bool, true, List, [], ◌∷◌, Option, Some, None, cond, find, length, option_map, option_and_then, slice_get}
+use Rattle.std.proofs.Math.ListN.{set}
 use Rattle.alg_model.specs.Expressions.{PureCarrier, PureValue, PureLabel}
 use Rattle.meta_base.specs.declared.ids.NodeId.{NodeId}
 use Rattle.meta_base.specs.NodePaths.{numbers}
@@ -50,3 +51,12 @@ abbrev pub better_of : PureCarrier → Option PureRoute → Option PureRoute →
 better_of c None next = next
 better_of c (Some b) None = Some b
 better_of c (Some b) (Some x) = cond (is_better c x b) (Some x) (Some b)
+
+-- the neighbour at a place has heard this for a destination, and had heard that
+pub record HasHeard {L S : Type 0} (dest : ℕ) (route earlier : Option (Known S)) (old : List (Neighbour L S)) (place : ℕ) (n : Neighbour L S) (new : List (Neighbour L S)) : Type 0 where
+  pub now : Neighbour L S
+  pub at : new ≡ set old place now
+  pub arc : now.arc ≡ n.arc
+  pub label : now.label ≡ n.label
+  pub heard : now.heard.items ≡ set n.heard.items dest route
+  pub was : entry_of n.heard.items dest ≡ earlier

@@ -1,5 +1,6 @@
-ghost use Rattle.std.specs.Prelude.{◌≡◌, ◌<◌, vec_len};
-ghost use Rattle.std.proofs.Math.ListN.{set, get_or};
+ghost use Rattle.std.specs.Prelude.{◌≡◌, ◌<◌, length};
+ghost use Rattle.std.proofs.Math.ListN.{set};
+ghost use Rattle.path_vector.specs.Known.{entry_of};
 
 use crate::known::Known;
 use meta_base::ArcId;
@@ -17,11 +18,11 @@ pub(crate) struct Neighbour<L, S> {
 impl<L, S> Neighbour<L, S> {
     // Keeps a route, or that there is none, for the destination, and gives what was kept there.
     pub fn hear(&mut self, dest: usize, route: Option<Known<S>>) -> Option<Known<S>>
-        requires { dest < vec_len self.old.heard }
+        requires { dest < length self.old.heard.items }
         ensures arc { self.new.arc ≡ self.old.arc }
         ensures label { self.new.label ≡ self.old.label }
         ensures heard { self.new.heard.items ≡ set self.old.heard.items dest route }
-        ensures earlier { result ≡ get_or self.old.heard.items dest result }
+        ensures earlier { entry_of self.old.heard.items dest ≡ result }
     {
         replace(&mut self.heard[dest], route)
     }

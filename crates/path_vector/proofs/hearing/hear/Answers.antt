@@ -1,0 +1,270 @@
+use Rattle.std.proofs.Common.{◌≡◌, ℕ, ◌<◌, List, [], ◌==◌, ◌&&◌, map, cond, length, Option, Some, None, subst, sym, ap, refl, ◌∙◌}
+use Rattle.std.specs.Prelude.{option_map}
+use Rattle.alg_model.specs.Carriers.{carrier_of}
+use Rattle.net_graph.specs.Nets.{arcs_to}
+use Rattle.net_graph.specs.Views.{pure_route}
+use Rattle.path_vector.specs.Choosing.{may_be_parts}
+use Rattle.path_vector.specs.Known.{known_route, heard_by}
+use Rattle.path_vector.specs.Node.{PureUpdate, choice, same_row, told_on}
+use Rattle.path_vector.specs.Updates.{noted, pure_update}
+use Rattle.path_vector.specs.Words.{fits_parts}
+use Rattle.path_vector.proofs.Choices.{entry_is}
+use Rattle.path_vector.proofs.Beginnings.{some_holds}
+use Rattle.path_vector.proofs.Hearings.{neighbour_there, still_neighbours, heard_now, earlier_fits, earlier_is, put_back, known_fits}
+use Rattle.path_vector.proofs.hearing.hear.Goals as goal
+
+pub heard_route-requires : goal.heard_route-requires
+heard_route-requires g c =
+    let A = g.A.Algebra in
+    let s = c.args.algebra.now in
+    let value = A.sig_value s in
+    let net = c.args.net.now in
+    let i = c.args.node.0 in
+    let kept = c.requires.kept in
+    let ns = c.args.neighbours.now.items in
+    let update = c.args.update.now in
+    let dest = update.dest.0 in
+    let a = c.requires.fits.0 in
+    let parts = fits_parts net a (pure_update update) c.requires.fits.3 in
+    some_holds _ update.route (λ r e. rw c.requires.algebra (may_be_parts net a.head (pure_route r) (parts.1 (pure_route r) (ap (option_map pure_route) e))).value_in)
+
+pub hear_at-earlier-requires : goal.hear_at-earlier-requires
+hear_at-earlier-requires g c =
+    let A = g.A.Algebra in
+    let s = c.args.algebra.now in
+    let value = A.sig_value s in
+    let net = c.args.net.now in
+    let i = c.args.node.0 in
+    let kept = c.requires.kept in
+    let ns = c.args.neighbours.now.items in
+    let update = c.args.update.now in
+    let dest = update.dest.0 in
+    let a = c.requires.fits.0 in
+    let parts = fits_parts net a (pure_update update) c.requires.fits.3 in
+    record { place = neighbour_there (A.stands_for s) (A.is_sig s) value net i c.requires.net ns kept.neighbours c.args.arc.0 c.place_of-place.result dest a c.requires.fits.1 c.requires.fits.2 c.place_of-place.ensures parts.0 }
+
+pub rechoose-requires-clause-own : goal.rechoose-requires-clause-own
+rechoose-requires-clause-own g c =
+    let A = g.A.Algebra in
+    let s = c.args.algebra.now in
+    let value = A.sig_value s in
+    let net = c.args.net.now in
+    let i = c.args.node.0 in
+    let kept = c.requires.kept in
+    let ns = c.args.neighbours.now.items in
+    let update = c.args.update.now in
+    let dest = update.dest.0 in
+    let a = c.requires.fits.0 in
+    let parts = fits_parts net a (pure_update update) c.requires.fits.3 in
+    let inside_own : dest < length c.args.own.now = subst (λ z. dest < z) (sym kept.own_count) parts.0 in
+    let own = entry_is c.args.own.now dest c.index-own-dest.result inside_own c.index-own-dest.is in
+    some_holds _ c.index-own-dest.result (λ x e. kept.own_sigs dest x (own ∙ e))
+
+pub rechoose-requires-clause-origin : goal.rechoose-requires-clause-origin
+rechoose-requires-clause-origin g c =
+    let A = g.A.Algebra in
+    let s = c.args.algebra.now in
+    let value = A.sig_value s in
+    let net = c.args.net.now in
+    let i = c.args.node.0 in
+    let kept = c.requires.kept in
+    let ns = c.args.neighbours.now.items in
+    let update = c.args.update.now in
+    let dest = update.dest.0 in
+    let a = c.requires.fits.0 in
+    let parts = fits_parts net a (pure_update update) c.requires.fits.3 in
+    let inside_own : dest < length c.args.own.now = subst (λ z. dest < z) (sym kept.own_count) parts.0 in
+    let own = entry_is c.args.own.now dest c.index-own-dest.result inside_own c.index-own-dest.is in
+    ap (option_map value) (sym own) ∙ kept.own_values dest
+
+pub rechoose-requires-clause-neighbours : goal.rechoose-requires-clause-neighbours
+rechoose-requires-clause-neighbours g c =
+    let A = g.A.Algebra in
+    let s = c.args.algebra.now in
+    let value = A.sig_value s in
+    let net = c.args.net.now in
+    let i = c.args.node.0 in
+    let kept = c.requires.kept in
+    let ns = c.args.neighbours.now.items in
+    let update = c.args.update.now in
+    let dest = update.dest.0 in
+    let a = c.requires.fits.0 in
+    let parts = fits_parts net a (pure_update update) c.requires.fits.3 in
+    let there = neighbour_there (A.stands_for s) (A.is_sig s) value net i c.requires.net ns kept.neighbours c.args.arc.0 c.place_of-place.result dest a c.requires.fits.1 c.requires.fits.2 c.place_of-place.ensures parts.0 in
+    let route = c.in_ok-route.route in
+    let now = c.hear_at-earlier.new.neighbours.items in
+    let has = c.hear_at-earlier.ensures there.0 there.1 in
+    let fit = known_fits (A.is_sig s) value net a route (option_map pure_route update.route) c.in_ok-route.ensures.sig c.in_ok-route.ensures.route parts.1 in
+    rw c.deref.ensures.value (still_neighbours (A.stands_for s) (A.is_sig s) value net i c.requires.net ns kept.neighbours c.args.arc.0 c.place_of-place.result dest a c.requires.fits.1 c.requires.fits.2 c.place_of-place.ensures parts.0 route c.hear_at-earlier.result now has fit)
+
+pub rechoose-requires-clause-before : goal.rechoose-requires-clause-before
+rechoose-requires-clause-before g c =
+    let A = g.A.Algebra in
+    let s = c.args.algebra.now in
+    let value = A.sig_value s in
+    let net = c.args.net.now in
+    let i = c.args.node.0 in
+    let kept = c.requires.kept in
+    let ns = c.args.neighbours.now.items in
+    let update = c.args.update.now in
+    let dest = update.dest.0 in
+    let a = c.requires.fits.0 in
+    let parts = fits_parts net a (pure_update update) c.requires.fits.3 in
+    let inside_rows : dest < length c.args.rows.now = subst (λ z. dest < z) (sym kept.row_count) parts.0 in
+    let row = entry_is c.args.rows.now dest c.index-rows-dest.result inside_rows c.index-rows-dest.is in
+    some_holds _ c.index-rows-dest.result (λ x e. kept.row_sigs dest x (row ∙ e))
+
+pub hear_at-requires : goal.hear_at-requires
+hear_at-requires g c =
+    let A = g.A.Algebra in
+    let s = c.args.algebra.now in
+    let value = A.sig_value s in
+    let net = c.args.net.now in
+    let i = c.args.node.0 in
+    let kept = c.requires.kept in
+    let ns = c.args.neighbours.now.items in
+    let update = c.args.update.now in
+    let dest = update.dest.0 in
+    let a = c.requires.fits.0 in
+    let parts = fits_parts net a (pure_update update) c.requires.fits.3 in
+    let there = neighbour_there (A.stands_for s) (A.is_sig s) value net i c.requires.net ns kept.neighbours c.args.arc.0 c.place_of-place.result dest a c.requires.fits.1 c.requires.fits.2 c.place_of-place.ensures parts.0 in
+    let route = c.in_ok-route.route in
+    let now = c.hear_at-earlier.new.neighbours.items in
+    let has = c.hear_at-earlier.ensures there.0 there.1 in
+    let fit = known_fits (A.is_sig s) value net a route (option_map pure_route update.route) c.in_ok-route.ensures.sig c.in_ok-route.ensures.route parts.1 in
+    let are = still_neighbours (A.stands_for s) (A.is_sig s) value net i c.requires.net ns kept.neighbours c.args.arc.0 c.place_of-place.result dest a c.requires.fits.1 c.requires.fits.2 c.place_of-place.ensures parts.0 route c.hear_at-earlier.result now has fit in
+    let there_now = neighbour_there (A.stands_for s) (A.is_sig s) value net i c.requires.net now are c.args.arc.0 c.place_of-place.result dest a c.requires.fits.1 c.requires.fits.2 c.place_of-place.ensures parts.0 in
+    record { place = there_now }
+
+pub returns-in-Ok-clause-kept : goal.returns-in-Ok-clause-kept
+returns-in-Ok-clause-kept g c =
+    let A = g.A.Algebra in
+    let s = c.args.algebra.now in
+    let value = A.sig_value s in
+    let net = c.args.net.now in
+    let i = c.args.node.0 in
+    let kept = c.requires.kept in
+    let ns = c.args.neighbours.now.items in
+    let update = c.args.update.now in
+    let dest = update.dest.0 in
+    let a = c.requires.fits.0 in
+    let parts = fits_parts net a (pure_update update) c.requires.fits.3 in
+    let there = neighbour_there (A.stands_for s) (A.is_sig s) value net i c.requires.net ns kept.neighbours c.args.arc.0 c.place_of-place.result dest a c.requires.fits.1 c.requires.fits.2 c.place_of-place.ensures parts.0 in
+    let route = c.in_ok-route.route in
+    let now = c.hear_at-earlier.new.neighbours.items in
+    let has = c.hear_at-earlier.ensures there.0 there.1 in
+    let fit = known_fits (A.is_sig s) value net a route (option_map pure_route update.route) c.in_ok-route.ensures.sig c.in_ok-route.ensures.route parts.1 in
+    record {
+      inside = kept.inside;
+      own_count = kept.own_count;
+      own_values = kept.own_values;
+      own_sigs = kept.own_sigs;
+      neighbours = still_neighbours (A.stands_for s) (A.is_sig s) value net i c.requires.net ns kept.neighbours c.args.arc.0 c.place_of-place.result dest a c.requires.fits.1 c.requires.fits.2 c.place_of-place.ensures parts.0 route c.hear_at-earlier.result now has fit;
+      row_count = kept.row_count;
+      row_sigs = kept.row_sigs;
+    }
+
+pub returns-in-Ok-clause-heard : goal.returns-in-Ok-clause-heard
+returns-in-Ok-clause-heard g c =
+    let A = g.A.Algebra in
+    let s = c.args.algebra.now in
+    let value = A.sig_value s in
+    let net = c.args.net.now in
+    let i = c.args.node.0 in
+    let kept = c.requires.kept in
+    let ns = c.args.neighbours.now.items in
+    let update = c.args.update.now in
+    let dest = update.dest.0 in
+    let a = c.requires.fits.0 in
+    let parts = fits_parts net a (pure_update update) c.requires.fits.3 in
+    let there = neighbour_there (A.stands_for s) (A.is_sig s) value net i c.requires.net ns kept.neighbours c.args.arc.0 c.place_of-place.result dest a c.requires.fits.1 c.requires.fits.2 c.place_of-place.ensures parts.0 in
+    let route = c.in_ok-route.route in
+    let now = c.hear_at-earlier.new.neighbours.items in
+    let has = c.hear_at-earlier.ensures there.0 there.1 in
+    let fit = known_fits (A.is_sig s) value net a route (option_map pure_route update.route) c.in_ok-route.ensures.sig c.in_ok-route.ensures.route parts.1 in
+    heard_now (A.stands_for s) (A.is_sig s) value net i c.requires.net ns kept.neighbours c.args.arc.0 c.place_of-place.result dest a c.requires.fits.1 c.requires.fits.2 c.place_of-place.ensures parts.0 route c.hear_at-earlier.result now has
+    ∙ ap (λ z. λ b d. cond (b == c.args.arc.0 && d == dest) z (heard_by value ns b d)) c.in_ok-route.ensures.route
+
+pub returns-in-Ok-clause-row : goal.returns-in-Ok-clause-row
+returns-in-Ok-clause-row g c =
+    rw c.deref.ensures.value at c.in-Ok.ensures.choice
+
+pub returns-in-Ok-clause-told : goal.returns-in-Ok-clause-told
+returns-in-Ok-clause-told g c =
+    let A = g.A.Algebra in
+    let s = c.args.algebra.now in
+    let value = A.sig_value s in
+    let net = c.args.net.now in
+    let i = c.args.node.0 in
+    let kept = c.requires.kept in
+    let ns = c.args.neighbours.now.items in
+    let update = c.args.update.now in
+    let dest = update.dest.0 in
+    let a = c.requires.fits.0 in
+    let parts = fits_parts net a (pure_update update) c.requires.fits.3 in
+    let inside_rows : dest < length c.args.rows.now = subst (λ z. dest < z) (sym kept.row_count) parts.0 in
+    let row = entry_is c.args.rows.now dest c.index-rows-dest.result inside_rows c.index-rows-dest.is in
+    let chosen = choice net dest i (heard_by value c.hear_at-earlier.new.neighbours.items) in
+    let told : PureUpdate = record { dest = dest; route = chosen; stamp = c.args.clock } in
+    subst (λ z. map noted c.in-Ok.chosen.1 ≡ cond (same_row chosen (option_map (known_route value) z)) [] (told_on (arcs_to net i) told)) (sym row) (rw c.deref.ensures.value at c.in-Ok.ensures.told)
+
+pub returns-in-Err-clause-kept : goal.returns-in-Err-clause-kept
+returns-in-Err-clause-kept g c =
+    let A = g.A.Algebra in
+    let s = c.args.algebra.now in
+    let value = A.sig_value s in
+    let net = c.args.net.now in
+    let i = c.args.node.0 in
+    let kept = c.requires.kept in
+    let ns = c.args.neighbours.now.items in
+    let update = c.args.update.now in
+    let dest = update.dest.0 in
+    let a = c.requires.fits.0 in
+    let parts = fits_parts net a (pure_update update) c.requires.fits.3 in
+    let there = neighbour_there (A.stands_for s) (A.is_sig s) value net i c.requires.net ns kept.neighbours c.args.arc.0 c.place_of-place.result dest a c.requires.fits.1 c.requires.fits.2 c.place_of-place.ensures parts.0 in
+    let route = c.in_ok-route.route in
+    let now = c.hear_at-earlier.new.neighbours.items in
+    let has = c.hear_at-earlier.ensures there.0 there.1 in
+    let fit = known_fits (A.is_sig s) value net a route (option_map pure_route update.route) c.in_ok-route.ensures.sig c.in_ok-route.ensures.route parts.1 in
+    let are = still_neighbours (A.stands_for s) (A.is_sig s) value net i c.requires.net ns kept.neighbours c.args.arc.0 c.place_of-place.result dest a c.requires.fits.1 c.requires.fits.2 c.place_of-place.ensures parts.0 route c.hear_at-earlier.result now has fit in
+    let there_now = neighbour_there (A.stands_for s) (A.is_sig s) value net i c.requires.net now are c.args.arc.0 c.place_of-place.result dest a c.requires.fits.1 c.requires.fits.2 c.place_of-place.ensures parts.0 in
+    let back = c.hear_at.new.neighbours.items in
+    let has_back = c.hear_at.ensures there_now.0 there_now.1 in
+    let was_fit = earlier_fits (A.stands_for s) (A.is_sig s) value net i c.requires.net ns kept.neighbours c.args.arc.0 c.place_of-place.result dest a c.requires.fits.1 c.requires.fits.2 c.place_of-place.ensures parts.0 route c.hear_at-earlier.result now has in
+    record {
+      inside = kept.inside;
+      own_count = kept.own_count;
+      own_values = kept.own_values;
+      own_sigs = kept.own_sigs;
+      neighbours = still_neighbours (A.stands_for s) (A.is_sig s) value net i c.requires.net now are c.args.arc.0 c.place_of-place.result dest a c.requires.fits.1 c.requires.fits.2 c.place_of-place.ensures parts.0 c.hear_at-earlier.result c.hear_at.result back has_back was_fit;
+      row_count = kept.row_count;
+      row_sigs = kept.row_sigs;
+    }
+
+pub returns-in-Err-clause-err : goal.returns-in-Err-clause-err
+returns-in-Err-clause-err g c =
+    let A = g.A.Algebra in
+    let s = c.args.algebra.now in
+    let value = A.sig_value s in
+    let net = c.args.net.now in
+    let i = c.args.node.0 in
+    let kept = c.requires.kept in
+    let ns = c.args.neighbours.now.items in
+    let update = c.args.update.now in
+    let dest = update.dest.0 in
+    let a = c.requires.fits.0 in
+    let parts = fits_parts net a (pure_update update) c.requires.fits.3 in
+    let there = neighbour_there (A.stands_for s) (A.is_sig s) value net i c.requires.net ns kept.neighbours c.args.arc.0 c.place_of-place.result dest a c.requires.fits.1 c.requires.fits.2 c.place_of-place.ensures parts.0 in
+    let route = c.in_ok-route.route in
+    let now = c.hear_at-earlier.new.neighbours.items in
+    let has = c.hear_at-earlier.ensures there.0 there.1 in
+    let fit = known_fits (A.is_sig s) value net a route (option_map pure_route update.route) c.in_ok-route.ensures.sig c.in_ok-route.ensures.route parts.1 in
+    let are = still_neighbours (A.stands_for s) (A.is_sig s) value net i c.requires.net ns kept.neighbours c.args.arc.0 c.place_of-place.result dest a c.requires.fits.1 c.requires.fits.2 c.place_of-place.ensures parts.0 route c.hear_at-earlier.result now has fit in
+    let there_now = neighbour_there (A.stands_for s) (A.is_sig s) value net i c.requires.net now are c.args.arc.0 c.place_of-place.result dest a c.requires.fits.1 c.requires.fits.2 c.place_of-place.ensures parts.0 in
+    let back = c.hear_at.new.neighbours.items in
+    let has_back = c.hear_at.ensures there_now.0 there_now.1 in
+    let was_fit = earlier_fits (A.stands_for s) (A.is_sig s) value net i c.requires.net ns kept.neighbours c.args.arc.0 c.place_of-place.result dest a c.requires.fits.1 c.requires.fits.2 c.place_of-place.ensures parts.0 route c.hear_at-earlier.result now has in
+    put_back (heard_by value ns) (heard_by value now) (heard_by value back) c.args.arc.0 dest (option_map (known_route value) route) (option_map (known_route value) c.hear_at-earlier.result)
+    (heard_now (A.stands_for s) (A.is_sig s) value net i c.requires.net ns kept.neighbours c.args.arc.0 c.place_of-place.result dest a c.requires.fits.1 c.requires.fits.2 c.place_of-place.ensures parts.0 route c.hear_at-earlier.result now has)
+    (heard_now (A.stands_for s) (A.is_sig s) value net i c.requires.net now are c.args.arc.0 c.place_of-place.result dest a c.requires.fits.1 c.requires.fits.2 c.place_of-place.ensures parts.0 c.hear_at-earlier.result c.hear_at.result back has_back)
+    (earlier_is (A.stands_for s) (A.is_sig s) value net i c.requires.net ns kept.neighbours c.args.arc.0 c.place_of-place.result dest a c.requires.fits.1 c.requires.fits.2 c.place_of-place.ensures parts.0 route c.hear_at-earlier.result now has)
