@@ -37,3 +37,14 @@ any_pair (p ∷ ps) a b =
 
 pub inserted_pair : (ps new : List (ℕ × ℕ)) (a b : ℕ) → new ≡ cond (list_any (λ p. eqb a p.0 && eqb b p.1) ps) ps (ps ++ (a, b) ∷ []) → list_any (λ p. eqb p.0 a && eqb p.1 b) ps ≡ false → new ≡ ps ++ (a, b) ∷ []
 inserted_pair ps new a b e absent = e ∙ ap (λ t. cond t ps (ps ++ (a, b) ∷ [])) (any_pair ps a b ∙ absent)
+
+before_pair : (ps : List (ℕ × ℕ)) (a b : ℕ) → prefix_len (λ p. not (eqb a p.0 && eqb b p.1)) ps ≡ prefix_len (λ p. not (eqb p.0 a && eqb p.1 b)) ps
+before_pair [] a b = refl
+before_pair (p ∷ ps) a b =
+    let first : eqb a p.0 ≡ eqb p.0 a = grind (arith, nat_tests) in
+    let second : eqb b p.1 ≡ eqb p.1 b = grind (arith, nat_tests) in
+    rw (first, second, before_pair ps a b) refl
+
+-- and stands where it does
+pub place_pair : (ps : List (ℕ × ℕ)) (a b : ℕ) → position (λ p. eqb a p.0 && eqb b p.1) ps ≡ position (λ p. eqb p.0 a && eqb p.1 b) ps
+place_pair ps a b = rw (before_pair ps a b) refl

@@ -1,9 +1,9 @@
 -- Networks with a node, an arc or an origin more, and the pairs by which they are looked up.
-use Rattle.std.proofs.Common.{◌≡◌, ◌≢◌, ℕ, zero, suc, slice_get, subst, ◌<◌, List, [], ◌∷◌, ◌++◌, Bool, true, false, ◌||◌, ◌&&◌, eqb, Option, Some, None, length, map, filter, cond, refl, sym, ap, ◌∙◌, arith, unwrap_or}
-use Rattle.std.proofs.lemmas.List.{length_push, map-append}
+use Rattle.std.proofs.Common.{◌≡◌, ◌≢◌, ℕ, zero, suc, slice_get, subst, ◌<◌, List, [], ◌∷◌, ◌++◌, Bool, true, false, ◌||◌, ◌&&◌, eqb, Option, Some, None, length, map, filter, cond, refl, sym, ap, ◌∙◌, arith, unwrap_or, position, not, ◌≤◌, ◌+◌}
+use Rattle.std.proofs.lemmas.List.{length_push, length-map, map-append}
 use Rattle.std.proofs.lemmas.Option.{same_Some}
 use Rattle.std.proofs.lemmas.Bool.Decides.{nat_tests}
-use Rattle.std.specs.List.{list_any, AllByRecursion}
+use Rattle.std.specs.List.{list_any, prefix_len, AllByRecursion}
 use Rattle.std.specs.Option.{option_map_or, IfSome}
 use Rattle.alg_model.specs.Expressions.{PureLabel, PureValue}
 use Rattle.alg_model.specs.Application.{IsLabel}
@@ -11,7 +11,7 @@ use Rattle.alg_model.specs.Carriers.{carrier_of, In}
 use Rattle.alg_model.specs.Bounds.{AtMost, LabelAtMost, greatest_number}
 use Rattle.net_graph.specs.declared.limits.TheConstants.{MAX_ARCS}
 use Rattle.net_graph.specs.Limits.{max_nodes, max_dests}
-use Rattle.net_graph.specs.Nets.{PureArc, PureOrigin, PureNet, is_name, number_of, has_arc, has_origin}
+use Rattle.net_graph.specs.Nets.{PureArc, PureOrigin, PureNet, is_name, number_of, has_arc, has_origin, is_arc_between, is_origin_at}
 use Rattle.net_graph.specs.Lines.{with_node, with_arc, with_dest, with_origin, with_origin_at, with_origin_of}
 use Rattle.net_graph.specs.NetLaws.{none_past, number_within, with_node_is_net, with_arc_is_net, with_dest_is_net, with_origin_at_is_net}
 use Rattle.net_graph.specs.Parts.{IsKnown, arc_pair, origin_pair}
@@ -99,6 +99,28 @@ known_origin net by_arc by_origin name node v k named i absent member bound room
 -- a pair is noted exactly where there is such an arc or origin
 pub pair_of_arc : (net : PureNet) (by_arc by_origin : List (ℕ × ℕ)) (tail head : ℕ) → IsKnown net by_arc by_origin → list_any (λ p. eqb p.0 tail && eqb p.1 head) by_arc ≡ has_arc net tail head
 pair_of_arc net by_arc by_origin tail head k = ap (list_any (λ (p : ℕ × ℕ). eqb p.0 tail && eqb p.1 head)) k.arc_pairs ∙ any_mapped arc_pair (λ (p : ℕ × ℕ). eqb p.0 tail && eqb p.1 head) net.arcs
+
+before_mapped : {X Y : Type 0} (f : X → Y) (p : Y → Bool) (xs : List X) → prefix_len (λ y. not (p y)) (map f xs) ≡ prefix_len (λ x. not (p (f x))) xs
+before_mapped f p [] = refl
+before_mapped f p (x ∷ xs) = ap (λ m. cond (not (p (f x))) (1 + m) 0) (before_mapped f p xs)
+
+-- the place of a pair is that of its arc
+pub place_of_arc : (net : PureNet) (by_arc by_origin : List (ℕ × ℕ)) (tail head : ℕ) → IsKnown net by_arc by_origin
+    → position (λ p. eqb p.0 tail && eqb p.1 head) by_arc ≡ position (is_arc_between tail head) net.arcs
+place_of_arc net by_arc by_origin tail head k =
+    rw (k.arc_pairs, before_mapped arc_pair (λ (p : ℕ × ℕ). eqb p.0 tail && eqb p.1 head) net.arcs, length-map net.arcs arc_pair) refl
+
+-- and that of another pair is that of its origin
+pub place_of_origin : (net : PureNet) (by_arc by_origin : List (ℕ × ℕ)) (dest node : ℕ) → IsKnown net by_arc by_origin
+    → position (λ p. eqb p.0 dest && eqb p.1 node) by_origin ≡ position (is_origin_at dest node) net.origins
+place_of_origin net by_arc by_origin dest node k =
+    rw (k.origin_pairs, before_mapped origin_pair (λ (p : ℕ × ℕ). eqb p.0 dest && eqb p.1 node) net.origins, length-map net.origins origin_pair) refl
+
+pub few_pairs : (net : PureNet) (by_arc by_origin : List (ℕ × ℕ)) → IsKnown net by_arc by_origin → length by_arc ≤ MAX_ARCS
+few_pairs net by_arc by_origin k =
+    let same : length by_arc ≡ length net.arcs = rw k.arc_pairs (length-map net.arcs arc_pair) in
+    let room = k.is_net.arc_room in
+    omega (arith, same, room)
 
 pub pair_of_origin : (net : PureNet) (by_arc by_origin : List (ℕ × ℕ)) (dest node : ℕ) → IsKnown net by_arc by_origin → list_any (λ p. eqb p.0 dest && eqb p.1 node) by_origin ≡ has_origin net dest node
 pair_of_origin net by_arc by_origin dest node k = ap (list_any (λ (p : ℕ × ℕ). eqb p.0 dest && eqb p.1 node)) k.origin_pairs ∙ any_mapped origin_pair (λ (p : ℕ × ℕ). eqb p.0 dest && eqb p.1 node) net.origins

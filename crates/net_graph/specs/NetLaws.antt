@@ -1,7 +1,9 @@
 -- Networks are small, and one with a node, an arc, a destination or an origin more meets the rules of a
 -- network. Lemmas, so that proofs of other crates may cite them.
-use Rattle.std.proofs.Common.{◌≡◌, ℕ, ◌+◌, ◌<◌, ◌≤◌, List, [], ◌∷◌, ◌++◌, Bool, true, false, not, ◌||◌, ◌&&◌, eqb, ltb, Some, None, length, cond, filter, position, refl, sym, ◌∙◌, arith}
+use Rattle.std.proofs.Common.{◌≡◌, ℕ, ◌+◌, ◌<◌, ◌≤◌, List, [], ◌∷◌, ◌++◌, Bool, true, false, not, ◌||◌, ◌&&◌, eqb, ltb, Some, None, length, cond, filter, find, position, slice_get, refl, sym, ap, ◌∙◌, arith}
 use Rattle.std.proofs.lemmas.List.{length_push}
+use Rattle.std.proofs.lemmas.List.Folds.{find_at}
+use Rattle.std.proofs.lemmas.Option.{slice_get_past}
 use Rattle.std.proofs.lemmas.Bool.Decides.{nat_tests}
 use Rattle.std.proofs.lemmas.Slice.Eq.{bytes_eq-Decides}
 use Rattle.std.specs.List.{list_any, prefix_len, AllByRecursion, position_or_len}
@@ -79,6 +81,22 @@ past_end m n e = grind (arith, nat_tests)
 
 pub none_passes : {X : Type 0} (p : X → Bool) (xs : List X) → position p xs ≡ None → list_any p xs ≡ false
 none_passes p xs e = none_in_front p xs (past_end (prefix_len (λ x. not (p x)) xs) (length xs) e)
+
+-- the first that passes stands at the first place that passes
+pub found_at_place : {X : Type 0} (p : X → Bool) (xs : List X) (i : ℕ) → position p xs ≡ Some i → (find p xs ≡ slice_get xs i) × (i < length xs)
+found_at_place p xs i e = by (prefix_len (λ x. not (p x)) xs) refl e
+  where
+    by : (m : ℕ) → prefix_len (λ x. not (p x)) xs ≡ m → cond (ltb m (length xs)) (Some m) None ≡ Some i → (find p xs ≡ slice_get xs i) × (i < length xs)
+    by m f g = inside (ltb m (length xs)) refl g
+      where
+        inside : (b : Bool) → ltb m (length xs) ≡ b → cond b (Some m) None ≡ Some i → (find p xs ≡ slice_get xs i) × (i < length xs)
+        inside true h k =
+            let same : m ≡ i = cc in
+            (find_at p xs ∙ ap (slice_get xs) (f ∙ same), let l : m < length xs = grind (arith, nat_tests) in omega (arith, l, same))
+        inside false h k = absurd (cc)
+
+pub nothing_at_place : {X : Type 0} (p : X → Bool) (xs : List X) → position p xs ≡ None → find p xs ≡ None
+nothing_at_place p xs e = find_at p xs ∙ slice_get_past xs (prefix_len (λ x. not (p x)) xs) (past_end (prefix_len (λ x. not (p x)) xs) (length xs) e)
 
 -- a new name is told apart from the others
 name_apart : (names : List (List ℕ)) (name : List ℕ) → AreDistinct (λ m n. bytes_eq m n) names → number_of names name ≡ None → AreDistinct (λ m n. bytes_eq m n) (names ++ name ∷ [])

@@ -1,7 +1,7 @@
-ghost use Rattle.std.specs.Prelude.{◌≡◌, ◌<◌, ◌≤◌, Some, true, map, length, slice_get, option_map, IfOk, IfSome};
+ghost use Rattle.std.specs.Prelude.{◌≡◌, ◌<◌, ◌≤◌, Some, true, map, find, length, position, slice_get, option_map, IfOk, IfSome};
 ghost use Rattle.std.specs.List.{AllByRecursion};
 ghost use Rattle.net_graph.specs.declared.limits.TheConstants.{MAX_NODES_TWO, MAX_DESTS_ONE};
-ghost use Rattle.net_graph.specs.Nets.{IsNet, IsArcOf, IsOriginOf, is_name, number_of, has_arc, has_origin, arcs_from, arcs_to, origins_of};
+ghost use Rattle.net_graph.specs.Nets.{IsNet, IsArcOf, IsOriginOf, is_name, number_of, has_arc, has_origin, is_arc_between, is_origin_at, arcs_from, arcs_to, origins_of};
 
 use crate::change::{Change, changed_arcs};
 use crate::filed::FiledLines;
@@ -136,11 +136,34 @@ impl Net {
         self.known.arc_pairs.contains(tail.0, head.0)
     }
 
+    /// The arc from `tail` to `head`, or `None` exactly where there is none.
+    pub fn arc_between(&self, tail: NodeId, head: NodeId) -> Option<ArcId>
+        ensures { option_map (λ id. id.0) result ≡ position (is_arc_between tail.0 head.0) self.now.arcs }
+    {
+        match self.known.arc_pairs.place(tail.0, head.0) {
+            Some(place) => Some(ArcId(place as u32)),
+            None => None,
+        }
+    }
+
     /// There is an origin of the destination at the node.
     pub fn has_origin(&self, dest: DestId, node: NodeId) -> bool
         ensures { result ≡ has_origin self.now dest.0 node.0 }
     {
         self.known.origin_pairs.contains(dest.0, node.0)
+    }
+
+    /// Lends the origin of the destination at the node, or `None` exactly where there is none.
+    pub fn origin_at(&self, dest: DestId, node: NodeId) -> Option<&Origin>
+        ensures origin { option_map (λ o. pure_origin o.now) result ≡
+            find (is_origin_at dest.0 node.0) self.now.origins }
+        ensures within { IfSome result (λ o. IsOriginOf self.now.alg (length self.now.nodes) (length self.now.dests)
+            (pure_origin o.now)) }
+    {
+        match self.known.origin_pairs.place(dest.0, node.0) {
+            Some(place) => Some(self.homes.item(self.origin_spots[place])),
+            None => None,
+        }
     }
 
     /// Lends the arcs that the node may route by, in file order.

@@ -1,5 +1,5 @@
-ghost use Rattle.std.specs.Prelude.{◌≡◌, ◌++◌, ◌∷◌, [], false, IfOk, OnOk, OnErr};
-ghost use Rattle.net_graph.specs.Pairs.{has_pair};
+ghost use Rattle.std.specs.Prelude.{◌≡◌, ◌<◌, ◌++◌, ◌∷◌, [], false, length, position, IfOk, IfSome, OnOk, OnErr};
+ghost use Rattle.net_graph.specs.Pairs.{has_pair, is_pair};
 
 use crate::Arc;
 use indexmap::IndexSet;
@@ -41,6 +41,14 @@ impl Pairs {
         ensures { result ≡ has_pair self.now first second }
     {
         self.pairs.contains(&(first, second))
+    }
+
+    // Where the pair stands, if it is there.
+    pub fn place(&self, first: u32, second: u32) -> Option<usize>
+        ensures place { result ≡ position (is_pair first second) self.now }
+        ensures within { IfSome result (λ place. place < length self.now) }
+    {
+        self.pairs.get_index_of(&(first, second))
     }
 
     // The same pairs.

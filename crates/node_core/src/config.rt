@@ -119,6 +119,13 @@ impl<'a, N: NodeCore> Config<'a, N> {
         &self.nodes
     }
 
+    /// Hands over the nodes, in the order of the network. What was on its way is gone.
+    pub fn into_nodes(self) -> List<N>
+        ensures { (i : ℕ) → (machine_of N.state N.note self.entry).node i ≡ option_map N.state (slice_get result i) }
+    {
+        List::from_vec(self.nodes)
+    }
+
     /// Lends the network.
     pub fn net(&self) -> &'a Net
         ensures { result.now ≡ net_of self.now }

@@ -1,4 +1,4 @@
-use Rattle.std.proofs.Common.{◌≡◌, refl, arith, length, Option, Some, None}
+use Rattle.std.proofs.Common.{◌≡◌, refl, arith, Option, Some, None}
 use Rattle.std.specs.Prelude.{slice_get, IfSome}
 use Rattle.net_graph.specs.Nets.{PureArc, arcs_from}
 use Rattle.net_graph.specs.NetParts.{net_of}
