@@ -1,11 +1,8 @@
 -- What a node tells when it begins, a destination after another.
-use Rattle.std.proofs.Common.{◌≡◌, ℕ, zero, suc, ◌+◌, ◌<◌, List, [], ◌∷◌, ◌++◌, Bool, true, false, not, length, map, cond, slice_get, Option, Some, None, subst, refl, sym, ap, ◌∙◌, arith}
+use Rattle.std.proofs.Common.{◌≡◌, ℕ, zero, suc, ◌+◌, ◌<◌, List, [], ◌∷◌, ◌++◌, Bool, true, false, not, length, cond, Option, Some, None, subst, refl, sym, ap, ◌∙◌, arith}
 use Rattle.std.specs.Prelude.{filter, is_some, ◌==◌, nat_lt, IfSome, option_map}
 use Rattle.std.proofs.lemmas.Bool.Decides.{nat_tests}
-use Rattle.alg_model.specs.Expressions.{PureValue}
-use Rattle.path_vector.specs.declared.known.Known.{Known}
-use Rattle.path_vector.specs.Known.{entry_of, known_route}
-use Rattle.path_vector.specs.State.{row_routes}
+use Rattle.path_vector.specs.Known.{entry_of}
 use Rattle.std.specs.List.{range_with_len}
 use Rattle.std.proofs.Math.Path.{fun_ext}
 use Rattle.std.proofs.lemmas.List.{append_assoc}
@@ -22,7 +19,7 @@ pub record IsUnbegun (net : PureNet) (before : Option PureNet) (number : ℕ) (h
   pub heard_is : s.heard ≡ heard
   pub rows_are : s.rows ≡ rows
 
-range_next : (a n : ℕ) → range_with_len a (suc n) ≡ range_with_len a n ++ (a + n) ∷ []
+pub range_next : (a n : ℕ) → range_with_len a (suc n) ≡ range_with_len a n ++ (a + n) ∷ []
 range_next a zero =
     let same : a ≡ a + 0 = omega arith in
     ap (λ z. z ∷ []) same
@@ -111,11 +108,11 @@ pushed_holds {X = X} P xs y all last d x e = by (d == length xs) (sym (entry_pus
     by true f = of y last f
     by false f = all d x f
 
-pub pushed_rows : {S : Type 0} (value : S → PureValue) (xs : List (Option (Known S))) (y : Option (Known S)) (g : ℕ → Option PureRoute) (place : ℕ) → length xs ≡ place
-    → ((d : ℕ) → d < place → row_routes value xs d ≡ g d) → option_map (known_route value) y ≡ g place → (d : ℕ) → d < place + 1 → row_routes value (xs ++ y ∷ []) d ≡ g d
-pushed_rows value xs y g place count all last d l = ap (option_map (known_route value)) (entry_pushed xs y d) ∙ by (d == length xs) refl
+pub pushed_images : {X Y : Type 0} (f : X → Y) (xs : List (Option X)) (y : Option X) (g : ℕ → Option Y) (place : ℕ) → length xs ≡ place
+    → ((d : ℕ) → d < place → option_map f (entry_of xs d) ≡ g d) → option_map f y ≡ g place → (d : ℕ) → d < place + 1 → option_map f (entry_of (xs ++ y ∷ []) d) ≡ g d
+pushed_images f xs y g place count all last d l = ap (option_map f) (entry_pushed xs y d) ∙ by (d == length xs) refl
   where
-    by : (b : Bool) → (d == length xs) ≡ b → option_map (known_route value) (cond b y (entry_of xs d)) ≡ g d
+    by : (b : Bool) → (d == length xs) ≡ b → option_map f (cond b y (entry_of xs d)) ≡ g d
     by true e =
         let same : place ≡ d = grind (arith, nat_tests) in
         last ∙ ap g same

@@ -1,5 +1,5 @@
 -- How a node's choice is made an offer at a time.
-use Rattle.std.proofs.Common.{◌≡◌, ℕ, zero, suc, ◌+◌, ◌<◌, ◌≤◌, ◌⊎◌, inl, inr, List, [], ◌∷◌, ◌++◌, Bool, true, false, not, ◌&&◌, ◌==◌, length, cond, slice_get, Option, Some, None, subst, refl, sym, ap, ◌∙◌, arith}
+use Rattle.std.proofs.Common.{◌≡◌, ℕ, zero, suc, ◌+◌, ◌<◌, ◌≤◌, inl, inr, List, [], ◌∷◌, ◌++◌, Bool, true, false, not, ◌&&◌, ◌==◌, length, cond, slice_get, Option, Some, None, subst, refl, sym, ap, ◌∙◌, arith}
 use Rattle.std.specs.Prelude.{option_map, option_and_then, filter, find}
 use Rattle.std.specs.Option.{option_map_or}
 use Rattle.std.specs.List.{list_all, filter_map, AllByRecursion}
@@ -13,10 +13,10 @@ use Rattle.alg_model.specs.Expressions.{PureCarrier, PureValue, PureLabel}
 use Rattle.alg_model.specs.Carriers.{In}
 use Rattle.net_graph.specs.Nets.{PureArc, PureNet, IsNet, AreNumbered, AreDistinct, arcs_from, origin_value}
 use Rattle.net_graph.specs.Tables.{carrier}
-use Rattle.net_graph.specs.Routes.{PureRoute, Better, compare_routes, is_less, is_better}
+use Rattle.net_graph.specs.Routes.{PureRoute, compare_routes, is_better}
 use Rattle.path_vector.specs.Node.{best_of, choice, own_offers, offer_by, offers_to, may_be_of}
-use Rattle.path_vector.specs.Items.{IsItem, of_all, item_at, item_passed, item_left, item_right, items_all, from_not}
-use Rattle.path_vector.specs.Choosing.{choice_may_be, MayBeOf, may_be_parts, item_is_offer, offer_in, IsBestOf, best_is, none_best, not_less, less, to_not_less, to_not}
+use Rattle.path_vector.specs.Items.{IsItem, of_all, item_at, item_passed, item_left, item_right, items_all}
+use Rattle.path_vector.specs.Choosing.{choice_may_be, may_be_parts, item_is_offer, offer_in, IsBestOf, best_is, none_best, not_less, less, to_not_less, to_not}
 use Rattle.net_graph.specs.Tables.{is_among}
 use Rattle.alg_model.specs.Application.{App}
 use Rattle.meta_base.specs.NodePaths.{numbers}

@@ -1,6 +1,6 @@
 -- What a node heard, once it heard one more update.
 use Rattle.std.proofs.Common.{◌≡◌, ℕ, zero, suc, ◌+◌, ◌<◌, List, [], ◌∷◌, Bool, true, false, ◌&&◌, ◌==◌, length, cond, slice_get, Option, Some, None, subst, refl, sym, ap, ◌∙◌, arith}
-use Rattle.std.specs.Prelude.{find, option_map, option_and_then, IfSome}
+use Rattle.std.specs.Prelude.{option_map, IfSome}
 use Rattle.std.proofs.Math.ListN.{set}
 use Rattle.std.proofs.Math.Path.{fun_ext}
 use Rattle.std.proofs.lemmas.Bool.Decides.{nat_tests}
@@ -16,7 +16,7 @@ use Rattle.path_vector.specs.Items.{of_all, item_at, item_there}
 use Rattle.path_vector.specs.Telling.{id_is_place}
 use Rattle.path_vector.proofs.Choices.{as_many, neighbour_at, neighbour_found, ids_from_apart}
 
-set_length : {X : Type 0} (xs : List X) (i : ℕ) (y : X) → length (set xs i y) ≡ length xs
+pub set_length : {X : Type 0} (xs : List X) (i : ℕ) (y : X) → length (set xs i y) ≡ length xs
 set_length [] i y = refl
 set_length (x ∷ xs) zero y = refl
 set_length (x ∷ xs) (suc i) y = ap (λ z. suc z) (set_length xs i y)
@@ -43,94 +43,105 @@ pub record IsAfter {L S : Type 0} (n m : Neighbour L S) (dest : ℕ) (route : Op
   pub inside : dest < length n.heard.items
 
 module _ {L S : Type 0} (stands_for : L → PureLabel → Type 0) (is_sig : S → Type 0) (value : S → PureValue) (net : PureNet) where
-  -- neighbours of which one heard a route that may be its own are neighbours
-  pub neighbours_after : (arcs : List PureArc) (ns : List (Neighbour L S)) (k : ℕ) (a : PureArc) (n m : Neighbour L S) (dest : ℕ) (route : Option (Known S)) → AreNeighbours stands_for is_sig value net arcs ns
-      → slice_get arcs k ≡ Some a → slice_get ns k ≡ Some n → IsAfter n m dest route → ((x : Known S) → route ≡ Some x → is_sig x.sig × (may_be_of net a.head (known_route value x) ≡ true))
-      → AreNeighbours stands_for is_sig value net arcs (set ns k m)
-  neighbours_after [] ns k a n m dest route are e f is fit = absurd (cc)
-  neighbours_after (b ∷ arcs) [] k a n m dest route are e f is fit = absurd are
-  neighbours_after (b ∷ arcs) (x ∷ ns) zero a n m dest route are e f is fit = (this, are.1)
+  -- neighbours of which one was replaced are neighbours
+  pub neighbours_set : (arcs : List PureArc) (ns : List (Neighbour L S)) (k : ℕ) (a : PureArc) (m : Neighbour L S) → AreNeighbours stands_for is_sig value net arcs ns
+      → slice_get arcs k ≡ Some a → IsNeighbour stands_for is_sig value net a m → AreNeighbours stands_for is_sig value net arcs (set ns k m)
+  neighbours_set [] [] k a m are e is = absurd (cc)
+  neighbours_set [] (x ∷ ns) k a m are e is = absurd are
+  neighbours_set (b ∷ arcs) [] k a m are e is = absurd are
+  neighbours_set (b ∷ arcs) (x ∷ ns) zero a m are e is =
+      let same : b ≡ a = cc in
+      (subst (λ z. IsNeighbour stands_for is_sig value net z m) (sym same) is, are.1)
+  neighbours_set (b ∷ arcs) (x ∷ ns) (suc k) a m are e is = (are.0, neighbours_set arcs ns k a m are.1 e is)
+
+  -- and what is heard of them
+  pub heard_set : (arcs : List PureArc) (ns : List (Neighbour L S)) (k : ℕ) (a : PureArc) (m : Neighbour L S) → AreNeighbours stands_for is_sig value net arcs ns
+      → AreDistinct (λ (x y : PureArc). x.id == y.id) arcs → slice_get arcs k ≡ Some a → m.arc.0 ≡ a.id
+      → (b d : ℕ) → heard_by value (set ns k m) b d ≡ cond (b == a.id) (option_map (known_route value) (entry_of m.heard.items d)) (heard_by value ns b d)
+  heard_set [] ns k a m are apart e number b d = absurd (cc)
+  heard_set (y ∷ arcs) [] k a m are apart e number b d = absurd are
+  heard_set (y ∷ arcs) (x ∷ ns) zero a m are apart e number b d = by (b == a.id) refl
     where
-      same_arc : b ≡ a
-      same_arc = cc
+      same : x.arc.0 ≡ a.id
+      same = are.0.arc ∙ (let one : y ≡ a = cc in ap (λ (z : PureArc). z.id) one)
 
-      same : x ≡ n
-      same = cc
-
-      old : IsNeighbour stands_for is_sig value net b n
-      old = subst (IsNeighbour stands_for is_sig value net b) same are.0
-
-      known : (d : ℕ) (y : Known S) → entry_of m.heard.items d ≡ Some y → is_sig y.sig × (may_be_of net b.head (known_route value y) ≡ true)
-      known d y g = by (d == dest) (sym (ap (λ z. entry_of z d) is.heard ∙ entry_set n.heard.items dest route d is.inside) ∙ g)
-        where
-          by : (t : Bool) → cond t route (entry_of n.heard.items d) ≡ Some y → is_sig y.sig × (may_be_of net b.head (known_route value y) ≡ true)
-          by true h = subst (λ (z : PureArc). is_sig y.sig × (may_be_of net z.head (known_route value y) ≡ true)) (sym same_arc) (fit y h)
-          by false h = old.known d y h
-
-      this : IsNeighbour stands_for is_sig value net b m
-      this = record {
-        arc = ap (λ z. z.0) is.arc ∙ old.arc;
-        label = subst (λ z. stands_for z b.label) (sym is.label) old.label;
-        count = ap length is.heard ∙ (set_length n.heard.items dest route ∙ old.count);
-        known = known;
-      }
-  neighbours_after (b ∷ arcs) (x ∷ ns) (suc k) a n m dest route are e f is fit = (are.0, neighbours_after arcs ns k a n m dest route are.1 e f is fit)
-
-  -- and what they were heard to say
-  heard_at_once : (arcs : List PureArc) (ns : List (Neighbour L S)) (k : ℕ) (a : PureArc) (n m : Neighbour L S) (dest : ℕ) (route : Option (Known S)) → AreNeighbours stands_for is_sig value net arcs ns
-      → AreDistinct (λ (x y : PureArc). x.id == y.id) arcs → slice_get arcs k ≡ Some a → slice_get ns k ≡ Some n → IsAfter n m dest route
-      → (b d : ℕ) → heard_by value (set ns k m) b d ≡ cond (b == a.id && d == dest) (option_map (known_route value) route) (heard_by value ns b d)
-  heard_at_once [] ns k a n m dest route are apart e f is b d = absurd (cc)
-  heard_at_once (y ∷ arcs) [] k a n m dest route are apart e f is b d = absurd are
-  heard_at_once (y ∷ arcs) (x ∷ ns) zero a n m dest route are apart e f is b d = by (x.arc.0 == b) refl
-    where
-      same_arc : y ≡ a
-      same_arc = cc
-
-      same : x ≡ n
-      same = cc
-
-      number : x.arc.0 ≡ a.id
-      number = are.0.arc ∙ ap (λ (z : PureArc). z.id) same_arc
-
-      kept : m.arc.0 ≡ x.arc.0
-      kept = ap (λ z. z.0) is.arc ∙ ap (λ (z : Neighbour L S). z.arc.0) (sym same)
-
-      entry : entry_of m.heard.items d ≡ cond (d == dest) route (entry_of x.heard.items d)
-      entry = ap (λ z. entry_of z d) is.heard ∙ (entry_set n.heard.items dest route d is.inside ∙ ap (λ (z : Neighbour L S). cond (d == dest) route (entry_of z.heard.items d)) (sym same))
-
-      one : (t : Bool) → option_map (known_route value) (cond t route (entry_of x.heard.items d)) ≡ cond t (option_map (known_route value) route) (option_map (known_route value) (entry_of x.heard.items d))
-      one true = refl
-      one false = refl
-
-      by : (t : Bool) → (x.arc.0 == b) ≡ t → heard_by value (m ∷ ns) b d ≡ cond (b == a.id && d == dest) (option_map (known_route value) route) (heard_by value (x ∷ ns) b d)
+      by : (t : Bool) → (b == a.id) ≡ t → heard_by value (m ∷ ns) b d ≡ cond t (option_map (known_route value) (entry_of m.heard.items d)) (heard_by value (x ∷ ns) b d)
       by true g =
-          let there : (m.arc.0 == b) ≡ true = grind (arith, nat_tests) in
-          let here : (b == a.id) ≡ true = grind (arith, nat_tests) in
-          rw (there, here, g) (ap (option_map (known_route value)) entry ∙ one (d == dest))
+          let here : (m.arc.0 == b) ≡ true = grind (arith, nat_tests) in
+          rw here refl
       by false g =
-          let there : (m.arc.0 == b) ≡ false = grind (arith, nat_tests) in
-          let here : (b == a.id) ≡ false = grind (arith, nat_tests) in
-          rw (there, here, g) refl
-  heard_at_once (y ∷ arcs) (x ∷ ns) (suc k) a n m dest route are apart e f is b d = by (x.arc.0 == b) refl (heard_at_once arcs ns k a n m dest route are.1 apart.1 e f is b d)
+          let here : (m.arc.0 == b) ≡ false = grind (arith, nat_tests) in
+          let was : (x.arc.0 == b) ≡ false = grind (arith, nat_tests) in
+          rw (here, was) refl
+  heard_set (y ∷ arcs) (x ∷ ns) (suc k) a m are apart e number b d = by (x.arc.0 == b) refl (heard_set arcs ns k a m are.1 apart.1 e number b d)
     where
       other : (y.id == a.id) ≡ false
       other = of_all (λ (z : PureArc). (y.id == z.id) ≡ false) arcs a apart.0 (item_at arcs k a e)
 
-      number : x.arc.0 ≡ y.id
-      number = are.0.arc
+      first : x.arc.0 ≡ y.id
+      first = are.0.arc
 
-      by : (t : Bool) → (x.arc.0 == b) ≡ t → heard_by value (set ns k m) b d ≡ cond (b == a.id && d == dest) (option_map (known_route value) route) (heard_by value ns b d)
-          → heard_by value (x ∷ set ns k m) b d ≡ cond (b == a.id && d == dest) (option_map (known_route value) route) (heard_by value (x ∷ ns) b d)
+      by : (t : Bool) → (x.arc.0 == b) ≡ t → heard_by value (set ns k m) b d ≡ cond (b == a.id) (option_map (known_route value) (entry_of m.heard.items d)) (heard_by value ns b d)
+          → heard_by value (x ∷ set ns k m) b d ≡ cond (b == a.id) (option_map (known_route value) (entry_of m.heard.items d)) (heard_by value (x ∷ ns) b d)
       by true g more =
-          let here : (b == a.id) ≡ false = (let apart_ids = other in let same = number in grind (arith, nat_tests)) in
+          let here : (b == a.id) ≡ false = (let apart_ids = other in let same = first in grind (arith, nat_tests)) in
           rw (g, here) refl
       by false g more = rw g more
 
+  -- the neighbour that heard one route is a neighbour
+  module _ (a : PureArc) (n m : Neighbour L S) (dest : ℕ) (route : Option (Known S)) (old : IsNeighbour stands_for is_sig value net a n) (is : IsAfter n m dest route)
+      (fit : (x : Known S) → route ≡ Some x → is_sig x.sig × (may_be_of net a.head (known_route value x) ≡ true))
+    where
+      known_now : (d : ℕ) (y : Known S) → entry_of m.heard.items d ≡ Some y → is_sig y.sig × (may_be_of net a.head (known_route value y) ≡ true)
+      known_now d y g = by (d == dest) (sym (ap (λ z. entry_of z d) is.heard ∙ entry_set n.heard.items dest route d is.inside) ∙ g)
+        where
+          by : (t : Bool) → cond t route (entry_of n.heard.items d) ≡ Some y → is_sig y.sig × (may_be_of net a.head (known_route value y) ≡ true)
+          by true h = fit y h
+          by false h = old.known d y h
+
+      pub neighbour_now : IsNeighbour stands_for is_sig value net a m
+      neighbour_now = record {
+        arc = ap (λ z. z.0) is.arc ∙ old.arc;
+        label = subst (λ z. stands_for z a.label) (sym is.label) old.label;
+        count = ap length is.heard ∙ (set_length n.heard.items dest route ∙ old.count);
+        known = known_now;
+      }
+
+  -- neighbours of which one heard a route that may be its own are neighbours
+  pub neighbours_after : (arcs : List PureArc) (ns : List (Neighbour L S)) (k : ℕ) (a : PureArc) (n m : Neighbour L S) (dest : ℕ) (route : Option (Known S)) → AreNeighbours stands_for is_sig value net arcs ns
+      → slice_get arcs k ≡ Some a → IsNeighbour stands_for is_sig value net a n → IsAfter n m dest route → ((x : Known S) → route ≡ Some x → is_sig x.sig × (may_be_of net a.head (known_route value x) ≡ true))
+      → AreNeighbours stands_for is_sig value net arcs (set ns k m)
+  neighbours_after arcs ns k a n m dest route are e old is fit = neighbours_set arcs ns k a m are e (neighbour_now a n m dest route old is fit)
+
+  -- and what they were heard to say
+  heard_at_once : (arcs : List PureArc) (ns : List (Neighbour L S)) (k : ℕ) (a : PureArc) (n m : Neighbour L S) (dest : ℕ) (route : Option (Known S)) → AreNeighbours stands_for is_sig value net arcs ns
+      → AreDistinct (λ (x y : PureArc). x.id == y.id) arcs → slice_get arcs k ≡ Some a → slice_get ns k ≡ Some n → n.arc.0 ≡ a.id → IsAfter n m dest route
+      → (b d : ℕ) → heard_by value (set ns k m) b d ≡ cond (b == a.id && d == dest) (option_map (known_route value) route) (heard_by value ns b d)
+  heard_at_once arcs ns k a n m dest route are apart e f number is b d =
+      heard_set arcs ns k a m are apart e number_now b d ∙ by (b == a.id) (d == dest) refl refl
+    where
+      number_now : m.arc.0 ≡ a.id
+      number_now = ap (λ z. z.0) is.arc ∙ number
+
+      entry : entry_of m.heard.items d ≡ cond (d == dest) route (entry_of n.heard.items d)
+      entry = ap (λ z. entry_of z d) is.heard ∙ entry_set n.heard.items dest route d is.inside
+
+      by : (s t : Bool) → (b == a.id) ≡ s → (d == dest) ≡ t → cond s (option_map (known_route value) (entry_of m.heard.items d)) (heard_by value ns b d)
+          ≡ cond (s && t) (option_map (known_route value) route) (heard_by value ns b d)
+      by false t g h = refl
+      by true true g h =
+          let said : entry_of m.heard.items d ≡ route = entry ∙ rw h refl in
+          ap (option_map (known_route value)) said
+      by true false g h =
+          let place : b ≡ a.id = grind (arith, nat_tests) in
+          let said : entry_of m.heard.items d ≡ entry_of n.heard.items d = entry ∙ rw h refl in
+          let was : heard_by value ns b d ≡ option_map (known_route value) (entry_of n.heard.items d) = rw (place, neighbour_found stands_for is_sig value net arcs ns k a n are apart e f) refl in
+          ap (option_map (known_route value)) said ∙ sym was
+
   pub heard_after : (arcs : List PureArc) (ns : List (Neighbour L S)) (k : ℕ) (a : PureArc) (n m : Neighbour L S) (dest : ℕ) (route : Option (Known S)) → AreNeighbours stands_for is_sig value net arcs ns
-      → AreDistinct (λ (x y : PureArc). x.id == y.id) arcs → slice_get arcs k ≡ Some a → slice_get ns k ≡ Some n → IsAfter n m dest route
+      → AreDistinct (λ (x y : PureArc). x.id == y.id) arcs → slice_get arcs k ≡ Some a → slice_get ns k ≡ Some n → n.arc.0 ≡ a.id → IsAfter n m dest route
       → heard_by value (set ns k m) ≡ λ b d. cond (b == a.id && d == dest) (option_map (known_route value) route) (heard_by value ns b d)
-  heard_after arcs ns k a n m dest route are apart e f is = fun_ext (λ b. fun_ext (λ d. heard_at_once arcs ns k a n m dest route are apart e f is b d))
+  heard_after arcs ns k a n m dest route are apart e f number is = fun_ext (λ b. fun_ext (λ d. heard_at_once arcs ns k a n m dest route are apart e f number is b d))
 
 -- ---- the neighbour at the place of an arc
 
@@ -164,11 +175,11 @@ module _ {L S : Type 0} (stands_for : L → PureLabel → Type 0) (is_sig : S �
 
       pub still_neighbours : ((x : Known S) → route ≡ Some x → is_sig x.sig × (may_be_of net a.head (known_route value x) ≡ true)) → AreNeighbours stands_for is_sig value net (arcs_from net i) new
       still_neighbours fit = subst (AreNeighbours stands_for is_sig value net (arcs_from net i)) (sym has.at)
-          (neighbours_after stands_for is_sig value net (arcs_from net i) ns k a neighbour_there.0 has.now dest route are placed neighbour_there.1 after fit)
+          (neighbours_after stands_for is_sig value net (arcs_from net i) ns k a neighbour_there.0 has.now dest route are placed same_neighbour after fit)
 
       pub heard_now : heard_by value new ≡ λ c d. cond (c == b && d == dest) (option_map (known_route value) route) (heard_by value ns c d)
       heard_now = ap (heard_by value) has.at
-          ∙ (heard_after stands_for is_sig value net (arcs_from net i) ns k a neighbour_there.0 has.now dest route are (ids_from_apart net i n.arc_ids) placed neighbour_there.1 after
+          ∙ (heard_after stands_for is_sig value net (arcs_from net i) ns k a neighbour_there.0 has.now dest route are (ids_from_apart net i n.arc_ids) placed neighbour_there.1 same_neighbour.arc after
           ∙ ap (λ z. λ c d. cond (c == z && d == dest) (option_map (known_route value) route) (heard_by value ns c d)) number)
 
       -- what was heard there before may be the speaker's, and is what the neighbours were heard to say

@@ -1,6 +1,10 @@
 pub mod Beginnings
 pub mod Bounds
+pub mod Carrying
 pub mod Choices
 pub mod Hearings
+pub mod NodeRows
+pub mod Nodes
+pub mod Owns
 pub mod PathTests
 pub mod Tellings

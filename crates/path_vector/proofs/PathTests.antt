@@ -1,12 +1,12 @@
 -- Tests of paths, which go over nodes, as tests of their numbers.
-use Rattle.std.proofs.Common.{◌≡◌, ◌≢◌, ◌⊎◌, ◌↔◌, ℕ, ◌≤◌, ◌-◌, take, drop, slice_index_or, ◌<◌, subst, List, [], ◌∷◌, Bool, true, false, not, ◌&&◌, ltb, length, refl, sym, ap, ◌∙◌, arith}
+use Rattle.std.proofs.Common.{◌≡◌, ◌≢◌, ◌⊎◌, ◌↔◌, ℕ, ◌≤◌, ◌-◌, take, drop, slice_index_or, subst, List, [], ◌∷◌, Bool, true, false, ◌&&◌, ltb, length, refl, sym, ap, ◌∙◌, arith}
 use Rattle.std.specs.Prelude.{◌==◌, nat_lt}
 use Rattle.std.specs.Bool.{Decides}
 use Rattle.alg_model.specs.Carriers.{distinct}
 use Rattle.std.specs.List.{list_any, list_all}
 use Rattle.std.specs.Str.{bytes_eq}
 use Rattle.meta_base.specs.declared.ids.NodeId.{NodeId}
-use Rattle.std.specs.Ordering.{nat_cmp, ordering_then}
+use Rattle.std.specs.Ordering.{nat_cmp}
 use Rattle.std.specs.declared.cmp.Ordering.{Ordering}
 use Rattle.std.specs.declared.cmp.Ordering.TheVariants.{Less, Equal, Greater}
 use Rattle.std.proofs.lemmas.Bool.Decides.{nat_tests}

@@ -1,14 +1,12 @@
 -- The listeners of a node, one after another.
-use Rattle.std.proofs.Common.{◌≡◌, ℕ, zero, suc, ◌+◌, ◌<◌, List, [], ◌∷◌, ◌++◌, Bool, true, false, length, map, cond, slice_get, slice_index_or, take, Some, None, refl, sym, ap, ◌∙◌, arith}
+use Rattle.std.proofs.Common.{◌≡◌, ℕ, zero, suc, ◌+◌, ◌<◌, List, [], ◌∷◌, ◌++◌, Bool, true, false, length, map, cond, slice_get, slice_index_or, take, Some, refl, sym, ap, ◌∙◌, arith}
 use Rattle.std.specs.Prelude.{filter, ◌==◌}
-use Rattle.std.specs.List.{AllByRecursion}
 use Rattle.std.proofs.lemmas.List.{map-append, append_assoc}
 use Rattle.std.proofs.lemmas.List.Elements.{filter-append}
-use Rattle.std.proofs.lemmas.Option.{slice_get-get_or}
 use Rattle.meta_base.specs.declared.ids.ArcId.{ArcId}
 use Rattle.net_graph.specs.Nets.{PureArc, PureNet, IsNet, arcs_to}
 use Rattle.path_vector.specs.Node.{PureUpdate, told_on}
-use Rattle.path_vector.specs.Items.{IsItem, of_all, item_at, item_passed}
+use Rattle.path_vector.specs.Items.{item_at, item_passed}
 use Rattle.path_vector.specs.Choosing.{arc_stands}
 use Rattle.path_vector.proofs.Choices.{take_next}
 

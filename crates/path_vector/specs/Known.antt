@@ -1,8 +1,7 @@
 -- Routes in an algebra's own form, and what a node offers itself by them. Sigs stand for values by `value`.
-use Rattle.std.specs.Prelude.{◌≡◌, ℕ, ◌==◌, Bool, true, List, [], ◌∷◌, Option, Some, None, cond, find, length, option_map, option_and_then, slice_get}
+use Rattle.std.specs.Prelude.{◌≡◌, ℕ, ◌==◌, true, List, [], ◌∷◌, Option, Some, None, cond, find, length, option_map, option_and_then, slice_get}
 use Rattle.std.proofs.Math.ListN.{set}
 use Rattle.alg_model.specs.Expressions.{PureCarrier, PureValue, PureLabel}
-use Rattle.meta_base.specs.declared.ids.NodeId.{NodeId}
 use Rattle.meta_base.specs.NodePaths.{numbers}
 use Rattle.net_graph.specs.Nets.{PureArc, PureNet}
 use Rattle.net_graph.specs.Routes.{PureRoute, is_better}

@@ -157,6 +157,10 @@ new_node net i =
 abbrev pub same_arc : PureNet → PureArc → Option PureArc
 same_arc net a = find (is_arc_between a.tail a.head) net.arcs
 
+-- what was heard before on those arcs of a network that were there then
+abbrev pub heard_before : PureNet → PureNet → (ℕ → ℕ → Option PureRoute) → ℕ → ℕ → Option PureRoute
+heard_before before net heard a dest = option_and_then (λ (b : PureArc). heard b.id dest) (option_and_then (same_arc before) (slice_get net.arcs a))
+
 -- a node with its rows on another network: it has heard what it heard on the arcs that were there before
 abbrev pub carried : PureNet → PvState → PvState
 carried net s =
@@ -165,7 +169,7 @@ carried net s =
       before = Some s.net;
       number = s.number;
       is_begun = false;
-      heard = λ a dest. option_and_then (λ (b : PureArc). s.heard b.id dest) (option_and_then (same_arc s.net) (slice_get net.arcs a));
+      heard = heard_before s.net net s.heard;
       rows = s.rows;
       last = 0;
     }

@@ -4,9 +4,8 @@ use Rattle.alg_model.specs.Expressions.{PureValue, PureLabel}
 use Rattle.net_graph.specs.Nets.{PureNet, arcs_from, origin_value}
 use Rattle.path_vector.specs.declared.known.Known.{Known}
 use Rattle.path_vector.specs.declared.neighbour.Neighbour.{Neighbour}
-use Rattle.path_vector.specs.Known.{known_route, entry_of, heard_by, AreNeighbours}
+use Rattle.path_vector.specs.Known.{known_route, entry_of, AreNeighbours}
 use Rattle.net_graph.specs.Routes.{PureRoute}
-use Rattle.path_vector.specs.Node.{PvState}
 
 module _ {L S : Type 0} (stands_for : L → PureLabel → Type 0) (is_sig : S → Type 0) (value : S → PureValue) (net : PureNet) (number : ℕ) where
   -- what a node of the network keeps: its own origins' values, its neighbours, and its rows, by destination

@@ -9,13 +9,19 @@ mod hearing;
 mod known;
 mod laws;
 mod neighbour;
+mod neighbours;
+mod node;
 mod offer;
+mod own;
 mod paths;
 mod rechoosing;
+mod rows;
 mod telling;
 mod update;
 
 pub use laws::{
     carried_nodes_may_begin, new_nodes_may_begin, quiet_runs_are_stable, runs_are_coherent,
 };
+pub use node::PvNode;
+pub use rows::rows_of;
 pub use update::Update;

@@ -1,7 +1,6 @@
-use Rattle.std.proofs.Common.{◌≡◌, ℕ, ◌+◌, ◌<◌, ◌++◌, map, Bool, true, false, ◌==◌, not, cond, length, Option, Some, None, subst, sym, ap, refl, ◌∙◌, arith}
+use Rattle.std.proofs.Common.{◌≡◌, ◌+◌, ◌<◌, ◌++◌, map, Bool, not, cond, length, Option, Some, subst, sym, ap, ◌∙◌, arith}
 use Rattle.std.specs.Prelude.{filter, is_some, option_map}
 use Rattle.std.specs.List.{range_with_len}
-use Rattle.std.proofs.lemmas.Bool.Decides.{nat_tests}
 use Rattle.net_graph.specs.Nets.{PureArc, arcs_to}
 use Rattle.net_graph.specs.Routes.{PureRoute}
 use Rattle.net_graph.specs.Views.{pure_route}
@@ -10,7 +9,7 @@ use Rattle.path_vector.specs.Node.{PureUpdate, choice, same_row, told_on, all_be
 use Rattle.path_vector.specs.State.{row_routes}
 use Rattle.path_vector.specs.Updates.{noted, pure_update, spoken_in}
 use Rattle.path_vector.proofs.Choices.{entry_is, none_outside}
-use Rattle.path_vector.proofs.Beginnings.{IsUnbegun, some_holds, entry_outside, rows_are_all, pushed_count, pushed_holds, pushed_rows, some_mapped, begun_next}
+use Rattle.path_vector.proofs.Beginnings.{some_holds, entry_outside, rows_are_all, pushed_count, pushed_holds, pushed_images, some_mapped, begun_next}
 use Rattle.path_vector.proofs.beginning.begun_rows.Goals as goal
 
 pub is_same_row-requires-clause-other : goal.is_same_row-requires-clause-other
@@ -40,7 +39,7 @@ loop-place-preserved g c =
       count = ap length items ∙ pushed_count old c.in_ok-row.row ∙ ap (λ z. z + 1) c.loop-place.invariant.count;
       sigs = λ dest k e. pushed_holds _ old c.in_ok-row.row c.loop-place.invariant.sigs c.in_ok-row.ensures.sig dest k (subst (λ z. entry_of z dest ≡ Some k) items e);
       rows = λ dest l. subst (λ z. row_routes value z dest ≡ choice net dest c.args.node.0 heard) (sym items)
-          (pushed_rows value old c.in_ok-row.row (λ d. choice net d c.args.node.0 heard) place c.loop-place.invariant.count c.loop-place.invariant.rows c.in_ok-row.ensures.choice dest l);
+          (pushed_images (known_route value) old c.in_ok-row.row (λ d. choice net d c.args.node.0 heard) place c.loop-place.invariant.count c.loop-place.invariant.rows c.in_ok-row.ensures.choice dest l);
       told = λ s is. begun_next net before c.args.node.0 heard (row_routes value rows) s is place row (not c.in_ok-is_same.is_same) _ _ c.in_ok-row.ensures.choice other
           (c.loop-place.invariant.told s is) (c.in_ok-tell_begun.ensures ∙ ap (λ t. told_as t (pure_update update)) there ∙ ap (told_as (is_some row)) c.in_ok-update.ensures);
     }

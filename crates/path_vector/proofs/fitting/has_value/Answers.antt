@@ -1,4 +1,3 @@
-use Rattle.std.proofs.Common.{◌≡◌}
 use Rattle.alg_model.specs.Tests.{is_in, is_in-Decides}
 use Rattle.alg_model.specs.Views.{pure_value}
 use Rattle.net_graph.specs.Tables.{carrier}

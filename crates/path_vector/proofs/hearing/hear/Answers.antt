@@ -1,6 +1,5 @@
-use Rattle.std.proofs.Common.{◌≡◌, ℕ, ◌<◌, List, [], ◌==◌, ◌&&◌, map, cond, length, Option, Some, None, subst, sym, ap, refl, ◌∙◌}
+use Rattle.std.proofs.Common.{◌≡◌, ◌<◌, [], ◌==◌, ◌&&◌, map, cond, length, subst, sym, ap, ◌∙◌}
 use Rattle.std.specs.Prelude.{option_map}
-use Rattle.alg_model.specs.Carriers.{carrier_of}
 use Rattle.net_graph.specs.Nets.{arcs_to}
 use Rattle.net_graph.specs.Views.{pure_route}
 use Rattle.path_vector.specs.Choosing.{may_be_parts}

@@ -1,9 +1,9 @@
-use Rattle.std.proofs.Common.{◌≡◌, Bool, cond, map, slice_get, Some, sym, ap, ◌∙◌}
+use Rattle.std.proofs.Common.{◌≡◌, Bool, cond, sym, ap, ◌∙◌}
 use Rattle.std.specs.Prelude.{is_some, option_map}
 use Rattle.std.proofs.lemmas.Option.{slice_get_within}
 use Rattle.net_graph.specs.Nets.{PureArc, arcs_to}
 use Rattle.net_graph.specs.Views.{pure_arc}
-use Rattle.path_vector.specs.Updates.{noted, pure_update, spoken_in}
+use Rattle.path_vector.specs.Updates.{pure_update, spoken_in}
 use Rattle.path_vector.proofs.Tellings.{listener_at, one_told}
 use Rattle.path_vector.proofs.telling.tell_begun.Goals as goal
 

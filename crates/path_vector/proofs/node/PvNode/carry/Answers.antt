@@ -1,0 +1,22 @@
+use Rattle.std.proofs.Common.{ap, option_map, sym, ◌∙◌}
+use Rattle.net_graph.specs.Nets.{PureNet}
+use Rattle.path_vector.proofs.Nodes.{carried_is, kept_on}
+use Rattle.path_vector.proofs.node.PvNode.carry.Goals as goal
+
+pub invariant_of-result : goal.invariant_of-result
+invariant_of-result g c =
+    let A = g.A.Algebra in
+    let old = c.old.inside in
+    let s = old.algebra.now in
+    let net = c.args.net.now in
+    let same = rw (← c.old.view_is) at c.requires.net in
+    record {
+      algebra = c.old.invariant.algebra ∙ ap (λ (z : PureNet). z.alg.expression) (sym same);
+      is_net = c.in_ok-neighbours.ensures.net;
+      kept = kept_on (A.stands_for s) (A.is_sig s) (A.sig_value s) old.net.now net same old.number.0 old.own.items old.neighbours.items c.in_ok-neighbours.neighbours.items old.rows.items c.old.invariant.kept c.in_ok-neighbours.ensures.neighbours;
+    }
+
+pub returns : goal.returns
+returns g c =
+    let old = c.old.inside in
+    rw (← c.old.view_is) (carried_is (g.A.Algebra.sig_value old.algebra.now) old.net.now c.args.net.now (option_map (λ m. m.now) old.before) old.number.0 old.is_begun old.neighbours.items c.in_ok-neighbours.neighbours.items old.rows.items old.last c.in_ok-neighbours.ensures.heard)
