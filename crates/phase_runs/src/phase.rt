@@ -37,6 +37,7 @@ pub fn run_phase<'a, N: NodeCore, G: Gate>(
     requires nodes { AreUnbegun N.kind net.now 0 (map N.state nodes) }
     requires turns { turns ≤ MAX_CLOCK }
     ensures net { IfOk result (λ end. net_of end.config ≡ net.now) }
+    ensures running { IfOk result (λ end. IsRunning N.kind net.now (machine_of N.state N.note end.config)) }
     ensures phase { IfOk result (λ end. IsPhase N.kind net.now (map N.state nodes) turns
         end.journal (machine_of N.state N.note end.config) end.quiet) }
 {
@@ -62,6 +63,7 @@ fn deliver_all<N: NodeCore, G: Gate>(
     requires running { IsRunning N.kind (net_of config.old) (machine_of N.state N.note config.old) }
     requires begun { AreUpTo N.kind (machine_of N.state N.note config.old) 0 }
     ensures net { net_of config.new ≡ net_of config.old }
+    ensures running { OnOk result (IsRunning N.kind (net_of config.old) (machine_of N.state N.note config.new)) }
     ensures leads { OnOk result (LeadsTo N.kind (net_of config.old) (machine_of N.state N.note config.old)
         journal.new (machine_of N.state N.note config.new)) }
     ensures few { OnOk result (length journal.new ≤ turns) }

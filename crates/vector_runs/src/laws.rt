@@ -1,0 +1,13 @@
+ghost use Rattle.std.specs.Prelude.{ℕ, Bool, List};
+ghost use Rattle.std.specs.List.{AllByRecursion};
+ghost use Rattle.net_graph.specs.Nets.{PureNet, IsNet};
+ghost use Rattle.vector_runs.specs.Runs.{PurePhase, IsRun, AreLater, AreStable};
+
+/// The rows of each phase of a run that is quiet are a stable table of the phase's network for each destination
+/// (Griffin and Sobrinho 2005).
+#[tactic(auto, using(crate::specs::Laws::quiet_phases_are_stable))]
+pub fn quiet_phases_are_stable()
+    ensures { (net : PureNet) (nets : List PureNet) (turns : ℕ) (past : List PurePhase) (last : PurePhase)
+        (quiet : Bool) → IsNet net → AllByRecursion IsNet nets → AreLater net nets →
+        IsRun net nets turns past last quiet → AreStable net nets past last quiet }
+{}

@@ -1,0 +1,10 @@
+//! Runs of path-vector nodes through the networks of a file, phase by phase, over any algebra. It stands on
+//! `path_vector` and `phase_runs`; it reads no words and prints nothing.
+#![tactic(auto)]
+
+mod laws;
+mod nodes;
+mod run;
+
+pub use laws::quiet_phases_are_stable;
+pub use run::{Phase, Run, run_phases};
