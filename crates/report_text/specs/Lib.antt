@@ -1,2 +1,3 @@
 pub mod VerdictTexts
 pub mod Refusals
+pub mod RunTexts

@@ -1,12 +1,14 @@
-//! The printed texts of what the program decides: the lines of verdicts, of rows and of refusals. It
-//! decides nothing, writes nothing out and knows no command. It may stand on each crate whose values or
+//! The printed texts of what the program decides: the lines of verdicts, of rows, of refusals and of
+//! runs. It decides nothing, writes nothing out and knows no command. It may stand on each crate whose values or
 //! faults it prints.
 #![tactic(auto)]
 
 mod refusals;
 mod rows;
+mod runs;
 mod verdicts;
 
 pub use refusals::{Refusal, lacks_line, refusal_line};
 pub use rows::row_line;
+pub use runs::{delivery_line, end_line, phase_line};
 pub use verdicts::{verdict_line, verdict_lines};

@@ -70,7 +70,7 @@ fn network_line(alloc: Global, fault: NetFault) -> Result<Text, NoMemory>
 }
 
 // The names of the arc's listener and of its speaker.
-fn push_arc(out: &mut String, net: &Net, arc: ArcId) -> Result<(), NoMemory>
+pub(crate) fn push_arc(out: &mut String, net: &Net, arc: ArcId) -> Result<(), NoMemory>
     requires { arc.0 < length net.now.arcs }
     ensures { OnOk result (Gains out.old (arc_text net.now arc.0) out.new) }
 {

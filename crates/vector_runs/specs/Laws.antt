@@ -1,13 +1,23 @@
 -- What holds of every run. Lemmas, so that proofs of other crates may cite them.
-use Rattle.std.proofs.Common.{◌≡◌, ℕ, zero, suc, ◌+◌, ◌-◌, ◌<◌, Bool, true, List, [], ◌∷◌, ◌++◌, length, map, refl, sym, ap, subst, ◌∙◌, arith}
-use Rattle.std.specs.List.{AllByRecursion, range_with_len}
+use Rattle.std.proofs.Common.{◌≡◌, ℕ, zero, suc, ◌+◌, ◌-◌, ◌<◌, ◌≤◌, ◌&&◌, Bool, true, false, Option, Some, None, List, [], ◌∷◌, ◌++◌, length, map, refl, sym, ap, subst, ◌∙◌, arith}
+use Rattle.std.specs.Prelude.{nat_lt, IfSome}
+use Rattle.std.specs.List.{AllByRecursion, list_all, range_with_len}
+use Rattle.std.proofs.lemmas.Bool.Decides.{nat_tests}
+use Rattle.meta_base.specs.declared.ids.Delivery.{Delivery}
 use Rattle.std.proofs.lemmas.List.FromFn.{length-range_with_len}
 use Rattle.net_graph.specs.Nets.{PureNet, IsNet}
 use Rattle.net_graph.specs.Tables.{PureRow, Stable, AreRowsOfTables, OnTablesFrom, joined_rows}
-use Rattle.path_vector.specs.Coherent.{MayBegin}
+use Rattle.net_graph.specs.Routes.{PureRoute}
+use Rattle.net_graph.specs.RowTexts.{IsRouteIn, IsRowOf}
+use Rattle.node_core.specs.Kinds.{listener}
+use Rattle.node_core.specs.Machine.{Machine, Start, deliver_at, replay_from, taken_by}
+use Rattle.node_core.specs.MachineLaws.{all_join, delivered_at, listens_within, option_then}
+use Rattle.path_vector.specs.Choosing.{may_be_parts}
+use Rattle.path_vector.specs.Coherent.{AreNodesOf, IsCoherent, MayBegin}
+use Rattle.path_vector.specs.Delivering.{node_is}
 use Rattle.path_vector.specs.Laws.{carried_nodes_may_begin, new_nodes_may_begin, quiet_runs_are_stable, runs_are_coherent}
-use Rattle.path_vector.specs.Node.{PvState, carried, dest_rows, node_rows, rows_for}
-use Rattle.vector_runs.specs.Runs.{PurePhase, IsPhaseOf, RunsFrom, IsRun, AreLater, AreStable}
+use Rattle.path_vector.specs.Node.{PvState, PureUpdate, carried, dest_rows, may_be_of, node_rows, path_vector, rows_for}
+use Rattle.vector_runs.specs.Runs.{PurePhase, IsPhaseOf, RunsFrom, IsRun, AreLater, AreStable, IsOfNetwork, AreOfNetworks}
 
 -- the rows of all destinations from one on are those of their tables
 abbrev tables_from : (states : List PvState) (dests : List ℕ) → List (List PureRow)
@@ -63,3 +73,72 @@ runs_are_stable nodes net (m ∷ nets) turns (p ∷ past) last quiet n ns later 
 pub quiet_phases_are_stable : (net : PureNet) (nets : List PureNet) (turns : ℕ) (past : List PurePhase) (last : PurePhase) (quiet : Bool) → IsNet net → AllByRecursion IsNet nets → AreLater net nets
     → IsRun net nets turns past last quiet → AreStable net nets past last quiet
 quiet_phases_are_stable net nets turns past last quiet n ns later runs = runs_are_stable _ net nets turns past last quiet n ns later (new_nodes_may_begin net) runs
+
+-- ---- the phases of a run are of its networks
+
+path_within : (n : ℕ) (path : List ℕ) → list_all (λ i. nat_lt i n) path ≡ true → AllByRecursion (λ i. i < n) path
+path_within n [] e = tt
+path_within n (i ∷ path) e = by (nat_lt i n) refl e (path_within n path)
+  where
+    by : (b : Bool) → nat_lt i n ≡ b → (b && list_all (λ i. nat_lt i n) path) ≡ true → (list_all (λ i. nat_lt i n) path ≡ true → AllByRecursion (λ i. i < n) path) → AllByRecursion (λ i. i < n) (i ∷ path)
+    by true f g more = (grind (arith, nat_tests), more g)
+    by false f g more = absurd (cc)
+
+route_within : (net : PureNet) (i : ℕ) (o : Option PureRoute) → ((r : PureRoute) → o ≡ Some r → may_be_of net i r ≡ true) → IfSome o (IsRouteIn net)
+route_within net i None h = tt
+route_within net i (Some r) h =
+    let parts = may_be_parts net i r (h r refl) in
+    record { value_in = parts.value_in; path_in = path_within (length net.nodes) r.path parts.inside }
+
+dest_rows_within : (net : PureNet) (c : Machine PvState PureUpdate) → IsCoherent net c → (dest : ℕ) → dest < length net.dests → (i : ℕ) (states : List PvState) → AreNodesOf c i states
+    → AllByRecursion (IsRowOf net) (dest_rows states dest)
+dest_rows_within net c k dest l i [] are = tt
+dest_rows_within net c k dest l i (s ∷ states) are =
+    let inside = k.inside i s are.0 in
+    let number : s.number ≡ i = (node_is net c k i s are.0).1 in (
+      record {
+        node_in = subst (λ z. z < length net.nodes) (sym number) inside;
+        dest_in = l;
+        route_in = route_within net i (s.rows dest) (λ r e. (k.routes i dest s r are.0 e).1);
+      },
+      dest_rows_within net c k dest l (i + 1) states are.1,
+    )
+
+rows_within : (net : PureNet) (c : Machine PvState PureUpdate) → IsCoherent net c → (states : List PvState) → AreNodesOf c 0 states → (a n : ℕ) → a + n ≤ length net.dests
+    → AllByRecursion (IsRowOf net) (rows_for states (range_with_len a n))
+rows_within net c k states are a zero l = tt
+rows_within net c k states are a (suc n) l =
+    all_join (IsRowOf net) (dest_rows states a) (rows_for states (range_with_len (a + 1) n))
+    (dest_rows_within net c k a (omega arith) 0 states are) (rows_within net c k states are (a + 1) n (omega arith))
+
+journal_within : (net : PureNet) (journal : List Delivery) (c d : Machine PvState PureUpdate) → replay_from path_vector net c journal ≡ Some d → AllByRecursion (λ (e : Delivery). e.arc.0 < length net.arcs) journal
+journal_within net [] c d r = tt
+journal_within net (e ∷ journal) c d r =
+    let next = option_then (λ m. replay_from path_vector net m journal) (deliver_at path_vector net c e) d r in
+    let made = (delivered_at path_vector net c next.0 e next.1).1 in
+    let listens = option_then (λ i. taken_by path_vector c e.arc.0 i (c.link e.arc.0)) (listener net e.arc.0) next.0 made in
+    (listens_within net e.arc.0 listens.0 listens.1, journal_within net journal next.0 d next.2)
+
+phase_is_of : (net : PureNet) (nodes : List PvState) (turns : ℕ) (p : PurePhase) (quiet : Bool) (states : List PvState) → IsNet net → MayBegin net nodes → IsPhaseOf net nodes turns p quiet states → IsOfNetwork net p
+phase_is_of net nodes turns p quiet states n may is =
+    let coherent = runs_are_coherent net nodes p.journal is.end n may is.phase.replayed in
+    record {
+      rows_in = subst (AllByRecursion (IsRowOf net)) (sym is.rows_are) (rows_within net is.end coherent states is.states_are 0 (length net.dests) (omega arith));
+      arcs_in = journal_within net p.journal (Start path_vector nodes) is.end is.phase.replayed;
+    }
+
+runs_are_of : (nodes : List PvState) (net : PureNet) (nets : List PureNet) (turns : ℕ) (past : List PurePhase) (last : PurePhase) (quiet : Bool) → IsNet net → AllByRecursion IsNet nets → AreLater net nets → MayBegin net nodes
+    → RunsFrom nodes net nets turns past last quiet → AreOfNetworks net nets past last
+runs_are_of nodes net nets turns [] last quiet n ns later may runs = phase_is_of net nodes turns last quiet runs.0 n may runs.1
+runs_are_of nodes net [] turns (p ∷ past) last quiet n ns later may runs = absurd runs
+runs_are_of nodes net (m ∷ nets) turns (p ∷ past) last quiet n ns later may runs =
+    let states = runs.0 in
+    let is = runs.1 in
+    let coherent = runs_are_coherent net nodes p.journal is.end n may is.phase.replayed in
+    let next = carried_nodes_may_begin net m is.end states n later.0 coherent (is.phase.drained refl) is.states_are is.count in
+    (phase_is_of net nodes turns p true states n may is, runs_are_of (map (carried m) states) m nets (turns - length p.journal) past last quiet ns.0 ns.1 later.1 next runs.2)
+
+-- the rows and the deliveries of a run's phases are of their networks
+pub phases_are_of_networks : (net : PureNet) (nets : List PureNet) (turns : ℕ) (past : List PurePhase) (last : PurePhase) (quiet : Bool) → IsNet net → AllByRecursion IsNet nets → AreLater net nets
+    → IsRun net nets turns past last quiet → AreOfNetworks net nets past last
+phases_are_of_networks net nets turns past last quiet n ns later runs = runs_are_of _ net nets turns past last quiet n ns later (new_nodes_may_begin net) runs

@@ -1,8 +1,9 @@
 -- Runs of path-vector nodes through the networks of a file, phase by phase: what a run comes to.
-use Rattle.std.specs.Prelude.{◌≡◌, ℕ, ◌+◌, ◌-◌, Bool, true, List, [], ◌∷◌, length, map}
-use Rattle.std.specs.List.{range_with_len}
+use Rattle.std.specs.Prelude.{◌≡◌, ℕ, ◌+◌, ◌-◌, ◌<◌, Bool, true, List, [], ◌∷◌, length, map}
+use Rattle.std.specs.List.{AllByRecursion, range_with_len}
 use Rattle.meta_base.specs.declared.ids.Delivery.{Delivery}
 use Rattle.net_graph.specs.Nets.{PureNet}
+use Rattle.net_graph.specs.RowTexts.{IsRowOf}
 use Rattle.net_graph.specs.Tables.{PureRow, Stable, AreRowsOfTables}
 use Rattle.net_graph.specs.Views.{pure_row}
 use Rattle.node_core.specs.Machine.{Machine}
@@ -60,3 +61,14 @@ abbrev pub AreStable : PureNet → List PureNet → List PurePhase → PurePhase
 AreStable net nets [] last quiet = quiet ≡ true → AreRowsOfTables net (Stable net) last.rows
 AreStable net [] (p ∷ past) last quiet = ⊥
 AreStable net (m ∷ nets) (p ∷ past) last quiet = AreRowsOfTables net (Stable net) p.rows × AreStable m nets past last quiet
+
+-- the rows of a phase are rows of its network, and its deliveries are on arcs of that
+pub record IsOfNetwork (net : PureNet) (p : PurePhase) : Type 0 where
+  pub rows_in : AllByRecursion (IsRowOf net) p.rows
+  pub arcs_in : AllByRecursion (λ (e : Delivery). e.arc.0 < length net.arcs) p.journal
+
+-- the same of all phases
+abbrev pub AreOfNetworks : PureNet → List PureNet → List PurePhase → PurePhase → Type 0
+AreOfNetworks net nets [] last = IsOfNetwork net last
+AreOfNetworks net [] (p ∷ past) last = ⊥
+AreOfNetworks net (m ∷ nets) (p ∷ past) last = IsOfNetwork net p × AreOfNetworks m nets past last

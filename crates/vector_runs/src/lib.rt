@@ -6,5 +6,5 @@ mod laws;
 mod nodes;
 mod run;
 
-pub use laws::quiet_phases_are_stable;
+pub use laws::{phases_are_of_networks, quiet_phases_are_stable};
 pub use run::{Phase, Run, run_phases};
