@@ -8,12 +8,12 @@ use Rattle.command_words.specs.Numbers.{is_number, number_within}
 use Rattle.command_words.specs.declared.command.Command.{Command}
 use Rattle.command_words.specs.declared.usage.Kind.{Kind}
 use Rattle.command_words.specs.declared.usage.Kind.TheVariants as kind
-use Rattle.command_words.specs.declared.command.Command.TheVariants.{Route}
+use Rattle.command_words.specs.declared.command.Command.TheVariants.{Route, Run, Trace}
 use Rattle.command_words.specs.declared.command.WordsFault.TheVariants.{BadFlag, WrongCount, BadNumber}
-use Rattle.command_words.specs.declared.usage.Flag.TheVariants.{Workers}
+use Rattle.command_words.specs.declared.usage.Flag.TheVariants.{Workers, Turns}
 use Rattle.command_words.specs.Usages.{usage_of, has_word, kinds}
 use Rattle.command_words.specs.Parts.{PurePart, argument, flag, is_flag, gives, value_of, parts_from, places}
-use Rattle.command_words.specs.Words.{Words, HasItsWords, AreWorkers, has_bad_flag, has_wrong_count, number_given, number_of, command_of, meaning_of}
+use Rattle.command_words.specs.Words.{Words, HasItsWords, AreWorkers, AreTurns, with_numbers, has_bad_flag, has_wrong_count, number_given, number_of, command_of, meaning_of}
 
 -- each place is below the bound
 abbrev AllBelow : ℕ → List ℕ → Type 0
@@ -55,6 +55,24 @@ given_bounded : (value : Option (List ℕ)) → IfSome (number_given Workers val
 given_bounded None = (lit≤ tt, lit≤ tt)
 given_bounded (Some word) = number_bounded 1 16 word
 
+turns_bounded : (value : Option (List ℕ)) → IfSome (number_given Turns value) AreTurns
+turns_bounded None = lit≤ tt
+turns_bounded (Some word) = of (number_within 0 1000000 word) (number_bounded 0 1000000 word)
+  where
+    of : (n : Option ℕ) → IfSome n (λ n. (0 ≤ n) × (n ≤ 1000000)) → IfSome n AreTurns
+    of None h = tt
+    of (Some n) h = h.1
+
+-- what holds of all that is made of good numbers holds of what these parts make
+with_good_numbers : {X : Type 0} (make : ℕ → ℕ → X) (P : X → Type 0) (parts : List PurePart) → ((workers turns : ℕ) → AreWorkers workers → AreTurns turns → P (make workers turns)) → IfSome (with_numbers make parts) P
+with_good_numbers {X = X} make P parts all =
+    by (number_of Workers parts) (number_of Turns parts) (given_bounded (option_and_then value_of (find (gives Workers) parts))) (turns_bounded (option_and_then value_of (find (gives Turns) parts)))
+  where
+    by : (w t : Option ℕ) → IfSome w AreWorkers → IfSome t AreTurns → IfSome (option_and_then (λ workers. option_map (make workers) t) w) P
+    by None t h i = tt
+    by (Some w) None h i = tt
+    by (Some w) (Some t) h i = all w t h i
+
 command_of_below : (words : List (List ℕ)) (k : Kind) (parts : List PurePart) → 0 < length words → AllBelow (length words) (places parts) → IfSome (command_of k parts) (HasItsWords words)
 command_of_below words kind.Check parts some below = (below_at (length words) (places parts) 0 some below, below_get (length words) (places parts) 1 below)
 command_of_below words kind.Route parts some below =
@@ -63,6 +81,12 @@ command_of_below words kind.Route parts some below =
     by : (n : Option ℕ) → IfSome n AreWorkers → IfSome (option_map (Route (slice_index (places parts) 0) (slice_index (places parts) 1)) n) (HasItsWords words)
     by None h = tt
     by (Some n) h = (below_at (length words) (places parts) 0 some below, below_at (length words) (places parts) 1 some below, h)
+command_of_below words kind.Run parts some below =
+    with_good_numbers (Run (slice_index (places parts) 0) (slice_index (places parts) 1)) (HasItsWords words) parts
+    (λ workers turns h i. (below_at (length words) (places parts) 0 some below, below_at (length words) (places parts) 1 some below, h, i))
+command_of_below words kind.Trace parts some below =
+    with_good_numbers (Trace (slice_index (places parts) 0) (slice_index (places parts) 1)) (HasItsWords words) parts
+    (λ workers turns h i. (below_at (length words) (places parts) 0 some below, below_at (length words) (places parts) 1 some below, h, i))
 
 meaning_of_below : (words : List (List ℕ)) (k : Option Kind) (parts : List PurePart) → 0 < length words → AllBelow (length words) (places parts) → IfOk (meaning_of k parts) (HasItsWords words)
 meaning_of_below words None parts some below = tt

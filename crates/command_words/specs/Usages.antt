@@ -2,9 +2,9 @@
 use Rattle.std.specs.Prelude.{ℕ, List, [], ◌∷◌, Bool, codes}
 use Rattle.std.specs.Str.{bytes_eq}
 use Rattle.command_words.specs.declared.usage.Kind.{Kind}
-use Rattle.command_words.specs.declared.usage.Kind.TheVariants.{Check, Route}
+use Rattle.command_words.specs.declared.usage.Kind.TheVariants.{Check, Route, Run, Trace}
 use Rattle.command_words.specs.declared.usage.Flag.{Flag}
-use Rattle.command_words.specs.declared.usage.Flag.TheVariants.{Workers}
+use Rattle.command_words.specs.declared.usage.Flag.TheVariants.{Workers, Turns}
 use Rattle.command_words.specs.declared.usage.Limits.{Limits}
 use Rattle.command_words.specs.declared.usage.Usage.{Usage}
 
@@ -23,10 +23,12 @@ pure_usage u = record { word = u.word.now; least = u.least; most = u.most; flags
 abbrev pub usage_of : Kind → PureUsage
 usage_of Check = record { word = codes "check"; least = 1; most = 2; flags = [] }
 usage_of Route = record { word = codes "route"; least = 2; most = 2; flags = Workers ∷ [] }
+usage_of Run = record { word = codes "run"; least = 2; most = 2; flags = Workers ∷ Turns ∷ [] }
+usage_of Trace = record { word = codes "trace"; least = 2; most = 2; flags = Workers ∷ Turns ∷ [] }
 
 -- all commands
 abbrev pub kinds : List Kind
-kinds = Check ∷ Route ∷ []
+kinds = Check ∷ Route ∷ Run ∷ Trace ∷ []
 
 -- it is the command of this word
 abbrev pub has_word : List ℕ → Kind → Bool
@@ -35,7 +37,9 @@ has_word word kind = bytes_eq (usage_of kind).word word
 -- the word of a flag
 abbrev pub flag_word : Flag → List ℕ
 flag_word Workers = codes "--workers"
+flag_word Turns = codes "--turns"
 
 -- the least and the greatest number that its value may be, and the number where it isn't given
 abbrev pub limits_of : Flag → Limits
 limits_of Workers = record { least = 1; greatest = 16; default = 4 }
+limits_of Turns = record { least = 0; greatest = 1000000; default = 100000 }

@@ -3,13 +3,13 @@ use Rattle.std.specs.Prelude.{ℕ, ◌<◌, ◌≤◌, length, List, [], ◌∷�
 use Rattle.std.specs.Option.{ok_or}
 use Rattle.std.specs.List.{list_any}
 use Rattle.command_words.specs.declared.command.Command.{Command}
-use Rattle.command_words.specs.declared.command.Command.TheVariants.{Check, Route}
+use Rattle.command_words.specs.declared.command.Command.TheVariants.{Check, Route, Run, Trace}
 use Rattle.command_words.specs.declared.command.WordsFault.{WordsFault}
 use Rattle.command_words.specs.declared.command.WordsFault.TheVariants.{NoCommand, UnknownCommand, WrongCount, BadNumber, BadFlag}
 use Rattle.command_words.specs.declared.usage.Kind.{Kind}
 use Rattle.command_words.specs.declared.usage.Kind.TheVariants as kind
 use Rattle.command_words.specs.declared.usage.Flag.{Flag}
-use Rattle.command_words.specs.declared.usage.Flag.TheVariants.{Workers}
+use Rattle.command_words.specs.declared.usage.Flag.TheVariants.{Workers, Turns}
 use Rattle.command_words.specs.Usages.{PureUsage, usage_of, limits_of, has_word, kinds}
 use Rattle.command_words.specs.Parts.{PurePart, parts_from, places, value_of, lacks_value, gives, is_unknown}
 use Rattle.command_words.specs.Numbers.{number_within}
@@ -37,11 +37,17 @@ number_given f (Some word) = number_within (limits_of f).least (limits_of f).gre
 abbrev pub number_of : Flag → List PurePart → Option ℕ
 number_of f parts = number_given f (option_and_then value_of (find (gives f) parts))
 
+-- the numbers of workers and turns among these parts, with what they make
+abbrev pub with_numbers : {X : Type 0} → (ℕ → ℕ → X) → List PurePart → Option X
+with_numbers make parts = option_and_then (λ workers. option_map (make workers) (number_of Turns parts)) (number_of Workers parts)
+
 -- the command that these parts make, with as many arguments as it takes, if its numbers are good
 abbrev pub command_of : Kind → List PurePart → Option Command
 command_of kind.Check parts = Some (Check (slice_index (places parts) 0) (slice_get (places parts) 1))
 command_of kind.Route parts =
     option_map (Route (slice_index (places parts) 0) (slice_index (places parts) 1)) (number_of Workers parts)
+command_of kind.Run parts = with_numbers (Run (slice_index (places parts) 0) (slice_index (places parts) 1)) parts
+command_of kind.Trace parts = with_numbers (Trace (slice_index (places parts) 0) (slice_index (places parts) 1)) parts
 
 -- the command of this kind with these parts, or their first fault
 abbrev pub meaning_of : Option Kind → List PurePart → Result Command WordsFault
@@ -59,10 +65,16 @@ Words (word ∷ rest) = meaning_of (find (has_word word) kinds) (parts_from 1 re
 abbrev pub AreWorkers : ℕ → Type 0
 AreWorkers workers = (1 ≤ workers) × (workers ≤ 16)
 
--- the files of the command are words, and there may be so many workers
+-- and so many turns
+abbrev pub AreTurns : ℕ → Type 0
+AreTurns turns = turns ≤ 1000000
+
+-- the files of the command are words, and there may be so many workers and turns
 abbrev pub HasItsWords : List (List ℕ) → Command → Type 0
 HasItsWords words (Check file net) = (file < length words) × IfSome net (λ net. net < length words)
 HasItsWords words (Route file net workers) = (file < length words) × (net < length words) × AreWorkers workers
+HasItsWords words (Run file net workers turns) = (file < length words) × (net < length words) × AreWorkers workers × AreTurns turns
+HasItsWords words (Trace file net workers turns) = (file < length words) × (net < length words) × AreWorkers workers × AreTurns turns
 
 -- the number that stands behind the C of a printed fault
 abbrev pub words_fault_number : WordsFault → ℕ

@@ -17,6 +17,22 @@ pub enum Command {
         net: usize,
         workers: u32,
     },
+    /// `run FILE NET [--workers W] [--turns N]` asks for the routes that path-vector nodes come to, phase by phase,
+    /// run by so many workers, as for `route`, with so many turns for all phases: 0 to 1,000,000, and 100,000
+    /// where the words don't say.
+    Run {
+        file: usize,
+        net: usize,
+        workers: u32,
+        turns: u64,
+    },
+    /// `trace FILE NET [--workers W] [--turns N]` asks for the same as `run`, and for each phase's deliveries.
+    Trace {
+        file: usize,
+        net: usize,
+        workers: u32,
+        turns: u64,
+    },
 }
 
 /// What is wrong with the words of a command line. Of several faults the one told is the first in this order:

@@ -105,15 +105,25 @@ fn command_of(kind: Kind, rest: &[Text]) -> Option<Command>
     ensures { result ≡ command_of kind (parts_from 1 rest.now) }
 {
     let file = argument(rest, 0).unwrap();
+    let net = argument(rest, 1);
     match kind {
-        Kind::Check => Some(Command::Check {
-            file,
-            net: argument(rest, 1),
-        }),
+        Kind::Check => Some(Command::Check { file, net }),
         Kind::Route => Some(Command::Route {
             file,
-            net: argument(rest, 1).unwrap(),
+            net: net.unwrap(),
             workers: number_of(Flag::Workers, rest)? as u32,
+        }),
+        Kind::Run => Some(Command::Run {
+            file,
+            net: net.unwrap(),
+            workers: number_of(Flag::Workers, rest)? as u32,
+            turns: number_of(Flag::Turns, rest)?,
+        }),
+        Kind::Trace => Some(Command::Trace {
+            file,
+            net: net.unwrap(),
+            workers: number_of(Flag::Workers, rest)? as u32,
+            turns: number_of(Flag::Turns, rest)?,
         }),
     }
 }

@@ -7,6 +7,8 @@ ghost use Rattle.command_words.specs.Usages.{flag_word, limits_of};
 pub enum Kind {
     Check,
     Route,
+    Run,
+    Trace,
 }
 
 /// How a command is used: its word, how many arguments it takes at least and at most, and which flags it has.
@@ -23,7 +25,7 @@ impl Kind {
     ghost use Rattle.command_words.specs.Usages.{has_word, kinds, pure_usage, usage_of};
 
     // All commands.
-    const ALL: [Kind; 2] = [Kind::Check, Kind::Route];
+    const ALL: [Kind; 4] = [Kind::Check, Kind::Route, Kind::Run, Kind::Trace];
 
     /// How the command is used.
     pub fn usage(self) -> Usage
@@ -42,6 +44,18 @@ impl Kind {
                 most: 2,
                 flags: &[Flag::Workers],
             },
+            Kind::Run => Usage {
+                word: "run",
+                least: 2,
+                most: 2,
+                flags: &[Flag::Workers, Flag::Turns],
+            },
+            Kind::Trace => Usage {
+                word: "trace",
+                least: 2,
+                most: 2,
+                flags: &[Flag::Workers, Flag::Turns],
+            },
         }
     }
 
@@ -59,8 +73,10 @@ impl Kind {
 /// A flag, whose value is a number.
 #[derive(Clone, Copy)]
 pub enum Flag {
-    /// How many workers find routes.
+    /// How many workers find routes, or run nodes.
     Workers,
+    /// How many deliveries may be made.
+    Turns,
 }
 
 /// What the value of a flag may be: the least and the greatest number, and the one where it isn't given.
@@ -78,6 +94,7 @@ impl Flag {
     {
         match self {
             Flag::Workers => "--workers",
+            Flag::Turns => "--turns",
         }
     }
 
@@ -90,6 +107,11 @@ impl Flag {
                 least: 1,
                 greatest: 16,
                 default: 4,
+            },
+            Flag::Turns => Limits {
+                least: 0,
+                greatest: 1_000_000,
+                default: 100_000,
             },
         }
     }

@@ -1,5 +1,5 @@
 -- Without a fault nothing is given up.
-use Rattle.std.proofs.Common.{◌≡◌, ℕ, ◌≤◌, List, length, Option, Some, None, Result, Ok, Err, arith, refl, ap, ◌∙◌, subst, inl, inr, ⊎_elim}
+use Rattle.std.proofs.Common.{◌≡◌, ℕ, ◌≤◌, Bool, true, false, List, length, Option, Some, None, Result, Ok, Err, arith, refl, ap, ◌∙◌, subst, inl, inr, ⊎_elim}
 use Rattle.meta_base.specs.Count.{HasRisen}
 use Rattle.meta_base.specs.Shelf.{Moment, Keeps}
 use Rattle.meta_base.specs.declared.ids.Which.{Which}
@@ -14,10 +14,10 @@ use Rattle.topology_file.specs.NetText.{PureNetFile, NetText, HasOneOutcome, cha
 use Rattle.report_text.specs.Refusals.{PureRefusal, words, expr, network, lacks, read, long, memory}
 use Rattle.metacli.specs.Answers.{done, refused}
 use Rattle.metacli.specs.Reading.{Holds, IsUntaken, IsReadAs, IsExprRefusal, IsNetRefusal}
-use Rattle.metacli.specs.Outcome.{PureOutcome, stopped, checked, routed, answer_in, IsCheckedAs, IsAlgebraChecked, IsNetworkChecked, IsOnArc, IsRoutedAs, IsNetworkRouted, IsFit, unbeaten_properties, GoesOnFrom, GoesOnOver, WithNetwork, ComesBy, word_at}
-use Rattle.metacli.specs.Complete.{IsUnlessMemory, IsTold, IsJudged, IsNetJudged, IsAny, CompleteBy}
+use Rattle.metacli.specs.Outcome.{PureOutcome, stopped, checked, routed, ran, answer_in, IsCheckedAs, IsAlgebraChecked, IsNetworkChecked, IsOnArc, IsRoutedAs, IsNetworkRouted, IsRunAs, IsNetworkRun, IsRunOn, IsFit, unbeaten_properties, GoesOnFrom, GoesOnOver, WithNetwork, ComesBy, word_at}
+use Rattle.metacli.specs.Complete.{IsUnlessMemory, IsTold, IsJudged, IsNetJudged, IsAny, IsDone, IsRunOut, CompleteBy}
 use Rattle.command_words.specs.declared.command.Command.{Command}
-use Rattle.command_words.specs.declared.command.Command.TheVariants.{Check, Route}
+use Rattle.command_words.specs.declared.command.Command.TheVariants.{Check, Route, Run, Trace}
 use Rattle.command_words.specs.declared.command.WordsFault.{WordsFault}
 
 -- the laws of texts
@@ -95,45 +95,45 @@ judged laws name bytes Then Follows old between new o (Err r) h on t quiet over 
 
 -- Network files.
 
-net_judged_good : Laws → (bytes : List ℕ) (Fits : PureNet → Type 0) (a : PureAlg) (f : PureNetFile) (o : PureOutcome) → NetText bytes a f
-    → (Fits (changed_net f) → IsUnlessMemory o done) → IsNetJudged bytes Fits o a
-net_judged_good laws bytes Fits a f o means d = record {
+net_judged_good : Laws → (bytes : List ℕ) (Fits : PureNet → Type 0) (Carries : PureOutcome → Type 0) (a : PureAlg) (f : PureNetFile) (o : PureOutcome) → NetText bytes a f
+    → (Fits (changed_net f) → Carries o) → IsNetJudged bytes Fits Carries o a
+net_judged_good laws bytes Fits Carries a f o means d = record {
   bad = λ g x. absurd ((laws.network bytes a).not_both f g means x);
   good = λ g x fits. d (subst (λ (h : PureNetFile). Fits (changed_net h)) ((laws.network bytes a).one_network g f x means) fits);
 }
 
-net_judged_bad : Laws → (bytes : List ℕ) (Fits : PureNet → Type 0) (a : PureAlg) (r : PureRefusal) (o : PureOutcome) → IsNetRefusal a bytes r → answer_in o ≡ refused r → IsNetJudged bytes Fits o a
-net_judged_bad laws bytes Fits a (network g) o x e = record {
+net_judged_bad : Laws → (bytes : List ℕ) (Fits : PureNet → Type 0) (Carries : PureOutcome → Type 0) (a : PureAlg) (r : PureRefusal) (o : PureOutcome) → IsNetRefusal a bytes r → answer_in o ≡ refused r → IsNetJudged bytes Fits Carries o a
+net_judged_bad laws bytes Fits Carries a (network g) o x e = record {
   bad = λ f y. inl (e ∙ ap (λ f. refused (network f)) ((laws.network bytes a).one_fault g f x y));
   good = λ f y fits. absurd ((laws.network bytes a).not_both f g y x);
 }
-net_judged_bad laws bytes Fits a (words n) o x e = absurd x
-net_judged_bad laws bytes Fits a (expr f) o x e = absurd x
-net_judged_bad laws bytes Fits a (lacks arc i) o x e = absurd x
-net_judged_bad laws bytes Fits a (read w) o x e = absurd x
-net_judged_bad laws bytes Fits a (long w) o x e = absurd x
-net_judged_bad laws bytes Fits a memory o x e = absurd x
+net_judged_bad laws bytes Fits Carries a (words n) o x e = absurd x
+net_judged_bad laws bytes Fits Carries a (expr f) o x e = absurd x
+net_judged_bad laws bytes Fits Carries a (lacks arc i) o x e = absurd x
+net_judged_bad laws bytes Fits Carries a (read w) o x e = absurd x
+net_judged_bad laws bytes Fits Carries a (long w) o x e = absurd x
+net_judged_bad laws bytes Fits Carries a memory o x e = absurd x
 
-net_judged_memory : (bytes : List ℕ) (Fits : PureNet → Type 0) (o : PureOutcome) (a : PureAlg) → answer_in o ≡ refused memory → IsNetJudged bytes Fits o a
-net_judged_memory bytes Fits o a e = record { bad = λ f x. inr e; good = λ f x fits. inr e }
+net_judged_memory : (bytes : List ℕ) (Fits : PureNet → Type 0) (Carries : PureOutcome → Type 0) (o : PureOutcome) (a : PureAlg) → answer_in o ≡ refused memory → (IsUnlessMemory o done → Carries o) → IsNetJudged bytes Fits Carries o a
+net_judged_memory bytes Fits Carries o a e of = record { bad = λ f x. inr e; good = λ f x fits. of (inr e) }
 
 -- what comes of the network file is judged, if its network is carried out
-net_judged : Laws → (a : PureAlg) (name bytes : List ℕ) (Fits : PureNet → Type 0) (Then : PureNetFile → PureOutcome → Type 0) (old new : Moment) (o : PureOutcome) (r : Result PureNetFile PureRefusal)
+net_judged : Laws → (a : PureAlg) (name bytes : List ℕ) (Fits : PureNet → Type 0) (Carries : PureOutcome → Type 0) (Then : PureNetFile → PureOutcome → Type 0) (old new : Moment) (o : PureOutcome) (r : Result PureNetFile PureRefusal)
     → IsReadAs Network name (λ text. NetText text a) (IsNetRefusal a) old r new → GoesOnOver a Then o r → IsTold old name bytes → ¬ HasRisen old.faults new.faults
-    → ((f : PureNetFile) → Then f o → Fits (changed_net f) → IsUnlessMemory o done) → IsNetJudged bytes Fits o a
-net_judged laws a name bytes Fits Then old new o (Ok f) h on t quiet ends =
-    net_judged_good laws bytes Fits a f o (told old new name bytes (λ b. NetText b a f) h t) (ends f on)
-net_judged laws a name bytes Fits Then old new o (Err r) h on t quiet ends = ⊎_elim
-    (λ u. net_judged_memory bytes Fits o a (ap answer_in on ∙ ap refused (untaken Network name bytes old new r u t quiet)))
-    (λ f. net_judged_bad laws bytes Fits a r o (told old new name bytes (λ b. IsNetRefusal a b r) f t) (ap answer_in on))
+    → (IsUnlessMemory o done → Carries o) → ((f : PureNetFile) → Then f o → Fits (changed_net f) → Carries o) → IsNetJudged bytes Fits Carries o a
+net_judged laws a name bytes Fits Carries Then old new o (Ok f) h on t quiet of ends =
+    net_judged_good laws bytes Fits Carries a f o (told old new name bytes (λ b. NetText b a f) h t) (ends f on)
+net_judged laws a name bytes Fits Carries Then old new o (Err r) h on t quiet of ends = ⊎_elim
+    (λ u. net_judged_memory bytes Fits Carries o a (ap answer_in on ∙ ap refused (untaken Network name bytes old new r u t quiet)) of)
+    (λ f. net_judged_bad laws bytes Fits Carries a r o (told old new name bytes (λ b. IsNetRefusal a b r) f t) (ap answer_in on))
     h
 
-over_network : Laws → (a : PureAlg) (name bytes : List ℕ) (Fits : PureNet → Type 0) (Then : PureNetFile → PureOutcome → Type 0) (old between new : Moment) (o : PureOutcome)
+over_network : Laws → (a : PureAlg) (name bytes : List ℕ) (Fits : PureNet → Type 0) (Carries : PureOutcome → Type 0) (Then : PureNetFile → PureOutcome → Type 0) (old between new : Moment) (o : PureOutcome)
     → Keeps old between → WithNetwork a name Then between new o → IsTold old name bytes → ¬ HasRisen old.faults new.faults
-    → ((f : PureNetFile) → Then f o → Fits (changed_net f) → IsUnlessMemory o done) → IsNetJudged bytes Fits o a
-over_network laws a name bytes Fits Then old between new o k w t quiet ends =
-    net_judged laws a name bytes Fits Then between new o w.network w.reads.as_read w.goes_on (told_later old between name bytes k t)
-    (λ r. quiet (risen_later old.faults between.faults new.faults k.faults r)) ends
+    → (IsUnlessMemory o done → Carries o) → ((f : PureNetFile) → Then f o → Fits (changed_net f) → Carries o) → IsNetJudged bytes Fits Carries o a
+over_network laws a name bytes Fits Carries Then old between new o k w t quiet of ends =
+    net_judged laws a name bytes Fits Carries Then between new o w.network w.reads.as_read w.goes_on (told_later old between name bytes k t)
+    (λ r. quiet (risen_later old.faults between.faults new.faults k.faults r)) of ends
 
 -- What was read is carried out.
 
@@ -147,6 +147,7 @@ checked_done a file S (stopped b f (lacks arc x)) h = absurd h
 checked_done a file S (stopped b f (read w)) h = absurd h
 checked_done a file S (stopped b f (long w)) h = absurd h
 checked_done a file S (routed b f rows) h = absurd h
+checked_done a file S (ran b f t past last quiet) h = absurd h
 
 -- a network whose labels are fit has no arc that lacks what is asked
 routed_done : (a : PureAlg) (file : PureNetFile) (o : PureOutcome) → IsRoutedAs a file o → IsFit (changed_net file) → IsUnlessMemory o done
@@ -159,6 +160,28 @@ routed_done a file (stopped b f (network g)) h fit = absurd h
 routed_done a file (stopped b f (read w)) h fit = absurd h
 routed_done a file (stopped b f (long w)) h fit = absurd h
 routed_done a file (checked b f v) h fit = absurd h
+routed_done a file (ran b f t past last quiet) h fit = absurd h
+
+run_out : (traced : Bool) (turns : ℕ) (a : PureAlg) (file : PureNetFile) (o : PureOutcome) → IsRunAs traced turns a file o → IsRunOut o
+run_out traced turns a file (ran b f t past last true) h = inl (inl refl)
+run_out traced turns a file (ran b f t past last false) h = inr refl
+run_out traced turns a file (stopped b f memory) h = inl (inr refl)
+run_out traced turns a file (stopped b f (words n)) h = absurd h
+run_out traced turns a file (stopped b f (expr g)) h = absurd h
+run_out traced turns a file (stopped b f (network g)) h = absurd h
+run_out traced turns a file (stopped b f (lacks arc x)) h = absurd h
+run_out traced turns a file (stopped b f (read w)) h = absurd h
+run_out traced turns a file (stopped b f (long w)) h = absurd h
+run_out traced turns a file (checked b f v) h = absurd h
+run_out traced turns a file (routed b f rows) h = absurd h
+
+-- what run or trace comes to is judged
+ran_complete : Laws → (file net : List ℕ) (traced : Bool) (turns : ℕ) (old new : Moment) (o : PureOutcome) → IsRunOn traced turns file net old new o → (bytes net_bytes : List ℕ) → IsTold old file bytes → IsTold old net net_bytes
+    → ¬ HasRisen old.faults new.faults → IsJudged bytes (IsNetJudged net_bytes IsAny IsRunOut o) o
+ran_complete laws file net traced turns old new o h bytes net_bytes t u quiet =
+    judged laws file bytes (IsNetworkRun traced turns net) (IsNetJudged net_bytes IsAny IsRunOut o) old h.between new o h.expression h.reads.as_read h.goes_on t quiet
+    (λ a x. over_network laws a net net_bytes IsAny IsRunOut (IsRunAs traced turns a) old h.between new o h.reads.keeps x u quiet inl (λ f y any. run_out traced turns a f o y))
+    (λ e a. net_judged_memory net_bytes IsAny IsRunOut o a e inl)
 
 pub complete : Laws → (text : List (List ℕ)) (old new : Moment) (c : Option Command) (o : PureOutcome) (r : Result Command WordsFault)
     → ComesBy text r old new c o → CompleteBy text old new o r
@@ -166,12 +189,14 @@ complete laws text old new c o (Ok (Check file None)) h = λ bytes t quiet.
     judged laws (word_at text file) bytes IsAlgebraChecked (λ a. IsUnlessMemory o done) old h.1.between new o h.1.expression h.1.reads.as_read h.1.goes_on t quiet
     (λ a x. checked_done a None (IsLabel a.expression) o x.1) (λ e a. inr e)
 complete laws text old new c o (Ok (Check file (Some net))) h = λ bytes net_bytes t u quiet.
-    judged laws (word_at text file) bytes (IsNetworkChecked (word_at text net)) (IsNetJudged net_bytes IsAny o) old h.1.between new o h.1.expression h.1.reads.as_read h.1.goes_on t quiet
-    (λ a x. over_network laws a (word_at text net) net_bytes IsAny (λ f. IsCheckedAs a (Some f) (IsOnArc (changed_net f))) old h.1.between new o h.1.reads.keeps x u quiet
+    judged laws (word_at text file) bytes (IsNetworkChecked (word_at text net)) (IsNetJudged net_bytes IsAny IsDone o) old h.1.between new o h.1.expression h.1.reads.as_read h.1.goes_on t quiet
+    (λ a x. over_network laws a (word_at text net) net_bytes IsAny IsDone (λ f. IsCheckedAs a (Some f) (IsOnArc (changed_net f))) old h.1.between new o h.1.reads.keeps x u quiet (λ d. d)
     (λ f y any. checked_done a (Some f) (IsOnArc (changed_net f)) o y))
-    (λ e a. net_judged_memory net_bytes IsAny o a e)
+    (λ e a. net_judged_memory net_bytes IsAny IsDone o a e (λ d. d))
 complete laws text old new c o (Ok (Route file net workers)) h = λ bytes net_bytes t u quiet.
-    judged laws (word_at text file) bytes (IsNetworkRouted (word_at text net)) (IsNetJudged net_bytes IsFit o) old h.1.between new o h.1.expression h.1.reads.as_read h.1.goes_on t quiet
-    (λ a x. over_network laws a (word_at text net) net_bytes IsFit (IsRoutedAs a) old h.1.between new o h.1.reads.keeps x u quiet (λ f y fit. routed_done a f o y fit))
-    (λ e a. net_judged_memory net_bytes IsFit o a e)
+    judged laws (word_at text file) bytes (IsNetworkRouted (word_at text net)) (IsNetJudged net_bytes IsFit IsDone o) old h.1.between new o h.1.expression h.1.reads.as_read h.1.goes_on t quiet
+    (λ a x. over_network laws a (word_at text net) net_bytes IsFit IsDone (IsRoutedAs a) old h.1.between new o h.1.reads.keeps x u quiet (λ d. d) (λ f y fit. routed_done a f o y fit))
+    (λ e a. net_judged_memory net_bytes IsFit IsDone o a e (λ d. d))
+complete laws text old new c o (Ok (Run file net workers turns)) h = ran_complete laws (word_at text file) (word_at text net) false turns old new o h.1
+complete laws text old new c o (Ok (Trace file net workers turns)) h = ran_complete laws (word_at text file) (word_at text net) true turns old new o h.1
 complete laws text old new c o (Err f) h = tt

@@ -1,8 +1,9 @@
+mod Arcs
+mod Completeness
 mod Found
 mod Lacking
-mod RowsBehind
+mod NetsBehind
 mod Printable
-mod Completeness
-mod Arcs
-mod Written
 mod Refused
+mod RowsBehind
+mod Written

@@ -1,5 +1,5 @@
 -- Texts that are written a line at a time.
-use Rattle.std.proofs.Common.{◌≡◌, ◌≢◌, ◌<◌, ℕ, ◌+◌, ◌++◌, List, length, take, drop, arith, refl, sym, ap, ◌∙◌, append_assoc, inl, inr, ⊎_elim, [], append-nil, length-append, ◌∷◌, map, get_or, zero, suc, subst}
+use Rattle.std.proofs.Common.{◌≡◌, ◌≢◌, ◌<◌, ℕ, ◌+◌, ◌++◌, List, length, take, drop, arith, refl, sym, ap, ◌∙◌, append_assoc, inl, inr, ⊎_elim, [], Result, Ok, Err, append-nil, length-append, ◌∷◌, map, get_or, zero, suc, subst}
 use Rattle.std.proofs.Math.Seq.{take-append-add}
 use Rattle.std.proofs.lemmas.List.{take_all, take-append-le, at_drop_more}
 use Rattle.std.specs.List.{AllByRecursion}
@@ -13,14 +13,19 @@ use Rattle.net_graph.specs.Views.{pure_row}
 use Rattle.net_graph.specs.RowTexts.{IsRowOf, row_text}
 use Rattle.net_graph.specs.declared.route.RouteRow.{RouteRow}
 use Rattle.meta_base.specs.Sink.{Held, Appended, AppendedPart}
+use Rattle.meta_base.specs.declared.ids.Delivery.{Delivery}
+use Rattle.report_text.specs.RunTexts.{delivery_text}
 use Rattle.report_text.specs.Refusals.{words, expr, network, lacks, read, long, memory}
 use Rattle.report_text.specs.VerdictTexts.{verdict_text, lines_on}
-use Rattle.metacli.specs.Answers.{PureAnswer, done, refused, write_fault}
-use Rattle.metacli.specs.Texts.{Written, rows_text}
+use Rattle.metacli.specs.Answers.{PureAnswer, done, refused, spent, write_fault}
+use Rattle.metacli.specs.Texts.{HasLines, PutsText, Written, cut_answer, journal_text, rows_text}
+use Rattle.metacli.specs.declared.putting.Cut.{Cut}
+use Rattle.metacli.specs.declared.putting.Cut.TheVariants as cut
 
 -- a text that was written whole is what was decided
 pub all_written : (old new : Held) (text : List ℕ) (d : PureAnswer) → d ≢ write_fault → Appended old text new → Written old text new d d
 all_written old new text done h a = (refl, a)
+all_written old new text spent h a = (refl, a)
 all_written old new text (refused memory) h a = (λ _. a, (length text, rw (take_all (length text) text (omega arith)) a))
 all_written old new text (refused (words n)) h a = (refl, a)
 all_written old new text (refused (expr f)) h a = (refl, a)
@@ -29,12 +34,6 @@ all_written old new text (refused (lacks arc x)) h a = (refl, a)
 all_written old new text (refused (read w)) h a = (refl, a)
 all_written old new text (refused (long w)) h a = (refl, a)
 all_written old new text write_fault h a = absurd (h refl)
-
--- a front of the text was appended, and this is what comes behind it
-pub record HasLines (old : Held) (text rest : List ℕ) (new : Held) : Type 0 where
-  pub front : List ℕ
-  pub split : text ≡ front ++ rest
-  pub appended : Appended old front new
 
 pub lines_begin : (held : Held) (text : List ℕ) → HasLines held text text held
 lines_begin held text = record {
@@ -77,6 +76,25 @@ lines_front old now text rest h =
 pub lines_end : (old now : Held) (text : List ℕ) → HasLines old text [] now → Appended old text now
 lines_end old now text h = rw (h.split ∙ append-nil h.front) h.appended
 
+-- ---- texts that are put a line at a time
+
+-- a text that is cut short within a line is cut short
+pub cut_within : (old now new : Held) (text line rest : List ℕ) (c : Cut) → HasLines old text (line ++ rest) now → PutsText now line (Err c) new → PutsText old text (Err c) new
+cut_within old now new text line rest cut.Sink h p = lines_cut old now new text line rest h p
+cut_within old now new text line rest cut.Memory h p =
+    let split : line ++ rest ≡ p.1.front ++ (p.0 ++ rest) = ap (λ l. l ++ rest) p.1.split ∙ append_assoc p.1.front p.0 rest in
+    (p.0 ++ rest, lines_more old now new text p.1.front (p.0 ++ rest) (subst (λ l. HasLines old text l now) split h) p.1.appended)
+
+-- and one that is put whole behind others ends the text
+pub put_last : (old now new : Held) (text line : List ℕ) (r : Result (Unit {0}) Cut) → HasLines old text line now → PutsText now line r new → PutsText old text r new
+put_last old now new text line (Ok x) h p = lines_end old new text (lines_more old now new text line [] (subst (λ l. HasLines old text l now) (sym (append-nil line)) h) p)
+put_last old now new text line (Err c) h p = cut_within old now new text line [] c (subst (λ l. HasLines old text l now) (sym (append-nil line)) h) p
+
+-- the answer to a text that was cut short
+pub cut_answered : (old new : Held) (text : List ℕ) (d : PureAnswer) (c : Cut) → d ≢ refused memory → PutsText old text (Err c) new → Written old text new d (cut_answer c)
+cut_answered old new text d cut.Sink h p = p
+cut_answered old new text d cut.Memory h p = ((λ e. absurd (h e)), lines_front old new text p.0 p.1)
+
 -- the lines from one row on
 pub lines_at : (net : PureNet) (rows : List RouteRow) (i : ℕ) (row : RouteRow) → i < length rows → row ≡ get_or rows i row
     → rows_text net (map pure_row (drop i rows)) ≡ row_text net (pure_row row) ++ rows_text net (map pure_row (drop (i + 1) rows))
@@ -97,3 +115,14 @@ pub verdicts_at : (a : Expression) (v : PureVerdicts) (properties : List Propert
     ≡ verdict_text a (pure_property (get_or properties i Monotone)) (verdict_on v (pure_property (get_or properties i Monotone)))
     ++ lines_on a v (map pure_property (drop (i + 1) properties))
 verdicts_at a v properties i h = at_drop_more (λ (ps : List Property). lines_on a v (map pure_property ps)) properties i Monotone h
+
+-- the lines from one delivery on
+pub deliveries_at : (net : PureNet) (journal : List Delivery) (i : ℕ) (d : Delivery) → i < length journal
+    → journal_text net (drop i journal) ≡ delivery_text net (get_or journal i d) ++ journal_text net (drop (i + 1) journal)
+deliveries_at net journal i d h = at_drop_more (journal_text net) journal i d h
+
+-- what holds of all deliveries holds of one
+pub delivery_at : (P : Delivery → Type 0) (journal : List Delivery) (i : ℕ) (d : Delivery) → i < length journal → AllByRecursion P journal → P (get_or journal i d)
+delivery_at P [] i d h all = absurd (omega arith)
+delivery_at P (x ∷ xs) zero d h all = all.0
+delivery_at P (x ∷ xs) (suc i) d h all = delivery_at P xs i d (omega arith) all.1

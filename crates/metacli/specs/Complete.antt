@@ -11,11 +11,11 @@ use Rattle.net_graph.specs.Nets.{PureNet}
 use Rattle.topology_file.specs.NetText.{PureNetFile, NetText, IsNetFault, changed_net}
 use Rattle.topology_file.specs.declared.faults.NetFault.{NetFault}
 use Rattle.report_text.specs.Refusals.{expr, network, memory}
-use Rattle.metacli.specs.Answers.{PureAnswer, done, refused}
+use Rattle.metacli.specs.Answers.{PureAnswer, done, refused, spent}
 use Rattle.command_words.specs.Words.{Words}
 use Rattle.metacli.specs.Outcome.{PureOutcome, answer_in, IsFit, word_at}
 use Rattle.command_words.specs.declared.command.Command.{Command}
-use Rattle.command_words.specs.declared.command.Command.TheVariants.{Check, Route}
+use Rattle.command_words.specs.declared.command.Command.TheVariants.{Check, Route, Run, Trace}
 use Rattle.command_words.specs.declared.command.WordsFault.{WordsFault}
 
 -- this was decided, or memory was refused
@@ -34,21 +34,32 @@ pub record IsJudged (bytes : List ℕ) (Follows : PureAlg → Type 0) (o : PureO
   pub good : (a : PureAlg) → ExprText bytes a → Follows a
 
 -- bytes that mean no network over the algebra are refused with their fault; a network that is fit is carried out
-pub record IsNetJudged (bytes : List ℕ) (Fits : PureNet → Type 0) (o : PureOutcome) (a : PureAlg) : Type 0 where
+pub record IsNetJudged (bytes : List ℕ) (Fits : PureNet → Type 0) (Carries : PureOutcome → Type 0) (o : PureOutcome) (a : PureAlg) : Type 0 where
   pub bad : (f : NetFault) → IsNetFault bytes a f → IsUnlessMemory o (refused (network f))
-  pub good : (f : PureNetFile) → NetText bytes a f → Fits (changed_net f) → IsUnlessMemory o done
+  pub good : (f : PureNetFile) → NetText bytes a f → Fits (changed_net f) → Carries o
 
 -- any network is fit for its labels to be decided on
 abbrev pub IsAny : PureNet → Type 0
 IsAny net = Unit {0}
 
+-- all is done, unless memory is refused; or that, or all turns are used
+abbrev pub IsDone : PureOutcome → Type 0
+IsDone o = IsUnlessMemory o done
+
+abbrev pub IsRunOut : PureOutcome → Type 0
+IsRunOut o = IsDone o ⊎ (answer_in o ≡ spent)
+
 abbrev pub CompleteBy : List (List ℕ) → Moment → Moment → PureOutcome → Result Command WordsFault → Type 0
 CompleteBy words old new o (Ok (Check file None)) = (bytes : List ℕ) → IsTold old (word_at words file) bytes → ¬ HasRisen old.faults new.faults
-    → IsJudged bytes (λ a. IsUnlessMemory o done) o
+    → IsJudged bytes (λ a. IsDone o) o
 CompleteBy words old new o (Ok (Check file (Some net))) = (bytes net_bytes : List ℕ) → IsTold old (word_at words file) bytes → IsTold old (word_at words net) net_bytes
-    → ¬ HasRisen old.faults new.faults → IsJudged bytes (IsNetJudged net_bytes IsAny o) o
+    → ¬ HasRisen old.faults new.faults → IsJudged bytes (IsNetJudged net_bytes IsAny IsDone o) o
 CompleteBy words old new o (Ok (Route file net workers)) = (bytes net_bytes : List ℕ) → IsTold old (word_at words file) bytes → IsTold old (word_at words net) net_bytes
-    → ¬ HasRisen old.faults new.faults → IsJudged bytes (IsNetJudged net_bytes IsFit o) o
+    → ¬ HasRisen old.faults new.faults → IsJudged bytes (IsNetJudged net_bytes IsFit IsDone o) o
+CompleteBy words old new o (Ok (Run file net workers turns)) = (bytes net_bytes : List ℕ) → IsTold old (word_at words file) bytes → IsTold old (word_at words net) net_bytes
+    → ¬ HasRisen old.faults new.faults → IsJudged bytes (IsNetJudged net_bytes IsAny IsRunOut o) o
+CompleteBy words old new o (Ok (Trace file net workers turns)) = (bytes net_bytes : List ℕ) → IsTold old (word_at words file) bytes → IsTold old (word_at words net) net_bytes
+    → ¬ HasRisen old.faults new.faults → IsJudged bytes (IsNetJudged net_bytes IsAny IsRunOut o) o
 CompleteBy words old new o (Err f) = Unit {0}
 
 abbrev pub IsComplete : List (List ℕ) → Moment → Moment → PureOutcome → Type 0

@@ -1,7 +1,8 @@
 -- What a run comes to, by its words, and the end that shows it.
-use Rattle.std.specs.Prelude.{◌≡◌, ℕ, ◌+◌, List, [], ◌∷◌, ◌++◌, length, map, Option, Some, None, option_map, Result, Ok, Err, slice_index_or}
+use Rattle.std.specs.Prelude.{◌≡◌, ℕ, Bool, true, false, if◌then◌else◌, List, [], ◌∷◌, map, Option, Some, None, option_map, Result, Ok, Err, slice_index_or}
 use Rattle.std.specs.List.{Contains}
 use Rattle.meta_base.specs.Shelf.{Moment}
+use Rattle.meta_base.specs.declared.ids.Delivery.{Delivery}
 use Rattle.alg_model.specs.declared.alg.TheConstants.{MAX_INSTANCE_NUMBER}
 use Rattle.alg_model.specs.Expressions.{PureAlg, PureLabel}
 use Rattle.alg_model.specs.Application.{IsLabel}
@@ -15,14 +16,16 @@ use Rattle.net_graph.specs.Tables.{PureRow, BestFirst, Optimal, AreRowsOfTables}
 use Rattle.net_graph.specs.Changes.{PureChange}
 use Rattle.net_graph.specs.Views.{pure_change, pure_row}
 use Rattle.topology_file.specs.NetText.{PureNetFile, changed_net}
+use Rattle.vector_runs.specs.Runs.{PurePhase, IsRun, AreStable, pure_phase}
 use Rattle.report_text.specs.Refusals as refusal
 use Rattle.net_facts.specs.Lacks.{IsFirstLack, NetHasAll}
 use Rattle.report_text.specs.Refusals.{PureRefusal, lacks, memory}
-use Rattle.metacli.specs.Answers.{PureAnswer, done, refused, pure_answer}
+use Rattle.metacli.specs.Answers.{PureAnswer, done, refused, spent, pure_answer}
+use Rattle.metacli.specs.Behind.{nets_after}
 use Rattle.metacli.specs.Reading.{ReadsExpression, ReadsNetwork}
 use Rattle.command_words.specs.Words.{Words, words_fault_number}
 use Rattle.command_words.specs.declared.command.Command.{Command}
-use Rattle.command_words.specs.declared.command.Command.TheVariants.{Check, Route}
+use Rattle.command_words.specs.declared.command.Command.TheVariants.{Check, Route, Run, Trace}
 use Rattle.command_words.specs.declared.command.WordsFault.{WordsFault}
 use Rattle.metacli.specs.declared.ended.Ended.{Ended}
 
@@ -34,31 +37,50 @@ pub data PureOutcome : Type 0 where
   checked : PureAlg → Option PureNetFile → PureVerdicts → PureOutcome
   -- the routes of a network over an algebra
   routed : PureAlg → PureNetFile → List PureRow → PureOutcome
+  -- the phases before the last, the last, and whether it is quiet; deliveries are printed or not
+  ran : PureAlg → PureNetFile → Bool → List PurePhase → PurePhase → Bool → PureOutcome
 
 abbrev pub algebra_in : PureOutcome → Option PureAlg
 algebra_in (stopped a f r) = a
 algebra_in (checked a f v) = Some a
 algebra_in (routed a f rows) = Some a
+algebra_in (ran a f traced past last quiet) = Some a
 
 abbrev pub file_in : PureOutcome → Option PureNetFile
 file_in (stopped a f r) = f
 file_in (checked a f v) = f
 file_in (routed a f rows) = Some f
+file_in (ran a f traced past last quiet) = Some f
 
 abbrev pub verdicts_in : PureOutcome → Option PureVerdicts
 verdicts_in (stopped a f r) = None
 verdicts_in (checked a f v) = Some v
 verdicts_in (routed a f rows) = None
+verdicts_in (ran a f traced past last quiet) = None
 
 abbrev pub rows_in : PureOutcome → List PureRow
 rows_in (stopped a f r) = []
 rows_in (checked a f v) = []
 rows_in (routed a f rows) = rows
+rows_in (ran a f traced past last quiet) = last.rows
+
+abbrev pub journal_in : PureOutcome → List Delivery
+journal_in (stopped a f r) = []
+journal_in (checked a f v) = []
+journal_in (routed a f rows) = []
+journal_in (ran a f traced past last quiet) = last.journal
+
+abbrev pub past_in : PureOutcome → List PurePhase
+past_in (stopped a f r) = []
+past_in (checked a f v) = []
+past_in (routed a f rows) = []
+past_in (ran a f traced past last quiet) = past
 
 abbrev pub answer_in : PureOutcome → PureAnswer
 answer_in (stopped a f r) = refused r
 answer_in (checked a f v) = done
 answer_in (routed a f rows) = done
+answer_in (ran a f traced past last quiet) = if quiet then done else spent
 
 -- the changes of a network file, if there is one
 abbrev pub changes_of : Option PureNetFile → List PureChange
@@ -73,6 +95,8 @@ pub record Shows (e : Ended) (asked : Option Command) (o : PureOutcome) : Type 0
   pub changes : map pure_change e.changes ≡ changes_of (file_in o)
   pub verdicts : option_map pure_verdicts e.verdicts ≡ verdicts_in o
   pub rows : map pure_row e.rows ≡ rows_in o
+  pub journal : e.journal ≡ journal_in o
+  pub past : map pure_phase e.past ≡ past_in o
   pub decided : pure_answer e.decided ≡ answer_in o
 
 -- the verdicts are exact for the labels of the set, and the numbers of instances are small
@@ -114,6 +138,15 @@ IsRoutedAs a file (stopped b f (lacks arc x)) = (b ≡ Some a) × (f ≡ Some fi
 IsRoutedAs a file (stopped b f memory) = (b ≡ Some a) × (f ≡ Some file)
 IsRoutedAs a file _ = ⊥
 
+-- What run and trace come to where all was read: a run of the network's new nodes, and then on the networks behind the
+-- changes, whose quiet phases have stable rows; unless memory is refused.
+abbrev pub IsRunAs : Bool → ℕ → PureAlg → PureNetFile → PureOutcome → Type 0
+IsRunAs traced turns a file (ran b f t past last quiet) =
+    (b ≡ a) × (f ≡ file) × (t ≡ traced) × IsRun file.net (nets_after file.net file.changes) turns past last quiet
+    × AreStable file.net (nets_after file.net file.changes) past last quiet
+IsRunAs traced turns a file (stopped b f memory) = (b ≡ Some a) × (f ≡ Some file)
+IsRunAs traced turns a file _ = ⊥
+
 -- What comes of an expression file: over its algebra, what Then says; or it is refused, and nothing more is
 -- begun.
 abbrev pub GoesOnFrom : (PureAlg → Moment → Moment → PureOutcome → Type 0) → Moment → Moment → PureOutcome → Result PureAlg PureRefusal → Type 0
@@ -149,6 +182,10 @@ IsNetworkChecked net a = WithNetwork a net (λ f. IsCheckedAs a (Some f) (IsOnAr
 abbrev pub IsNetworkRouted : List ℕ → PureAlg → Moment → Moment → PureOutcome → Type 0
 IsNetworkRouted net a = WithNetwork a net (IsRoutedAs a)
 
+-- the network file is read over the algebra, and then nodes run on its network, through its changes
+abbrev pub IsNetworkRun : Bool → ℕ → List ℕ → PureAlg → Moment → Moment → PureOutcome → Type 0
+IsNetworkRun traced turns net a = WithNetwork a net (IsRunAs traced turns a)
+
 -- what check comes to on the expression file of that name, and on it and the network file of these names
 abbrev pub IsChecked : List ℕ → Moment → Moment → PureOutcome → Type 0
 IsChecked file = WithAlgebra file IsAlgebraChecked
@@ -160,6 +197,10 @@ IsCheckedOn file net = WithAlgebra file (IsNetworkChecked net)
 abbrev pub IsRouted : List ℕ → List ℕ → Moment → Moment → PureOutcome → Type 0
 IsRouted file net = WithAlgebra file (IsNetworkRouted net)
 
+-- what run and trace come to on the files of these names, with so many turns
+abbrev pub IsRunOn : Bool → ℕ → List ℕ → List ℕ → Moment → Moment → PureOutcome → Type 0
+IsRunOn traced turns file net = WithAlgebra file (IsNetworkRun traced turns net)
+
 -- the word at a place
 abbrev pub word_at : List (List ℕ) → ℕ → List ℕ
 word_at words place = slice_index_or words place []
@@ -169,6 +210,10 @@ abbrev pub ComesBy : List (List ℕ) → Result Command WordsFault → Moment �
 ComesBy words (Ok (Check file None)) old new c o = (c ≡ Some (Check file None)) × IsChecked (word_at words file) old new o
 ComesBy words (Ok (Check file (Some net))) old new c o = (c ≡ Some (Check file (Some net))) × IsCheckedOn (word_at words file) (word_at words net) old new o
 ComesBy words (Ok (Route file net workers)) old new c o = (c ≡ Some (Route file net workers)) × IsRouted (word_at words file) (word_at words net) old new o
+ComesBy words (Ok (Run file net workers turns)) old new c o =
+    (c ≡ Some (Run file net workers turns)) × IsRunOn false turns (word_at words file) (word_at words net) old new o
+ComesBy words (Ok (Trace file net workers turns)) old new c o =
+    (c ≡ Some (Trace file net workers turns)) × IsRunOn true turns (word_at words file) (word_at words net) old new o
 ComesBy words (Err f) old new c o = (c ≡ None) × (new ≡ old) × (o ≡ stopped None None (refusal.words (words_fault_number f)))
 
 abbrev pub ComesTo : List (List ℕ) → Moment → Moment → Option Command → PureOutcome → Type 0

@@ -1,7 +1,10 @@
 -- What a run does: what it promises of the files, of the end, and of what was written.
-use Rattle.std.specs.Prelude.{ℕ, List}
+use Rattle.std.specs.Prelude.{ℕ, List, map}
 use Rattle.meta_base.specs.Shelf.{Moment}
 use Rattle.meta_base.specs.Sink.{Held}
+use Rattle.net_graph.specs.Nets.{PureNet}
+use Rattle.vector_runs.specs.Runs.{AreOfNetworks, AreStable, IsRun, pure_phase}
+use Rattle.vector_runs.specs.declared.run.Run.{Run}
 use Rattle.metacli.specs.Answers.{pure_answer}
 use Rattle.metacli.specs.Outcome.{PureOutcome, answer_in, ComesTo, Shows}
 use Rattle.metacli.specs.Complete.{IsComplete}
@@ -16,3 +19,9 @@ pub record Runs (words : List (List ℕ)) (old new : Moment) (before after : Hel
   pub comes_to : ComesTo words old new e.command outcome
   pub complete : IsComplete words old new outcome
   pub written : Written before (TextOf outcome) after (answer_in outcome) (pure_answer e.answer)
+
+-- a run through these networks: its quiet phases are stable, and its rows and deliveries are of the phases' networks
+pub record IsRunThrough (net : PureNet) (nets : List PureNet) (turns : ℕ) (run : Run) : Type 0 where
+  pub is_run : IsRun net nets turns (map pure_phase run.past) (pure_phase run.last) run.is_quiet
+  pub stable : AreStable net nets (map pure_phase run.past) (pure_phase run.last) run.is_quiet
+  pub of_networks : AreOfNetworks net nets (map pure_phase run.past) (pure_phase run.last)

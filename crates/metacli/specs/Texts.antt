@@ -1,15 +1,21 @@
 -- The printed text of what was decided, and what of it was written.
-use Rattle.std.specs.Prelude.{◌≡◌, ℕ, List, map, Option, take, option_map}
+use Rattle.std.specs.Prelude.{◌≡◌, ℕ, ◌+◌, Bool, true, List, [], ◌∷◌, ◌++◌, length, map, nat_eq, Option, Result, Ok, Err, take, option_map, if◌then◌else◌}
 use Rattle.std.specs.List.{concat, AllByRecursion}
 use Rattle.meta_base.specs.Sink.{Held, Appended, AppendedPart}
+use Rattle.meta_base.specs.declared.ids.Delivery.{Delivery}
 use Rattle.net_graph.specs.Nets.{PureNet}
 use Rattle.net_graph.specs.Tables.{PureRow}
 use Rattle.net_graph.specs.RowTexts.{IsRowOf, row_text}
 use Rattle.topology_file.specs.NetText.{PureNetFile, changed_net}
 use Rattle.report_text.specs.VerdictTexts.{verdicts_text, CanPrintVerdicts}
 use Rattle.report_text.specs.Refusals.{memory, refusal_text, CanRefuse}
-use Rattle.metacli.specs.Answers.{PureAnswer, done, refused, write_fault}
-use Rattle.metacli.specs.Outcome.{PureOutcome, stopped, checked, routed}
+use Rattle.report_text.specs.RunTexts.{delivery_text, end_text, phase_text}
+use Rattle.vector_runs.specs.Runs.{AreOfNetworks, PurePhase}
+use Rattle.metacli.specs.Answers.{PureAnswer, done, refused, spent, write_fault}
+use Rattle.metacli.specs.Behind.{nets_after}
+use Rattle.metacli.specs.declared.putting.Cut.{Cut}
+use Rattle.metacli.specs.declared.putting.Cut.TheVariants.{Sink, Memory}
+use Rattle.metacli.specs.Outcome.{PureOutcome, stopped, checked, routed, ran}
 
 -- the lines of routes; changes leave all names as they are
 abbrev pub rows_text : PureNet → List PureRow → List ℕ
@@ -19,17 +25,53 @@ rows_text net rows = concat (map (row_text net) rows)
 abbrev pub last_net : Option PureNetFile → Option PureNet
 last_net = option_map changed_net
 
--- the text of what a command came to: verdicts, routes, or the one line of a refusal
+-- the lines of the deliveries of a journal
+abbrev pub journal_text : PureNet → List Delivery → List ℕ
+journal_text net journal = concat (map (delivery_text net) journal)
+
+-- the number of a phase, where it isn't the first; its deliveries, where they are asked for
+abbrev pub number_text : ℕ → List ℕ
+number_text number = if nat_eq number 0 then [] else phase_text number
+
+abbrev pub trace_text : Bool → PureNet → List Delivery → List ℕ
+trace_text traced net journal = if traced then journal_text net journal else []
+
+-- both, and then its rows and its end
+abbrev pub phase_lines : Bool → PureNet → ℕ → PurePhase → Bool → List ℕ
+phase_lines traced net number p quiet =
+    number_text number ++ (trace_text traced net p.journal ++ (rows_text net p.rows ++ end_text quiet (length p.journal)))
+
+-- the phases from one number on, each on its network
+abbrev pub run_text : Bool → PureNet → List PureNet → ℕ → List PurePhase → PurePhase → Bool → List ℕ
+run_text traced net nets number [] last quiet = phase_lines traced net number last quiet
+run_text traced net [] number (p ∷ past) last quiet = []
+run_text traced net (m ∷ nets) number (p ∷ past) last quiet = phase_lines traced net number p true ++ run_text traced m nets (number + 1) past last quiet
+
+-- the text of what a command came to: verdicts, routes, phases, or the one line of a refusal
 abbrev pub TextOf : PureOutcome → List ℕ
 TextOf (stopped a f r) = refusal_text r (last_net f)
 TextOf (checked a f v) = verdicts_text a.expression v
 TextOf (routed a f rows) = rows_text f.net rows
+TextOf (ran a f traced past last quiet) = run_text traced f.net (nets_after f.net f.changes) 0 past last quiet
 
 -- that text can be made
 abbrev pub IsPrintable : PureOutcome → Type 0
 IsPrintable (stopped a f r) = CanRefuse r (last_net f)
 IsPrintable (checked a f v) = CanPrintVerdicts a.expression v
 IsPrintable (routed a f rows) = AllByRecursion (IsRowOf f.net) rows
+IsPrintable (ran a f traced past last quiet) = AreOfNetworks f.net (nets_after f.net f.changes) past last
+
+-- a front of the text was appended, and this is what comes behind it
+pub record HasLines (old : Held) (text rest : List ℕ) (new : Held) : Type 0 where
+  pub front : List ℕ
+  pub split : text ≡ front ++ rest
+  pub appended : Appended old front new
+
+-- the text was appended; a proper front of it, since the sink failed; or a front of it, for want of memory
+abbrev pub PutsText : Held → List ℕ → Result (Unit {0}) Cut → Held → Type 0
+PutsText old text (Ok _) new = Appended old text new
+PutsText old text (Err Sink) new = AppendedPart old text new
+PutsText old text (Err Memory) new = (rest : List ℕ) × HasLines old text rest new
 
 -- What was written of the text, by the answer in the end: a proper front of it after a write fault; a
 -- front of it where memory was refused, and all of it where that was decided before; else all of it.
@@ -38,3 +80,9 @@ Written old text new decided write_fault = AppendedPart old text new
 Written old text new decided (refused memory) = (decided ≡ refused memory → Appended old text new) × ((n : ℕ) × Appended old (take n text) new)
 Written old text new decided (refused r) = (refused r ≡ decided) × Appended old text new
 Written old text new decided done = (done ≡ decided) × Appended old text new
+Written old text new decided spent = (spent ≡ decided) × Appended old text new
+
+-- the answer where it was cut short
+abbrev pub cut_answer : Cut → PureAnswer
+cut_answer Sink = write_fault
+cut_answer Memory = refused memory

@@ -1,8 +1,8 @@
-// A network behind its changes.
+// The networks behind changes.
 ghost use Rattle.std.specs.Prelude.{◌≡◌, IfOk, map};
 ghost use Rattle.net_graph.specs.Changes.{AreChanges, after_all};
 ghost use Rattle.net_graph.specs.Views.{pure_change};
-ghost use Rattle.metacli.specs.Behind.{last_of};
+ghost use Rattle.metacli.specs.Behind.{last_of, nets_after};
 
 use meta_base::NoMemory;
 use net_graph::{Change, Net};
@@ -21,6 +21,22 @@ pub fn net_behind(alloc: Global, net: &Net, changes: &[Change]) -> Result<Option
                 Some(last) => Ok(Some(last)),
                 None => Ok(Some(next)),
             }
+        }
+    }
+}
+
+/// The networks behind the first of these changes, the first two, and so on.
+pub fn nets_behind(alloc: Global, net: &Net, changes: &[Change]) -> Result<Vec<Net>, NoMemory>
+    requires { AreChanges net.now (map pure_change changes.now) }
+    ensures { IfOk result (λ nets. nets.items ≡ nets_after net.now (map pure_change changes.now)) }
+{
+    match changes {
+        [] => Ok(Vec::new(alloc)),
+        [change, rest @ ..] => {
+            let next = net.changed(alloc, change)?;
+            let mut nets = nets_behind(alloc, &next, rest)?;
+            nets.insert(0, next)?;
+            Ok(nets)
         }
     }
 }

@@ -4,17 +4,20 @@ ghost use Rattle.metacli.specs.Answers.{status_of};
 use crate::{Command, WordsFault};
 use alg_classes::Instance;
 use alg_model::Alg;
-use meta_base::{ArcId, List, Which};
+use meta_base::{ArcId, Delivery, List, Which};
 use net_graph::{Change, Net, RouteRow};
 use property_infer::Verdicts;
 use raml_syntax::ExprFault;
 use topology_file::NetFault;
+use vector_runs::Phase;
 
 /// How a run ended.
 #[derive(Debug, Drop)]
 pub enum Answer {
     /// The command was carried out.
     Done,
+    /// It was carried out until all turns were used, and something was on its way still.
+    Spent,
     /// The words mean no command.
     BadWords(WordsFault),
     /// The bytes of the expression file mean no algebra.
@@ -47,9 +50,13 @@ pub struct Ended {
     pub changes: List<Change>,
     /// The verdicts, where `check` was carried out.
     pub verdicts: Option<Verdicts>,
-    /// The routes, where `route` was carried out, on the network behind all changes: for each destination
-    /// in order, each node in order.
+    /// The routes, where `route` was carried out, on the network behind all changes; those of the last phase, where
+    /// `run` or `trace` was: for each destination in order, each node in order.
     pub rows: List<RouteRow>,
+    /// The deliveries of the last phase, where `run` or `trace` was carried out, by clock, then by listener.
+    pub journal: List<Delivery>,
+    /// The phases before the last, where `run` or `trace` was carried out.
+    pub past: List<Phase>,
     /// The answer before anything was written.
     pub decided: Answer,
     /// The answer: `decided`, or `WriteFault` or `NoMemory` where writing ended early.
@@ -57,7 +64,8 @@ pub struct Ended {
 }
 
 /// The status that the program ends with: 0 done, 1 bad words, 2 a bad expression or network, 3 a label that
-/// lacks a property, 5 a read fault, 6 a write fault, 7 out of memory, 8 a file that is too long.
+/// lacks a property, 4 turns that were used up, 5 a read fault, 6 a write fault, 7 out of memory, 8 a file that is
+/// too long.
 pub fn status(answer: &Answer) -> u8
     ensures { result ≡ status_of answer.now }
 {
@@ -66,6 +74,7 @@ pub fn status(answer: &Answer) -> u8
         Answer::BadWords(_) => 1,
         Answer::BadExpr(_) | Answer::BadNet(_) => 2,
         Answer::Lacks { .. } => 3,
+        Answer::Spent => 4,
         Answer::ReadFault(_) => 5,
         Answer::WriteFault => 6,
         Answer::NoMemory => 7,

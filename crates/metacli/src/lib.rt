@@ -6,11 +6,15 @@ mod behind;
 mod checking;
 mod ended;
 mod outcome;
+mod phases;
+mod putting;
 mod reading;
 mod routing;
+mod running;
 mod top;
 mod writing;
 
 pub use command_words::{Command, WordsFault, read_words};
 pub use ended::{Answer, Ended, status};
 pub use top::run_meta;
+pub use vector_runs::Phase;

@@ -1,6 +1,6 @@
 // What a run comes to before anything is written, and the end that shows it.
-ghost use Rattle.std.specs.Prelude.{◌≡◌, None};
-ghost use Rattle.metacli.specs.Answers.{pure_answer, pure_stop, refused};
+ghost use Rattle.std.specs.Prelude.{◌≡◌, ◌≢◌, None, if◌then◌else◌};
+ghost use Rattle.metacli.specs.Answers.{done, memory_refused, pure_answer, pure_stop, refused, spent, write_fault};
 ghost use Rattle.metacli.specs.Outcome.{Shows, stopped};
 ghost use Rattle.metacli.specs.declared.outcome.Stop.TheVariants.{Memory};
 ghost use Rattle.metacli.specs.Views.{pure_outcome};
@@ -9,7 +9,7 @@ ghost use Rattle.report_text.specs.Refusals.{lacks, pure_refusal};
 
 use crate::{Answer, Command, Ended, WordsFault};
 use alg_model::Alg;
-use meta_base::{List, NoMemory, Which};
+use meta_base::{Delivery, List, NoMemory, Which};
 use net_facts::Lack;
 use net_graph::{Net, RouteRow};
 use property_infer::Verdicts;
@@ -17,6 +17,7 @@ use raml_syntax::ExprFault;
 use report_text::Refusal;
 use std::alloc::Global;
 use topology_file::{NetFault, NetFile};
+use vector_runs::{Phase, Run};
 
 /// Why a command isn't carried out.
 #[derive(Clone, Copy, Debug)]
@@ -95,6 +96,16 @@ pub enum Outcome {
         file: NetFile,
         rows: List<RouteRow>,
     },
+    /// The phases of path-vector nodes on the network of a file, and on those behind its changes.
+    Ran {
+        alg: Alg,
+        file: NetFile,
+        /// The networks behind the first change, the first two, and so on.
+        changed: List<Net>,
+        /// Deliveries are printed.
+        is_traced: bool,
+        run: Run,
+    },
 }
 
 impl Outcome {
@@ -114,9 +125,10 @@ impl Outcome {
         ensures shows { Shows result command (pure_outcome self) }
         ensures answer { result.answer ≡ answer }
     {
-        let none = List::new(alloc);
-        let (alg, file, verdicts, rows, decided) = match self {
-            Outcome::Stopped { alg, file, stop } => (alg, file, None, none, stop.answer()),
+        let (alg, file, made, decided) = match self {
+            Outcome::Stopped { alg, file, stop } => {
+                (alg, file, Made::nothing(alloc), stop.answer())
+            }
             Outcome::Lacking {
                 alg,
                 file,
@@ -124,15 +136,39 @@ impl Outcome {
                 lack,
             } => {
                 drop(behind);
-                (Some(alg), Some(file), None, none, lack_answer(lack))
+                (
+                    Some(alg),
+                    Some(file),
+                    Made::nothing(alloc),
+                    lack_answer(lack),
+                )
             }
             Outcome::Checked {
                 alg,
                 file,
                 verdicts,
-            } => (Some(alg), file, Some(verdicts), none, Answer::Done),
-            Outcome::Routed { alg, file, rows } => {
-                (Some(alg), Some(file), None, rows, Answer::Done)
+            } => (
+                Some(alg),
+                file,
+                Made::of_verdicts(alloc, verdicts),
+                Answer::Done,
+            ),
+            Outcome::Routed { alg, file, rows } => (
+                Some(alg),
+                Some(file),
+                Made::of_rows(alloc, rows),
+                Answer::Done,
+            ),
+            Outcome::Ran {
+                alg,
+                file,
+                changed,
+                run,
+                ..
+            } => {
+                drop(changed);
+                let decided = end_answer(run.is_quiet);
+                (Some(alg), Some(file), Made::of_run(run), decided)
             }
         };
         let (net, changes) = match file {
@@ -144,11 +180,92 @@ impl Outcome {
             alg,
             net,
             changes,
-            verdicts,
-            rows,
+            verdicts: made.verdicts,
+            rows: made.rows,
+            journal: made.journal,
+            past: made.past,
             decided,
             answer,
         }
+    }
+}
+
+// What a command made.
+#[derive(Drop)]
+struct Made {
+    verdicts: Option<Verdicts>,
+    rows: List<RouteRow>,
+    journal: List<Delivery>,
+    past: List<Phase>,
+}
+
+impl Made {
+    ghost use Rattle.std.specs.Prelude.{[], Some};
+
+    // Nothing.
+    fn nothing(alloc: Global) -> Made
+        ensures { result ≡ record { verdicts = None; rows = []; journal = []; past = [] } }
+    {
+        Made {
+            verdicts: None,
+            rows: List::new(alloc),
+            journal: List::new(alloc),
+            past: List::new(alloc),
+        }
+    }
+
+    // Verdicts.
+    fn of_verdicts(alloc: Global, verdicts: Verdicts) -> Made
+        ensures { result ≡ record { verdicts = Some verdicts; rows = []; journal = []; past = [] } }
+    {
+        Made {
+            verdicts: Some(verdicts),
+            rows: List::new(alloc),
+            journal: List::new(alloc),
+            past: List::new(alloc),
+        }
+    }
+
+    // Routes.
+    fn of_rows(alloc: Global, rows: List<RouteRow>) -> Made
+        ensures { result ≡ record { verdicts = None; rows = rows; journal = []; past = [] } }
+    {
+        Made {
+            verdicts: None,
+            rows,
+            journal: List::new(alloc),
+            past: List::new(alloc),
+        }
+    }
+
+    // The phases of a run.
+    fn of_run(run: Run) -> Made
+        ensures { result ≡ record {
+          verdicts = None;
+          rows = run.last.rows;
+          journal = run.last.journal;
+          past = run.past;
+        } }
+    {
+        Made {
+            verdicts: None,
+            rows: run.last.rows,
+            journal: run.last.journal,
+            past: run.past,
+        }
+    }
+}
+
+// The answer to a run that ended with nothing on its way, or with all turns used.
+pub(crate) fn end_answer(is_quiet: bool) -> Answer
+    ensures answer { pure_answer result ≡ if is_quiet then done else spent }
+    ensures sink { pure_answer result ≢ write_fault }
+    ensures memory { pure_answer result ≢ memory_refused }
+{
+    if is_quiet {
+        Answer::Done
+    } else {
+        Answer::Spent
     }
 }
 

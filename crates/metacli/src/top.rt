@@ -1,6 +1,6 @@
 ghost use Rattle.std.specs.Prelude.{◌≡◌, ◌<◌, length, Some, None};
-ghost use Rattle.metacli.specs.Outcome.{ComesTo, IsChecked, IsCheckedOn, IsRouted, word_at};
-ghost use Rattle.command_words.specs.Words.{AreWorkers};
+ghost use Rattle.metacli.specs.Outcome.{ComesTo, IsChecked, IsCheckedOn, IsRouted, IsRunOn, word_at};
+ghost use Rattle.command_words.specs.Words.{AreTurns, AreWorkers};
 ghost use Rattle.metacli.specs.Runs.{Runs};
 ghost use Rattle.metacli.specs.Views.{CanBeWritten, pure_outcome};
 
@@ -8,6 +8,7 @@ use crate::checking::{check, check_network};
 use crate::outcome::{Outcome, Stop};
 use crate::reading::{read_expression, read_network};
 use crate::routing::route;
+use crate::running::run;
 use crate::writing::write;
 use crate::{Command, Ended, read_words};
 use meta_base::{Gate, Shelf, Sink, Text};
@@ -27,7 +28,7 @@ pub fn run_meta<R: AllocGlobal + Threads + Sync, S: Shelf, K: Sink, G: Gate>(
     words: &[Text],
     shelf: &mut S,
     out: &mut K,
-    _gate: &G,
+    gate: &G,
 ) -> Ended
     ensures { Runs words.now (S.now_is shelf.old) (S.now_is shelf.new) (K.holds out.old) (K.holds out.new) result }
 {
@@ -37,16 +38,17 @@ pub fn run_meta<R: AllocGlobal + Threads + Sync, S: Shelf, K: Sink, G: Gate>(
     no_fault_beside_an_algebra();
     one_text_one_network();
     let alloc = rt.alloc();
-    let (command, outcome) = decide(rt, words, shelf);
+    let (command, outcome) = decide(rt, words, shelf, gate);
     let answer = write(alloc, out, &outcome);
     outcome.ended(alloc, command, answer)
 }
 
 // The command of the words, and what it comes to.
-fn decide<R: AllocGlobal + Threads + Sync, S: Shelf>(
+fn decide<R: AllocGlobal + Threads + Sync, S: Shelf, G: Gate>(
     rt: &R,
     words: &[Text],
     shelf: &mut S,
+    gate: &G,
 ) -> (Option<Command>, Outcome)
     ensures comes_to { ComesTo words.now (S.now_is shelf.old) (S.now_is shelf.new) result.0 (pure_outcome result.1) }
     ensures printable { CanBeWritten result.1 }
@@ -68,6 +70,34 @@ fn decide<R: AllocGlobal + Threads + Sync, S: Shelf>(
             name_at(words, file),
             name_at(words, net),
             workers,
+        ),
+        Command::Run {
+            file,
+            net,
+            turns,
+            ..
+        } => run_files(
+            alloc,
+            shelf,
+            name_at(words, file),
+            name_at(words, net),
+            turns,
+            false,
+            gate,
+        ),
+        Command::Trace {
+            file,
+            net,
+            turns,
+            ..
+        } => run_files(
+            alloc,
+            shelf,
+            name_at(words, file),
+            name_at(words, net),
+            turns,
+            true,
+            gate,
         ),
     };
     (Some(command), outcome)
@@ -130,6 +160,35 @@ fn route_files<R: AllocGlobal + Threads + Sync, S: Shelf>(
     };
     match read_network(alloc, shelf, &alg, net) {
         Ok(file) => route(rt, alg, file, workers),
+        Err(stop) => Outcome::Stopped {
+            alg: Some(alg),
+            file: None,
+            stop,
+        },
+    }
+}
+
+// What `run` or `trace` comes to on the files of these names, with so many turns.
+fn run_files<S: Shelf, G: Gate>(
+    alloc: Global,
+    shelf: &mut S,
+    file: &str,
+    net: &str,
+    turns: u64,
+    is_traced: bool,
+    gate: &G,
+) -> Outcome
+    requires { AreTurns turns }
+    ensures ran { IsRunOn is_traced turns file.now net.now (S.now_is shelf.old) (S.now_is shelf.new)
+        (pure_outcome result) }
+    ensures printable { CanBeWritten result }
+{
+    let alg = match read_expression(alloc, shelf, file) {
+        Ok(alg) => alg,
+        Err(stop) => return Outcome::refused(stop),
+    };
+    match read_network(alloc, shelf, &alg, net) {
+        Ok(file) => run(alloc, alg, file, turns, is_traced, gate),
         Err(stop) => Outcome::Stopped {
             alg: Some(alg),
             file: None,

@@ -9,14 +9,16 @@ ghost use Rattle.net_graph.specs.RowTexts.{IsRowOf};
 ghost use Rattle.property_infer.specs.Views.{pure_verdicts};
 ghost use Rattle.report_text.specs.VerdictTexts.{CanPrintVerdicts, lines_on};
 ghost use Rattle.report_text.specs.Refusals.{CanLack, lacks, lacks_text, refusal_text};
-ghost use Rattle.metacli.specs.Answers.{pure_answer, pure_stop, done, refused, write_fault};
+ghost use Rattle.metacli.specs.Answers.{pure_answer, pure_stop, refused, write_fault};
 ghost use Rattle.metacli.specs.Outcome.{answer_in};
-ghost use Rattle.metacli.specs.Texts.{TextOf, Written, rows_text};
+ghost use Rattle.metacli.specs.Texts.{PutsText, TextOf, Written, rows_text};
 ghost use Rattle.metacli.specs.Views.{CanBeWritten, pure_outcome};
 
 use crate::Answer;
 use crate::behind::last_of;
-use crate::outcome::{Outcome, Stop};
+use crate::outcome::{Outcome, Stop, end_answer};
+use crate::phases::put_phases;
+use crate::putting::{Cut, answered, put_line};
 use alg_classes::{Instance, Property};
 use alg_model::{Alg, Value};
 use meta_base::{Failed, NoMemory, Sink, Text, put_all};
@@ -40,10 +42,33 @@ pub fn write<K: Sink>(alloc: Global, out: &mut K, outcome: &Outcome) -> Answer
             lack,
             ..
         } => write_lack(alloc, out, last_of(behind, &file.net), lack),
-        Outcome::Checked { alg, verdicts, .. } => {
-            write_verdicts(alloc, out, alg, verdicts, &Property::ALL)
-        }
-        Outcome::Routed { file, rows, .. } => write_rows(alloc, out, &file.net, rows.as_slice()),
+        Outcome::Checked { alg, verdicts, .. } => answered(
+            put_verdicts(alloc, out, alg, verdicts, &Property::ALL),
+            Answer::Done,
+        ),
+        Outcome::Routed { file, rows, .. } => answered(
+            put_rows(alloc, out, &file.net, rows.as_slice()),
+            Answer::Done,
+        ),
+        Outcome::Ran {
+            file,
+            changed,
+            is_traced,
+            run,
+            ..
+        } => answered(
+            put_phases(
+                alloc,
+                out,
+                &file.net,
+                changed.as_slice(),
+                0,
+                *is_traced,
+                run.past.as_slice(),
+                run,
+            ),
+            end_answer(run.is_quiet),
+        ),
     }
 }
 
@@ -124,47 +149,42 @@ fn copy_second(alloc: Global, second: &Option<Value>) -> Result<Option<Value>, N
     }
 }
 
-// Writes the lines of the verdicts on these properties.
-fn write_verdicts<K: Sink>(
+// Puts the lines of the verdicts on these properties.
+fn put_verdicts<K: Sink>(
     alloc: Global,
     out: &mut K,
     alg: &Alg,
     verdicts: &Verdicts,
     properties: &[Property],
-) -> Answer
+) -> Result<(), Cut>
     requires { CanPrintVerdicts alg.now.expression (pure_verdicts verdicts.now) }
-    ensures { Written (K.holds out.old)
+    ensures { PutsText (K.holds out.old)
         (lines_on alg.now.expression (pure_verdicts verdicts.now) (map pure_property properties.now))
-        (K.holds out.new) done (pure_answer result) }
+        result (K.holds out.new) }
 {
     for property in properties {
-        match verdict_line(alloc, alg, *property, verdicts.on(*property)) {
-            Ok(line) => match put_all(out, line.as_str().as_bytes()) {
-                Ok(()) => {}
-                Err(Failed) => return Answer::WriteFault,
-            },
-            Err(NoMemory) => return Answer::NoMemory,
-        }
+        put_line(
+            out,
+            verdict_line(alloc, alg, *property, verdicts.on(*property)),
+        )?;
     }
-    Answer::Done
+    Ok(())
 }
 
-// Writes the lines of the rows.
-fn write_rows<K: Sink>(alloc: Global, out: &mut K, net: &Net, rows: &[RouteRow]) -> Answer
+/// Puts the lines of rows of a network.
+pub(crate) fn put_rows<K: Sink>(
+    alloc: Global,
+    out: &mut K,
+    net: &Net,
+    rows: &[RouteRow],
+) -> Result<(), Cut>
     requires { AllByRecursion (IsRowOf net.now) (map pure_row rows.now) }
-    ensures { Written (K.holds out.old) (rows_text net.now (map pure_row rows.now)) (K.holds out.new)
-        done (pure_answer result) }
+    ensures { PutsText (K.holds out.old) (rows_text net.now (map pure_row rows.now)) result (K.holds out.new) }
 {
     for row in rows {
-        match row_line(alloc, net, row) {
-            Ok(line) => match put_all(out, line.as_str().as_bytes()) {
-                Ok(()) => {}
-                Err(Failed) => return Answer::WriteFault,
-            },
-            Err(NoMemory) => return Answer::NoMemory,
-        }
+        put_line(out, row_line(alloc, net, row))?;
     }
-    Answer::Done
+    Ok(())
 }
 
 // Writes a line, and answers what was decided, or that the sink failed.

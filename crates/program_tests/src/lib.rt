@@ -10,4 +10,6 @@ mod program;
 #[cfg(test)]
 mod routes;
 #[cfg(test)]
+mod runs;
+#[cfg(test)]
 mod tables;

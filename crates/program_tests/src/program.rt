@@ -157,6 +157,7 @@ fn words_are_refused(rt: HostRuntime) -> Result<(), Fail> {
                 &["route", "f"],
                 &["route", "f", "n", "n"],
                 &["route", "f", "n", "--workers"],
+                &["run", "f", "n", "--turns"],
                 &["route", "f", "--workers", "n"],
                 &["route", "f", "--workers", "x"],
             ],
@@ -165,6 +166,8 @@ fn words_are_refused(rt: HostRuntime) -> Result<(), Fail> {
             b"words refused: C4\n",
             &[
                 &["route", "f", "n", "--workers", "0"],
+                &["run", "f", "n", "--turns", "1000001"],
+                &["trace", "f", "n", "--turns", "-1"],
                 &["route", "f", "n", "--workers", "17"],
                 &["route", "f", "n", "--workers", "x"],
                 &["route", "f", "n", "--workers", ""],
@@ -178,6 +181,8 @@ fn words_are_refused(rt: HostRuntime) -> Result<(), Fail> {
             b"words refused: C5\n",
             &[
                 &["route", "f", "n", "--workers=4"],
+                &["route", "f", "n", "--turns", "4"],
+                &["run", "f", "n", "--turns", "4", "--turns", "4"],
                 &["route", "f", "n", "--"],
                 &["route", "--"],
                 &["route", "f", "n", "--workers", "2", "--workers", "3"],

@@ -1,8 +1,7 @@
 use Rattle.std.proofs.Common.{map, drop}
 use Rattle.net_graph.specs.Views.{pure_row}
-use Rattle.metacli.specs.Texts.{rows_text}
-use Rattle.metacli.proofs.Written.{HasLines}
-use Rattle.metacli.proofs.writing.write_rows.Given as goal
+use Rattle.metacli.specs.Texts.{HasLines, rows_text}
+use Rattle.metacli.proofs.writing.put_rows.Given as goal
 
 -- the lines of the rows so far were appended
 abbrev pub invariant-loop-row : goal.invariant-loop-row

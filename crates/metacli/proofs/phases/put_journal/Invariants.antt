@@ -1,0 +1,8 @@
+use Rattle.std.proofs.Common.{drop}
+use Rattle.metacli.specs.Texts.{HasLines, journal_text}
+use Rattle.metacli.proofs.phases.put_journal.Given as goal
+
+-- the lines of the deliveries so far were appended
+abbrev pub invariant-loop-delivery : goal.invariant-loop-delivery
+invariant-loop-delivery g l =
+    HasLines (g.K.Sink.holds l.fn.out) (journal_text l.fn.net l.fn.journal) (journal_text l.fn.net (drop l.delivery-index l.fn.journal)) (g.K.Sink.holds l.out)

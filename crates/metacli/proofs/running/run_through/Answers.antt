@@ -1,0 +1,34 @@
+use Rattle.std.proofs.Common.{◌≡◌, map, subst, sym, ◌∙◌}
+use Rattle.std.specs.List.{AllByRecursion}
+use Rattle.net_graph.specs.Changes.{AreChanges}
+use Rattle.net_graph.specs.Nets.{IsNet}
+use Rattle.net_graph.specs.Views.{pure_change}
+use Rattle.vector_runs.specs.Runs.{AreLater, pure_phase}
+use Rattle.metacli.specs.Behind.{nets_after}
+use Rattle.metacli.proofs.NetsBehind.{nets_are, nets_are_later}
+use Rattle.metacli.proofs.running.run_through.Goals as goal
+
+pub run_phases-requires-clause-changed : goal.run_phases-requires-clause-changed
+run_phases-requires-clause-changed g c _ _ =
+    let net = c.args.file.now.net in
+    let changes = map pure_change c.as_slice.result.now in
+    subst (AreLater net) (sym (c.as_slice-2.ensures ∙ (c.from_vec-changed.ensures ∙ c.in_ok-nets_behind.ensures))) (nets_are_later net changes)
+
+pub returns-clause-run : goal.returns-clause-run
+returns-clause-run g c =
+    let net = c.args.file.now.net in
+    let nets = c.from_vec-changed.result in
+    let changes = map pure_change c.as_slice.result.now in
+    let run = c.in_ok-run.run' in
+    let past = map pure_phase run.past in
+    let last = pure_phase run.last in
+    let is : nets ≡ nets_after net changes = c.from_vec-changed.ensures ∙ c.in_ok-nets_behind.ensures in
+    let may : AreChanges net changes = rw (← c.as_slice.ensures) at c.requires.changes in
+    let all : AllByRecursion IsNet nets = subst (AllByRecursion IsNet) (sym is) (nets_are net changes c.alg.ensures.net may) in
+    let later : AreLater net nets = subst (AreLater net) (sym is) (nets_are_later net changes) in
+    let is_run = rw c.as_slice-2.ensures at c.in_ok-run.ensures in
+    record {
+      is_run = is_run;
+      stable = c.quiet_phases_are_stable.ensures net nets c.args.turns past last run.is_quiet c.alg.ensures.net all later is_run;
+      of_networks = c.phases_are_of_networks.ensures net nets c.args.turns past last run.is_quiet c.alg.ensures.net all later is_run;
+    }

@@ -1,0 +1,103 @@
+// Putting the lines of runs.
+ghost use Rattle.std.specs.Prelude.{◌≡◌, ◌+◌, ◌^◌, ◌<◌, length, map};
+ghost use Rattle.std.specs.List.{AllByRecursion};
+ghost use Rattle.metacli.specs.Texts.{PutsText, journal_text, number_text, phase_lines, run_text, trace_text};
+ghost use Rattle.vector_runs.specs.Runs.{AreOfNetworks, IsOfNetwork, pure_phase};
+
+use crate::putting::{Cut, put_line};
+use crate::writing::put_rows;
+use meta_base::{Delivery, Sink};
+use net_graph::Net;
+use report_text::{delivery_line, end_line, phase_line};
+use std::alloc::Global;
+use vector_runs::{Phase, Run};
+
+/// Puts the phases from one number on: these of the past, the first on this network and the others on the changed
+/// ones, and then the run's last.
+pub(crate) fn put_phases<K: Sink>(
+    alloc: Global,
+    out: &mut K,
+    net: &Net,
+    changed: &[Net],
+    number: usize,
+    is_traced: bool,
+    past: &[Phase],
+    run: &Run,
+) -> Result<(), Cut>
+    requires of { AreOfNetworks net.now changed.now (map pure_phase past.now) (pure_phase run.now.last) }
+    requires few { number + length past.now < 2 ^ 64 }
+    ensures { PutsText (K.holds out.old) (run_text is_traced net.now changed.now number
+        (map pure_phase past.now) (pure_phase run.now.last) run.now.is_quiet) result (K.holds out.new) }
+{
+    let Some((phase, rest)) = past.split_first() else {
+        return put_phase(alloc, out, net, number, is_traced, &run.last, run.is_quiet);
+    };
+    let Some((next, later)) = changed.split_first() else {
+        unreachable!()
+    };
+    put_phase(alloc, out, net, number, is_traced, phase, true)?;
+    put_phases(alloc, out, next, later, number + 1, is_traced, rest, run)
+}
+
+// Puts a phase: its number, where it isn't the first; its deliveries, where they are asked for; its rows; its end.
+fn put_phase<K: Sink>(
+    alloc: Global,
+    out: &mut K,
+    net: &Net,
+    number: usize,
+    is_traced: bool,
+    phase: &Phase,
+    is_quiet: bool,
+) -> Result<(), Cut>
+    requires { IsOfNetwork net.now (pure_phase phase.now) }
+    ensures { PutsText (K.holds out.old) (phase_lines is_traced net.now number (pure_phase phase.now) is_quiet)
+        result (K.holds out.new) }
+{
+    let journal = phase.journal.as_slice();
+    put_number(alloc, out, number)?;
+    put_trace(alloc, out, net, is_traced, journal)?;
+    put_rows(alloc, out, net, phase.rows.as_slice())?;
+    put_line(out, end_line(alloc, is_quiet, journal.len()))
+}
+
+// Puts the number of a phase, where it isn't the first.
+fn put_number<K: Sink>(alloc: Global, out: &mut K, number: usize) -> Result<(), Cut>
+    ensures { PutsText (K.holds out.old) (number_text number) result (K.holds out.new) }
+{
+    if number == 0 {
+        return Ok(());
+    }
+    put_line(out, phase_line(alloc, number))
+}
+
+// Puts the deliveries, where they are asked for.
+fn put_trace<K: Sink>(
+    alloc: Global,
+    out: &mut K,
+    net: &Net,
+    is_traced: bool,
+    journal: &[Delivery],
+) -> Result<(), Cut>
+    requires { AllByRecursion (λ d. d.arc.0 < length net.now.arcs) journal.now }
+    ensures { PutsText (K.holds out.old) (trace_text is_traced net.now journal.now) result (K.holds out.new) }
+{
+    if !is_traced {
+        return Ok(());
+    }
+    put_journal(alloc, out, net, journal)
+}
+
+fn put_journal<K: Sink>(
+    alloc: Global,
+    out: &mut K,
+    net: &Net,
+    journal: &[Delivery],
+) -> Result<(), Cut>
+    requires { AllByRecursion (λ d. d.arc.0 < length net.now.arcs) journal.now }
+    ensures { PutsText (K.holds out.old) (journal_text net.now journal.now) result (K.holds out.new) }
+{
+    for delivery in journal {
+        put_line(out, delivery_line(alloc, net, delivery))?;
+    }
+    Ok(())
+}
