@@ -10,7 +10,7 @@ use Rattle.alg_model.specs.Laws.{total_preorder}
 use Rattle.meta_base.specs.NodePaths.{compare_nodes, compare_paths}
 use Rattle.net_graph.specs.Routes.{PureRoute, compare_routes, Better, is_less, is_better}
 use Rattle.best_first.specs.Found.{better_of}
-use Rattle.net_graph.specs.RouteLaws.{paths_flip}
+use Rattle.net_graph.specs.RouteOrder.{not_better_trans, better_asymmetric}
 
 -- the second isn't better than the first
 abbrev pub IsUnbeaten : PureCarrier → Option PureRoute → Option PureRoute → Type 0
@@ -19,57 +19,18 @@ IsUnbeaten c (Some r) None = Unit {0}
 IsUnbeaten c None (Some s) = ⊥
 IsUnbeaten c None None = Unit {0}
 
-nodes_trans : (p q r : List ℕ) → compare_nodes q p ≢ Less → compare_nodes r q ≢ Less → compare_nodes r p ≢ Less
-nodes_trans [] [] r f g = g
-nodes_trans [] (j ∷ q) [] f g = λ e. cc
-nodes_trans [] (j ∷ q) (k ∷ r) f g = λ e. cc
-nodes_trans (i ∷ p) [] r f g = absurd (f refl)
-nodes_trans (i ∷ p) (j ∷ q) [] f g = absurd (g refl)
-nodes_trans (i ∷ p) (j ∷ q) (k ∷ r) f g =
-    by i j k (compare_nodes q p) (compare_nodes r q) (compare_nodes r p) (nodes_trans p q r) f g
-  where
-    by : (i j k : ℕ) (x y z : Ordering) → (x ≢ Less → y ≢ Less → z ≢ Less) → ordering_then (nat_cmp j i) x ≢ Less → ordering_then (nat_cmp k j) y ≢ Less → ordering_then (nat_cmp k i) z ≢ Less
-    by i j k x y z h f g = grind (arith, nat_tests)
-
-paths_trans : (p q r : List ℕ) → compare_paths q p ≢ Less → compare_paths r q ≢ Less → compare_paths r p ≢ Less
-paths_trans p q r f g = by (length p) (length q) (length r) (compare_nodes q p) (compare_nodes r q) (compare_nodes r p) (nodes_trans p q r) f g
-  where
-    by : (i j k : ℕ) (x y z : Ordering) → (x ≢ Less → y ≢ Less → z ≢ Less) → ordering_then (nat_cmp j i) x ≢ Less → ordering_then (nat_cmp k j) y ≢ Less → ordering_then (nat_cmp k i) z ≢ Less
-    by i j k x y z h f g = grind (arith, nat_tests)
-
-joined : (xy yx yz zy xz zx p q r : Ordering) → yx ≡ ordering_reverse xy → zy ≡ ordering_reverse yz → zx ≡ ordering_reverse xz
-    → (xy ≡ Less → yz ≡ Less → xz ≡ Less) → (xy ≡ Equal → xz ≡ yz) → (zy ≡ Equal → zx ≡ yx)
-    → (p ≢ Less → q ≢ Less → r ≢ Less) → ordering_then yx p ≢ Less → ordering_then zy q ≢ Less → ordering_then zx r ≢ Less
-joined xy yx yz zy xz zx p q r a b d t e h k f g = grind arith
-
-routes_trans : (c : PureCarrier) (x y z : PureRoute) → In c x.value → In c y.value → In c z.value → ¬ Better c y x → ¬ Better c z y → ¬ Better c z x
-routes_trans c x y z i j k f g =
-    let p = total_preorder c in
-    joined (Order c x.value y.value) (Order c y.value x.value) (Order c y.value z.value) (Order c z.value y.value) (Order c x.value z.value) (Order c z.value x.value)
-    (compare_paths y.path x.path) (compare_paths z.path y.path) (compare_paths z.path x.path)
-    (p.flip x.value y.value i j) (p.flip y.value z.value j k) (p.flip x.value z.value i k)
-    (p.trans x.value y.value z.value i j k) (p.congr x.value y.value z.value i j k) (p.congr z.value y.value x.value k j i)
-    (paths_trans x.path y.path z.path) f g
-
 pub unbeaten_by_all : (c : PureCarrier) (x y z : Option PureRoute) → IfSome x (λ r. In c r.value) → IfSome y (λ r. In c r.value) → IfSome z (λ r. In c r.value)
     → IsUnbeaten c x y → IsUnbeaten c y z → IsUnbeaten c x z
-unbeaten_by_all c (Some x) (Some y) (Some z) i j k f g = routes_trans c x y z i j k f g
+unbeaten_by_all c (Some x) (Some y) (Some z) i j k f g = not_better_trans c x y z i j k f g
 unbeaten_by_all c (Some x) (Some y) None i j k f g = tt
 unbeaten_by_all c (Some x) None (Some z) i j k f g = absurd g
 unbeaten_by_all c (Some x) None None i j k f g = tt
 unbeaten_by_all c None (Some y) z i j k f g = absurd f
 unbeaten_by_all c None None z i j k f g = g
 
-asymmetric : (c : PureCarrier) (x y : PureRoute) → In c x.value → In c y.value → Better c x y → ¬ Better c y x
-asymmetric c x y i j =
-    by (Order c x.value y.value) (Order c y.value x.value) (compare_paths x.path y.path) (compare_paths y.path x.path) ((total_preorder c).flip x.value y.value i j) (paths_flip x.path y.path)
-  where
-    by : (a b p q : Ordering) → b ≡ ordering_reverse a → q ≡ ordering_reverse p → ordering_then a p ≡ Less → ordering_then b q ≢ Less
-    by a b p q e h f = grind arith
-
 pub not_itself : (c : PureCarrier) (x : Option PureRoute) → IfSome x (λ r. In c r.value) → IsUnbeaten c x x
 not_itself c None i = tt
-not_itself c (Some x) i = λ e. asymmetric c x x i i e e
+not_itself c (Some x) i = λ e. better_asymmetric c x x i i e e
 
 is_less-true : (o : Ordering) → is_less o ≡ true → o ≡ Less
 is_less-true Less e = refl
@@ -102,7 +63,7 @@ better_beats_both c None (Some s) i j = (tt, not_itself c (Some s) j)
 better_beats_both c (Some r) (Some s) i j = by (is_better c s r) refl
   where
     by : (b : Bool) → is_better c s r ≡ b → IsUnbeaten c (cond b (Some s) (Some r)) (Some r) × IsUnbeaten c (cond b (Some s) (Some r)) (Some s)
-    by true e = (asymmetric c s r j i (is_less-true (compare_routes c s r) e), not_itself c (Some s) j)
+    by true e = (better_asymmetric c s r j i (is_less-true (compare_routes c s r) e), not_itself c (Some s) j)
     by false e = (not_itself c (Some r) i, is_less-false (compare_routes c s r) e)
 
 -- to take the same offer twice is to take it once

@@ -22,3 +22,4 @@ pub mod RowTexts
 pub mod Unbeaten
 pub mod ArcLaws
 pub mod RouteLaws
+pub mod RouteOrder

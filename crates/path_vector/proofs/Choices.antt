@@ -20,7 +20,7 @@ use Rattle.path_vector.specs.Choosing.{choice_may_be, may_be_parts, item_is_offe
 use Rattle.net_graph.specs.Tables.{is_among}
 use Rattle.alg_model.specs.Application.{App}
 use Rattle.meta_base.specs.NodePaths.{numbers}
-use Rattle.path_vector.specs.RouteOrder.{not_better_trans, better_asymmetric}
+use Rattle.net_graph.specs.RouteOrder.{not_better_trans, better_asymmetric}
 use Rattle.path_vector.specs.declared.neighbour.Neighbour.{Neighbour}
 use Rattle.path_vector.specs.declared.known.Known.{Known}
 use Rattle.path_vector.specs.Known.{better_of, entry_of, known_route, heard_by, IsNeighbour, AreNeighbours}

@@ -20,7 +20,7 @@ use Rattle.path_vector.specs.Node.{PvState, own_offers, offer_by, offers_to, bes
 use Rattle.path_vector.specs.Coherent.{heard_of}
 use Rattle.path_vector.specs.Telling.{arcs_stand}
 use Rattle.path_vector.specs.Items.{IsItem, of_all, found_item, none_found, items_all, all_items, item_split, item_left, item_right, item_passed, item_passes, item_mapped, item_maps, from_not}
-use Rattle.path_vector.specs.RouteOrder.{not_better_trans, better_asymmetric}
+use Rattle.net_graph.specs.RouteOrder.{not_better_trans, better_asymmetric}
 
 -- ---- the best of some routes
 

@@ -9,7 +9,6 @@ pub mod Laws
 pub mod Node
 pub mod Nodes
 pub mod Quiet
-pub mod RouteOrder
 pub mod RowLists
 pub mod Runs
 pub mod Starting

@@ -10,18 +10,7 @@ use Rattle.alg_model.specs.Carriers.{In, Order}
 use Rattle.alg_model.specs.Laws.{total_preorder}
 use Rattle.meta_base.specs.NodePaths.{compare_nodes, compare_paths}
 use Rattle.net_graph.specs.Routes.{PureRoute, Better}
-
-flipped : (a b c d : Ordering) → b ≡ ordering_reverse a → d ≡ ordering_reverse c → ordering_then b d ≡ ordering_reverse (ordering_then a c)
-flipped a b c d e f = grind arith
-
-nodes_flip : (p q : List ℕ) → compare_nodes q p ≡ ordering_reverse (compare_nodes p q)
-nodes_flip [] [] = refl
-nodes_flip [] (j ∷ q) = refl
-nodes_flip (i ∷ p) [] = refl
-nodes_flip (i ∷ p) (j ∷ q) = flipped (nat_cmp i j) (nat_cmp j i) (compare_nodes p q) (compare_nodes q p) (grind (arith, nat_tests)) (nodes_flip p q)
-
-paths_flip : (p q : List ℕ) → compare_paths q p ≡ ordering_reverse (compare_paths p q)
-paths_flip p q = flipped (nat_cmp (length p) (length q)) (nat_cmp (length q) (length p)) (compare_nodes p q) (compare_nodes q p) (grind (arith, nat_tests)) (nodes_flip p q)
+use Rattle.net_graph.specs.RouteLaws.{paths_flip}
 
 -- what isn't before what isn't before another isn't before that one
 then_trans : (i j k : ℕ) (x y z : Ordering) → (x ≢ Less → y ≢ Less → z ≢ Less) → ordering_then (nat_cmp j i) x ≢ Less → ordering_then (nat_cmp k j) y ≢ Less → ordering_then (nat_cmp k i) z ≢ Less
