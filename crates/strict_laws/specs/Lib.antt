@@ -1,0 +1,6 @@
+pub mod Values
+pub mod Offers
+pub mod BestFirst
+pub mod Counts
+pub mod Agreement
+pub mod Rows

@@ -1,0 +1,82 @@
+-- What holds of offers, and of those over strict labels. Lemmas, so that proofs of other crates may cite them.
+use Rattle.std.proofs.Common.{◌≡◌, ℕ, ◌⊎◌, inl, inr, List, [], ◌∷◌, Option, Some, None, IfSome, ◌==◌, option_and_then}
+use Rattle.std.proofs.lemmas.Bool.{or_cases, or_right, eqb-true}
+use Rattle.alg_model.specs.Expressions.{PureLabel, PureValue}
+use Rattle.alg_model.specs.Carriers.{In, IsPreferred}
+use Rattle.alg_model.specs.Application.{App}
+use Rattle.alg_model.specs.Properties.{strict, IsStrict}
+use Rattle.net_graph.specs.Nets.{PureNet, IsNet, label_between, origin_value}
+use Rattle.net_graph.specs.Routes.{PureRoute}
+use Rattle.net_graph.specs.Walks.{along}
+use Rattle.net_graph.specs.Tables.{Told, NetHas, carrier, is_among, IsOfferBy, IsOfferFrom, Offers}
+use Rattle.net_graph.specs.ArcLaws.{of_some, IsOrigin, origins_are, labels_have, along_in}
+use Rattle.net_graph.specs.RouteLaws.{same_route}
+
+-- the routes that are told have values of the carrier
+abbrev pub TellsValues : PureNet → Told → Type 0
+TellsValues net told = (j : ℕ) (next : PureRoute) → told j ≡ Some next → In (carrier net) next.value
+
+-- the path of each route that is told begins with its node
+abbrev pub TellsOwnPaths : Told → Type 0
+TellsOwnPaths told = (j : ℕ) (next : PureRoute) → told j ≡ Some next → (p : List ℕ) × (next.path ≡ j ∷ p)
+
+-- an arc whose label is strict makes each value worse
+pub along_strict : (net : PureNet) → NetHas strict net → (i j : ℕ) (v w : PureValue) → In (carrier net) v → along net i j (Some v) ≡ Some w → IsPreferred (carrier net) (Some v) (Some w)
+along_strict net h i j v w value_in e = by (label_between net i j) (labels_have strict net h i j) e
+  where
+    by : (o : Option PureLabel) → IfSome o (IsStrict net.alg.expression) → option_and_then (λ l. option_and_then (App net.alg.expression l) (Some v)) o ≡ Some w → IsPreferred (carrier net) (Some v) (Some w)
+    by None a e = absurd (cc)
+    by (Some l) a e = rw e at (a v value_in)
+
+-- so an offer is worse than the route that it is made of
+pub next_preferred : (net : PureNet) (told : Told) (i j : ℕ) (r : PureRoute) → NetHas strict net → TellsValues net told → (o : IsOfferBy net told i j r) → IsPreferred (carrier net) (Some o.next.value) (Some r.value)
+next_preferred net told i j r h values o = along_strict net h i j o.next.value r.value (values j o.next o.is_told) o.weighs
+
+-- an offer's value is one of the carrier
+pub offer_in : (net : PureNet) (dest : ℕ) (told : Told) (i : ℕ) (r : PureRoute) → IsNet net → TellsValues net told → Offers net dest told i r → In (carrier net) r.value
+offer_in net dest told i r n values (inl own) = (of_some (IsOrigin net dest i) (origin_value net dest i) r.value (origins_are net n dest i) own.0).value_in
+offer_in net dest told i r n values (inr (j, o)) =
+    of_some (In (carrier net)) (along net i j (Some o.next.value)) r.value (along_in net n i j (Some o.next.value) (values j o.next o.is_told)) o.weighs
+
+-- an offer's path begins with the node that it is made to
+pub offer_begins : (net : PureNet) (dest : ℕ) (told : Told) (i : ℕ) (r : PureRoute) → Offers net dest told i r → (p : List ℕ) × (r.path ≡ i ∷ p)
+offer_begins net dest told i r (inl own) = ([], own.1)
+offer_begins net dest told i r (inr (j, o)) = (o.next.path, o.path)
+
+-- offers of one path are one offer
+pub same_offer : (net : PureNet) (dest : ℕ) (told : Told) (i : ℕ) (r s : PureRoute) → TellsOwnPaths told → Offers net dest told i r → Offers net dest told i s → r.path ≡ s.path → r ≡ s
+same_offer net dest told i r s h (inl a) (inl b) e =
+    let v : r.value ≡ s.value = let x = a.0 in let y = b.0 in cc in
+    same_route r s v e
+same_offer net dest told i r s h (inl a) (inr (j, b)) e =
+    let begins = h j b.next b.is_told in
+    absurd (let x = a.1 in let y = b.path in let z = begins.1 in cc)
+same_offer net dest told i r s h (inr (j, a)) (inl b) e =
+    let begins = h j a.next a.is_told in
+    absurd (let x = a.path in let y = b.1 in let z = begins.1 in cc)
+same_offer net dest told i r s h (inr (j, a)) (inr (k, b)) e =
+    let p = h j a.next a.is_told in
+    let q = h k b.next b.is_told in
+    let path : a.next.path ≡ b.next.path = let x = a.path in let y = b.path in cc in
+    let node : j ≡ k = let x = p.1 in let y = q.1 in cc in
+    let next : a.next ≡ b.next = let x = a.is_told in let y = b.is_told in cc in
+    let v : r.value ≡ s.value = let x = a.weighs in let y = b.weighs in cc in
+    same_route r s v e
+
+-- an offer by some nodes is an offer, and one by more nodes
+pub offer_from_offers : (net : PureNet) (dest : ℕ) (told : Told) (nodes : List ℕ) (i : ℕ) (r : PureRoute) → IsOfferFrom net dest told nodes i r → Offers net dest told i r
+offer_from_offers net dest told nodes i r (inl own) = inl own
+offer_from_offers net dest told nodes i r (inr (j, among, o)) = inr (j, o)
+
+pub offer_from_more : (net : PureNet) (dest : ℕ) (told : Told) (nodes : List ℕ) (n i : ℕ) (r : PureRoute) → IsOfferFrom net dest told nodes i r → IsOfferFrom net dest told (n ∷ nodes) i r
+offer_from_more net dest told nodes n i r (inl own) = inl own
+offer_from_more net dest told nodes n i r (inr (j, among, o)) = inr (j, or_right (n == j) (is_among nodes j) among, o)
+
+-- with one node more, an offer is by that node or by the others
+pub offer_from_split : (net : PureNet) (dest : ℕ) (told : Told) (nodes : List ℕ) (n i : ℕ) (r : PureRoute) → IsOfferFrom net dest told (n ∷ nodes) i r
+    → IsOfferFrom net dest told nodes i r ⊎ IsOfferBy net told i n r
+offer_from_split net dest told nodes n i r (inl own) = inl (inl own)
+offer_from_split net dest told nodes n i r (inr (j, among, o)) = elim (or_cases (n == j) (is_among nodes j) among) [
+  | inl same ↦ inr (let e : n ≡ j = eqb-true n j same in rw e o)
+  | inr others ↦ inl (inr (j, others, o))
+]
