@@ -3,8 +3,10 @@
 #![tactic(auto)]
 
 mod draws;
+mod laws;
 mod lines;
 mod links;
 mod network;
 
+pub use laws::generated_texts_are_short;
 pub use network::{MAX_DEMO_NODES, MIN_DEMO_NODES, network_text};
