@@ -1,22 +1,23 @@
 -- The links of a node, and of all nodes, whatever is drawn.
 use Rattle.std.proofs.Common.{◌≡◌, ℕ, zero, suc, ◌+◌, ◌-◌, ◌*◌, ◌/◌, ◌%◌, ◌^◌, ◌<◌, ◌≤◌, Bool, true, false, cond, eqb, List, [], ◌∷◌, ◌++◌, length, refl, arith, length-append}
 use Rattle.std.specs.List.{AllByRecursion}
+use Rattle.net_gen.specs.declared.links.TheConstants.{MOST_WEIGHT}
 use Rattle.net_gen.specs.declared.links.Link.{Link}
 use Rattle.net_gen.specs.Draws.{next, drawn}
-use Rattle.net_gen.specs.Generated.{Drawn, weight, speaker, link, apart_from, links_of, links_to}
+use Rattle.net_gen.specs.Generated.{Drawn, weight, group, speaker, hub_link, link, apart_from, links_of, links_to}
 
 -- a link of the node k, which is numbered from 1 on
 pub record IsLinkOf (k : ℕ) (l : Link) : Type 0 where
   pub listener_is : l.listener ≡ k
   pub before : l.speaker < k
   pub least : 1 ≤ l.weight
-  pub most : l.weight ≤ 9
+  pub most : l.weight ≤ MOST_WEIGHT
 
 rest_lt : (m y : ℕ) → 0 < m → y % m < m
 rest_lt m y h = omega arith
 
-weight_in : (x : ℕ) → (1 ≤ weight x) × (weight x ≤ 9)
-weight_in x = let h = rest_lt 9 (next x / 2 ^ 33) (omega arith) in (omega arith, omega arith)
+weight_in : (x : ℕ) → (1 ≤ weight x) × (weight x ≤ MOST_WEIGHT)
+weight_in x = let h = rest_lt MOST_WEIGHT (next x / 2 ^ 33) (omega arith) in (omega arith, omega arith)
 
 below_last : (k t : ℕ) → 1 ≤ k → t < (k - 1) / 5 + 1 → (k - 1) % 5 + 5 * t < k
 below_last k t h b = omega arith
@@ -27,7 +28,7 @@ speaker_before k x h = below_last k (drawn ((k - 1) / 5 + 1) x) h (rest_lt ((k -
 is_link : (k x : ℕ) → 1 ≤ k → IsLinkOf k (link k x)
 is_link k x h = record { listener_is = refl; before = speaker_before k x h; least = (weight_in (next x)).0; most = (weight_in (next x)).1 }
 
-first_link : (k x : ℕ) → 1 ≤ k → IsLinkOf k (record { listener = k; speaker = 0; weight = weight x })
+first_link : (k x : ℕ) → 1 ≤ k → IsLinkOf k (hub_link k x)
 first_link k x h = record { listener_is = refl; before = omega arith; least = (weight_in x).0; most = (weight_in x).1 }
 
 one_or_two : (P : List Link → Type 0) (l m : Link) → P (l ∷ []) → (eqb m.speaker l.speaker ≡ false → P (l ∷ m ∷ [])) → P (l ∷ apart_from l m)
@@ -41,13 +42,13 @@ one_or_two P l m one two = by (eqb m.speaker l.speaker) refl
 pub each_links : (k x : ℕ) (P : List Link → Type 0) → 1 ≤ k → ((l : Link) → IsLinkOf k l → P (l ∷ []))
     → ((l m : Link) → IsLinkOf k l → IsLinkOf k m → eqb m.speaker l.speaker ≡ false → P (l ∷ m ∷ [])) → P (links_of k x).links
 unfolding links_of
-each_links k x P h one two = by (eqb ((k - 1) % 5) 0)
+each_links k x P h one two = by (eqb (group k) 0)
   where
     y : ℕ
     y = next (next x)
 
-    by : (b : Bool) → P (cond {A = Drawn} b (record { links = record { listener = k; speaker = 0; weight = weight x } ∷ []; state = next x }) (record { links = link k x ∷ apart_from (link k x) (link k y); state = next (next y) })).links
-    by true = one (record { listener = k; speaker = 0; weight = weight x }) (first_link k x h)
+    by : (b : Bool) → P (cond {A = Drawn} b (record { links = hub_link k x ∷ []; state = next x }) (record { links = link k x ∷ apart_from (link k x) (link k y); state = next (next y) })).links
+    by true = one (hub_link k x) (first_link k x h)
     by false = one_or_two P (link k x) (link k y) (one (link k x) (is_link k x h)) (two (link k x) (link k y) (is_link k x h) (is_link k y h))
 
 pub all_append : {X : Type 0} (P : X → Type 0) (xs ys : List X) → AllByRecursion P xs → AllByRecursion P ys → AllByRecursion P (xs ++ ys)

@@ -1,13 +1,12 @@
 -- How long a generated text is at the most.
-use Rattle.std.proofs.Common.{◌≡◌, ℕ, zero, suc, ◌+◌, ◌-◌, ◌*◌, ◌^◌, ◌<◌, ◌≤◌, List, [], ◌∷◌, ◌++◌, map, length, refl, arith, length-append}
-use Rattle.std.specs.Prelude.{decimal}
+use Rattle.std.proofs.Common.{ℕ, zero, suc, ◌+◌, ◌-◌, ◌*◌, ◌<◌, ◌≤◌, List, [], ◌∷◌, ◌++◌, map, length, arith, length-append}
 use Rattle.std.specs.List.{AllByRecursion, range_with_len}
 use Rattle.std.proofs.lemmas.Fmt.{length-decimal-le}
 use Rattle.std.proofs.lemmas.List.{length-map}
 use Rattle.std.proofs.lemmas.List.FromFn.{length-map-range_with_len}
 use Rattle.net_gen.specs.declared.links.Link.{Link}
 use Rattle.net_gen.specs.Generated.{AreDemoNodes, node_name, node_line, link_line, node_lines, origin_lines, ended, text_of, links_to, Generated}
-use Rattle.net_gen.proofs.NodeLinks.{IsLinkOf, all_links, few_links}
+use Rattle.net_gen.proofs.NodeLinks.{all_links, few_links}
 use Rattle.net_gen.proofs.Written.{text_append}
 
 -- so many bytes and a line feed at the most, line by line
@@ -20,14 +19,14 @@ text_short b (line ∷ lines) a =
     let end = length-append line (10 ∷ []) in
     grind arith
 
-name_short : (k : ℕ) → k < 1000 → length (node_name k) ≤ 4
+pub name_short : (k : ℕ) → k < 1000 → length (node_name k) ≤ 4
 name_short k h = let d = length-decimal-le 3 k (omega arith) (omega arith) (omega arith) in omega arith
 
 nodes_short : (a count : ℕ) → a + count ≤ 1000 → AllByRecursion (λ line. length line ≤ 9) (map node_line (range_with_len a count))
 nodes_short a zero h = tt
 nodes_short a (suc count) h = let name = name_short a (omega arith) in (omega arith, nodes_short (a + 1) count (omega arith))
 
-link_short : (l : Link) → l.listener < 1000 → l.speaker < 1000 → l.weight ≤ 9 → length (link_line l) ≤ 18
+pub link_short : (l : Link) → l.listener < 1000 → l.speaker < 1000 → l.weight ≤ 9 → length (link_line l) ≤ 18
 link_short l a b w =
     let listener = length-decimal-le 3 l.listener (omega arith) (omega arith) (omega arith) in
     let speaker = length-decimal-le 3 l.speaker (omega arith) (omega arith) (omega arith) in

@@ -1,10 +1,8 @@
 -- What one node more, and the links of one, add to the text.
-use Rattle.std.proofs.Common.{◌≡◌, ℕ, zero, suc, ◌+◌, ◌-◌, ◌≤◌, List, [], ◌∷◌, ◌++◌, map, refl, ap, ◌∙◌, sym, subst, arith, append_assoc}
-use Rattle.std.specs.List.{range_with_len}
+use Rattle.std.proofs.Common.{◌≡◌, ℕ, zero, suc, ◌+◌, ◌-◌, ◌≤◌, List, [], ◌∷◌, ◌++◌, map, refl, ap, ◌∙◌, sym, arith, append_assoc}
 use Rattle.std.proofs.lemmas.List.{map-append, append-nil}
 use Rattle.std.proofs.lemmas.List.FromFn.{map-range_with_len_more}
 use Rattle.std.proofs.lemmas.List.Concat.{flat_map-append}
-use Rattle.net_gen.specs.declared.links.Link.{Link}
 use Rattle.net_gen.specs.Generated.{node_line, link_line, node_lines, origin_lines, ended, text_of, links_of, links_to, Generated}
 
 pub text_append : (xs ys : List (List ℕ)) → text_of (xs ++ ys) ≡ text_of xs ++ text_of ys
@@ -60,6 +58,7 @@ pub links_then : (seed node before after : ℕ) (start old new : List ℕ) → 1
     → (new ≡ start ++ text_of (map link_line (links_to seed ((node + 1) - 1)).links)) × (after ≡ (links_to seed ((node + 1) - 1)).state)
 links_then seed node before after start old new h e b f a =
     let k : (node + 1) - 1 ≡ node = omega arith in
-    rw k
-    (gains_more start old new _ _ _ (f ∙ ap (λ x. old ++ text_of (map link_line (links_of node x).links)) b) e (links_more seed node h),
-    a ∙ ap (λ x. (links_of node x).state) b ∙ sym (state_more seed node h))
+    rw k (
+      gains_more start old new _ _ _ (f ∙ ap (λ x. old ++ text_of (map link_line (links_of node x).links)) b) e (links_more seed node h),
+      a ∙ ap (λ x. (links_of node x).state) b ∙ sym (state_more seed node h),
+    )

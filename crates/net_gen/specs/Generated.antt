@@ -1,5 +1,9 @@
--- The text of the network that a seed and a count of nodes generate. Its nodes are n0, n1 and so on. Each
--- but the first listens to one or two nodes before it, and the first two have an origin each.
+-- The text of the network that a seed and a count of nodes generate.
+--
+-- Its nodes are n0, n1 and so on. Let the group of the node k, from 1 on, be what k - 1 leaves by GROUPS. A node of
+-- group 0 listens to n0, by a label that is drawn. Any other draws a node before it whose number is of the form
+-- group + GROUPS * t, a label for it, another such node and a label for that; it listens to both of them, or, where
+-- they are one node, to that one by the first label. Labels are 1 to 9. The first two nodes have an origin each.
 use Rattle.std.specs.Prelude.{ℕ, ◌+◌, ◌*◌, ◌-◌, ◌/◌, ◌%◌, ◌≤◌, zero, suc, List, [], ◌∷◌, ◌++◌, map, ◌==◌, if◌then◌else◌, codes, decimal}
 use Rattle.std.specs.List.{range_with_len, flat_map}
 use Rattle.net_gen.specs.declared.links.TheConstants.{GROUPS, MOST_WEIGHT}
@@ -12,17 +16,24 @@ pub record AreDemoNodes (n : ℕ) : Type 0 where
   pub least : MIN_DEMO_NODES ≤ n
   pub most : n ≤ MAX_DEMO_NODES
 
--- Links. A link behind the state x takes its first draw from there.
+-- Links. One behind the state x takes its first draw from there.
+
+-- the group of the node k: what the numbers of its speakers leave by GROUPS
+abbrev pub group : ℕ → ℕ
+group k = (k - 1) % GROUPS
 
 -- one draw: 1 to 9
 abbrev pub weight : ℕ → ℕ
 weight x = drawn MOST_WEIGHT x + 1
 
--- one draw: a node before k whose number is that of k less 1, but for a multiple of the count of groups
+-- one draw: a node before k of its group
 abbrev pub speaker : ℕ → ℕ → ℕ
-speaker k x = (k - 1) % GROUPS + GROUPS * drawn ((k - 1) / GROUPS + 1) x
+speaker k x = group k + GROUPS * drawn ((k - 1) / GROUPS + 1) x
 
--- a link of the node k, by two draws
+-- a link of the node k: to the first node, by one draw; to a node of its group, by two
+abbrev pub hub_link : ℕ → ℕ → Link
+hub_link k x = record { listener = k; speaker = 0; weight = weight x }
+
 abbrev pub link : ℕ → ℕ → Link
 link k x = record { listener = k; speaker = speaker k x; weight = weight (next x) }
 
@@ -35,11 +46,11 @@ pub record Drawn : Type 0 where
   pub links : List Link
   pub state : ℕ
 
--- the links of the node k: one to the first node, or up to two by two draws each
+-- all links of the node k
 unfoldable pub links_of : ℕ → ℕ → Drawn
 links_of k x =
     let y = next (next x) in
-    if (k - 1) % GROUPS == 0 then record { links = record { listener = k; speaker = 0; weight = weight x } ∷ []; state = next x }
+    if group k == 0 then record { links = hub_link k x ∷ []; state = next x }
     else record { links = link k x ∷ apart_from (link k x) (link k y); state = next (next y) }
 
 -- the links of the nodes 1 to k
@@ -59,7 +70,8 @@ abbrev pub node_line : ℕ → List ℕ
 node_line k = codes "node " ++ node_name k
 
 abbrev pub link_line : Link → List ℕ
-link_line l = codes "link " ++ node_name l.listener ++ codes " " ++ node_name l.speaker ++ codes " : " ++ decimal l.weight
+link_line l =
+    codes "link " ++ node_name l.listener ++ codes " " ++ node_name l.speaker ++ codes " : " ++ decimal l.weight
 
 abbrev pub node_lines : ℕ → List (List ℕ)
 node_lines n = map node_line (range_with_len 0 n)

@@ -12,7 +12,7 @@ pub const INCREMENT: u64 = 1_442_695_040_888_963_407;
 pub const DROPPED_BITS: u32 = 33;
 
 /// Knuth's MMIX linear congruential generator.
-#[derive(Debug, Drop)]
+#[derive(Drop)]
 pub struct Draws {
     /// The seed, or what the last draw left.
     pub state: u64,

@@ -1,5 +1,5 @@
-//! Networks of any size from a seed, written as network files: what they are is settled by the seed and the
-//! count of nodes alone. It stands on `topology_file` and what that stands on, to say what its texts mean.
+//! Networks that a seed and a count of nodes settle, written as network files. It reads none; it stands on
+//! `topology_file`, and on what that stands on, to prove that each is the text of a network.
 #![tactic(auto)]
 
 mod draws;
@@ -8,5 +8,7 @@ mod lines;
 mod links;
 mod network;
 
-pub use laws::generated_texts_are_short;
+pub use laws::{
+    generated_texts_are_networks, generated_texts_are_never_refused, generated_texts_are_short,
+};
 pub use network::{MAX_DEMO_NODES, MIN_DEMO_NODES, network_text};

@@ -13,7 +13,7 @@ pub const GROUPS: u32 = 5;
 pub const MOST_WEIGHT: u32 = 9;
 
 /// An arc from one node, which listens, to another, with its label.
-#[derive(Clone, Copy, Debug)]
+#[derive(Clone, Copy)]
 pub struct Link {
     pub listener: u32,
     pub speaker: u32,
