@@ -6,6 +6,7 @@ use Rattle.std.proofs.lemmas.List.FromFn.{map-range_with_len_more}
 use Rattle.net_graph.specs.Nets.{PureArc}
 use Rattle.topology_file.specs.NetText.{PureNetFile, Lead, NetText, empty_file}
 use Rattle.net_gen.specs.declared.links.Link.{Link}
+use Rattle.net_gen.specs.declared.network.TheConstants.{MAX_DEMO_NODES}
 use Rattle.net_gen.specs.Generated.{AreDemoNodes, node_line, link_line, node_lines, origin_lines, links_of, links_to, Generated}
 use Rattle.net_gen.specs.Networks.{demo_alg, arcs_of, node_names, generated_file}
 use Rattle.net_gen.proofs.LineForms.{node_is_line, link_is_line, origins_are_lines}
@@ -17,7 +18,7 @@ lead_append : (f mid last : PureNetFile) (xs ys : List (List ℕ)) → Lead f xs
 lead_append f mid last [] ys a b = subst (λ g. Lead g ys last) a b
 lead_append f mid last (x ∷ xs) ys a b = (a.0, a.1, lead_append a.0 mid last xs ys a.2 b)
 
-nodes_lead : (n : ℕ) → n ≤ 512 → Lead (empty_file demo_alg) (node_lines n) (file_with (node_names n) [])
+nodes_lead : (n : ℕ) → n ≤ MAX_DEMO_NODES → Lead (empty_file demo_alg) (node_lines n) (file_with (node_names n) [])
 nodes_lead zero h = refl
 nodes_lead (suc n) h =
     let more : n + 1 ≡ suc n = omega arith in
@@ -35,11 +36,11 @@ file_of n links = file_with (node_names n) (arcs_of 0 links)
 Leads : ℕ → List Link → List Link → Type 0
 Leads n before more = Lead (file_of n before) (map link_line more) (file_of n (before ++ more))
 
-one_leads : (n : ℕ) (before : List Link) (l : Link) → n ≤ 512 → IsNewLink n before l → Leads n before (l ∷ [])
+one_leads : (n : ℕ) (before : List Link) (l : Link) → n ≤ MAX_DEMO_NODES → IsNewLink n before l → Leads n before (l ∷ [])
 unfolding Leads
 one_leads n before l h i = (file_of n (before ++ l ∷ []), link_step n before l h i, refl)
 
-two_lead : (n : ℕ) (before : List Link) (l m : Link) → n ≤ 512 → IsNewLink n before l → IsNewLink n (before ++ l ∷ []) m → Leads n before (l ∷ m ∷ [])
+two_lead : (n : ℕ) (before : List Link) (l m : Link) → n ≤ MAX_DEMO_NODES → IsNewLink n before l → IsNewLink n (before ++ l ∷ []) m → Leads n before (l ∷ m ∷ [])
 unfolding Leads
 two_lead n before l m h i j = (
   file_of n (before ++ l ∷ []),
@@ -52,13 +53,13 @@ two_lead n before l m h i j = (
 )
 
 -- a link of the node k, behind links of the nodes before it, none of which is between the same nodes
-new_link : (n k : ℕ) (links : List Link) (l : Link) → n ≤ 512 → k < n → IsLinkOf k l → length links ≤ 2 * k → AllByRecursion (Misses l.listener l.speaker) links → IsNewLink n links l
+new_link : (n k : ℕ) (links : List Link) (l : Link) → n ≤ MAX_DEMO_NODES → k < n → IsLinkOf k l → length links ≤ 2 * k → AllByRecursion (Misses l.listener l.speaker) links → IsNewLink n links l
 new_link n k links l h in_net i few absent =
     let is = i.listener_is in
     let before = i.before in
     record { listener_in = omega arith; before = omega arith; least = i.least; most = i.most; absent = absent; room = omega arith }
 
-node_leads : (n seed k : ℕ) → n ≤ 512 → suc k < n → Leads n (links_to seed k).links (links_of (suc k) (links_to seed k).state).links
+node_leads : (n seed k : ℕ) → n ≤ MAX_DEMO_NODES → suc k < n → Leads n (links_to seed k).links (links_of (suc k) (links_to seed k).state).links
 node_leads n seed k h in_net =
     each_links (suc k) (links_to seed k).state (Leads n before) (omega arith)
     (λ l i. one_leads n before l h (first l i))
@@ -78,7 +79,7 @@ node_leads n seed k h in_net =
         new_link n (suc k) (before ++ l ∷ []) m h in_net j (omega (arith, few_links seed k, length-append before (l ∷ [])))
         (all_append (Misses m.listener m.speaker) before (l ∷ []) (missed m j) (missed_by_speaker m.listener m.speaker l e, tt))
 
-links_lead : (n seed k : ℕ) → n ≤ 512 → k < n → Lead (file_of n []) (map link_line (links_to seed k).links) (file_of n (links_to seed k).links)
+links_lead : (n seed k : ℕ) → n ≤ MAX_DEMO_NODES → k < n → Lead (file_of n []) (map link_line (links_to seed k).links) (file_of n (links_to seed k).links)
 unfolding links_to Leads
 links_lead n seed zero h l = refl
 links_lead n seed (suc k) h l =
@@ -88,7 +89,7 @@ links_lead n seed (suc k) h l =
     (lead_append (file_of n []) (file_of n before) (file_of n (before ++ more)) (map link_line before) (map link_line more)
     (links_lead n seed k h (omega arith)) (node_leads n seed k h l))
 
-origins_lead : (n : ℕ) (arcs : List PureArc) → 2 ≤ n → n ≤ 512 → Lead (file_with (node_names n) arcs) origin_lines (file_twice (node_names n) arcs)
+origins_lead : (n : ℕ) (arcs : List PureArc) → 2 ≤ n → n ≤ MAX_DEMO_NODES → Lead (file_with (node_names n) arcs) origin_lines (file_twice (node_names n) arcs)
 origins_lead n arcs l h =
     (file_once (node_names n) arcs, first_origin n arcs l h, (file_twice (node_names n) arcs, second_origin n arcs l h, refl))
 

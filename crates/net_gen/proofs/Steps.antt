@@ -5,11 +5,12 @@ use Rattle.std.specs.List.{list_any, AllByRecursion}
 use Rattle.std.proofs.lemmas.Bool.Decides.{nat_tests}
 use Rattle.std.proofs.lemmas.List.FromFn.{length-map-range_with_len, map-range_with_len_more}
 use Rattle.alg_model.specs.Expressions.{number_label}
-use Rattle.net_graph.specs.declared.limits.TheConstants.{MAX_ARCS}
+use Rattle.net_graph.specs.declared.limits.TheConstants.{MAX_ARCS, MAX_NODES_ONE}
 use Rattle.net_graph.specs.Nets.{PureArc, PureNet, is_arc_between, number_of}
 use Rattle.topology_file.specs.Forms.{nodes, link}
 use Rattle.topology_file.specs.NetText.{PureNetFile, after_form, after_line}
 use Rattle.net_gen.specs.declared.links.Link.{Link}
+use Rattle.net_gen.specs.declared.network.TheConstants.{MAX_DEMO_NODES}
 use Rattle.net_gen.specs.Generated.{node_name, node_line, link_line}
 use Rattle.net_gen.specs.Networks.{demo_alg, arcs_of, origin_of, node_names}
 use Rattle.net_gen.proofs.LineForms.{node_form, link_form, node_is_line, link_is_line, weight_spelled, zero_spelled}
@@ -26,14 +27,14 @@ file_with names arcs = record { net = net_with names arcs; changes = [] }
 pub names_more : (k : ℕ) → node_names (k + 1) ≡ node_names k ++ node_name k ∷ []
 names_more k = map-range_with_len_more node_name 0 k k (omega arith)
 
-node_added : (k : ℕ) → k < 512 → after_form (file_with (node_names k) []) (nodes (node_name k ∷ [])) ≡ Ok (file_with (node_names k ++ node_name k ∷ []) [])
+node_added : (k : ℕ) → k < MAX_DEMO_NODES → after_form (file_with (node_names k) []) (nodes (node_name k ∷ [])) ≡ Ok (file_with (node_names k ++ node_name k ∷ []) [])
 node_added k h =
     let count = length-map-range_with_len node_name 0 k in
-    let room : leb (length (node_names k) + 1) 512 ≡ true = grind (arith, nat_tests) in
+    let room : leb (length (node_names k) + 1) MAX_NODES_ONE ≡ true = grind (arith, nat_tests) in
     rw (unnumbered k (omega arith), room) refl
 
 -- the line of the node k, behind those of the nodes before it
-pub node_step : (k : ℕ) → k < 512 → after_line (file_with (node_names k) []) (node_line k) ≡ Ok (file_with (node_names (k + 1)) [])
+pub node_step : (k : ℕ) → k < MAX_DEMO_NODES → after_line (file_with (node_names k) []) (node_line k) ≡ Ok (file_with (node_names (k + 1)) [])
 node_step k h =
     line_after (file_with (node_names k) []) (node_line k) (node_is_line k (omega arith))
     ∙ ap (after_form (file_with (node_names k) [])) (node_form (node_name k) (name_word k (omega arith)) (node_is_name k (omega arith)))
@@ -88,7 +89,7 @@ pub record IsNewLink (n : ℕ) (links : List Link) (l : Link) : Type 0 where
   pub absent : AllByRecursion (Misses l.listener l.speaker) links
   pub room : length links < MAX_ARCS
 
-link_added : (n : ℕ) (links : List Link) (l : Link) → n ≤ 512 → IsNewLink n links l
+link_added : (n : ℕ) (links : List Link) (l : Link) → n ≤ MAX_DEMO_NODES → IsNewLink n links l
     → after_form (file_with (node_names n) (arcs_of 0 links)) (link (node_name l.listener) (node_name l.speaker) (32 ∷ decimal l.weight))
     ≡ Ok (file_with (node_names n) (arcs_of 0 links ++ arc_of (length (arcs_of 0 links)) l ∷ []))
 link_added n links l h i =
@@ -100,7 +101,7 @@ link_added n links l h i =
     let room : leb (length (arcs_of 0 links) + 1) MAX_ARCS ≡ true = grind (arith, nat_tests) in
     rw (numbered n l.listener listener_in (omega arith), numbered n l.speaker (omega arith) (omega arith), apart, none_between l.listener l.speaker 0 links i.absent, weight_spelled l.weight i.least i.most, room) refl
 
-pub link_step : (n : ℕ) (links : List Link) (l : Link) → n ≤ 512 → IsNewLink n links l
+pub link_step : (n : ℕ) (links : List Link) (l : Link) → n ≤ MAX_DEMO_NODES → IsNewLink n links l
     → after_line (file_with (node_names n) (arcs_of 0 links)) (link_line l) ≡ Ok (file_with (node_names n) (arcs_of 0 (links ++ l ∷ [])))
 link_step n links l h i =
     let listener_in = i.listener_in in
@@ -116,7 +117,7 @@ link_step n links l h i =
 
 -- Origins.
 
-number_is : (n k : ℕ) → k < n → n ≤ 512 → k < 10 → number_of (node_names n) (110 ∷ (48 + k) ∷ []) ≡ Some k
+number_is : (n k : ℕ) → k < n → n ≤ MAX_DEMO_NODES → k < 10 → number_of (node_names n) (110 ∷ (48 + k) ∷ []) ≡ Some k
 number_is n k l h s = ap (number_of (node_names n)) (sym (name_is k s)) ∙ numbered n k l (omega arith)
 
 -- with the first origin
@@ -128,8 +129,8 @@ abbrev pub file_twice : List (List ℕ) → List PureArc → PureNetFile
 file_twice names arcs =
     record { net = record { alg = demo_alg; nodes = names; dests = codes "x0" ∷ codes "x1" ∷ []; arcs = arcs; origins = origin_of 0 ∷ origin_of 1 ∷ [] }; changes = [] }
 
-pub first_origin : (n : ℕ) (arcs : List PureArc) → 2 ≤ n → n ≤ 512 → after_line (file_with (node_names n) arcs) (codes "origin x0 at n0 : 0") ≡ Ok (file_once (node_names n) arcs)
+pub first_origin : (n : ℕ) (arcs : List PureArc) → 2 ≤ n → n ≤ MAX_DEMO_NODES → after_line (file_with (node_names n) arcs) (codes "origin x0 at n0 : 0") ≡ Ok (file_once (node_names n) arcs)
 first_origin n arcs l h = rw (number_is n 0 (omega arith) h (omega arith), zero_spelled) refl
 
-pub second_origin : (n : ℕ) (arcs : List PureArc) → 2 ≤ n → n ≤ 512 → after_line (file_once (node_names n) arcs) (codes "origin x1 at n1 : 0") ≡ Ok (file_twice (node_names n) arcs)
+pub second_origin : (n : ℕ) (arcs : List PureArc) → 2 ≤ n → n ≤ MAX_DEMO_NODES → after_line (file_once (node_names n) arcs) (codes "origin x1 at n1 : 0") ≡ Ok (file_twice (node_names n) arcs)
 second_origin n arcs l h = rw (number_is n 1 (omega arith) h (omega arith), zero_spelled) refl
