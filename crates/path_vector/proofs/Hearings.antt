@@ -160,13 +160,23 @@ module _ {L S : Type 0} (stands_for : L → PureLabel → Type 0) (is_sig : S �
         let is = neighbour_at stands_for is_sig value net (arcs_from net i) ns k there.0 are there.1 in
         (there.0, there.1, subst (λ z. dest < z) (sym is.2.count) inside)
 
-    same_neighbour : IsNeighbour stands_for is_sig value net a neighbour_there.0
-    same_neighbour =
-        let is = neighbour_at stands_for is_sig value net (arcs_from net i) ns k neighbour_there.0 are neighbour_there.1 in
-        let same : is.0 ≡ a = (let e = sym is.1 ∙ placed in cc) in
-        subst (λ z. IsNeighbour stands_for is_sig value net z neighbour_there.0) same is.2
+    -- the neighbour at the place is the arc's
+    pub neighbour_is : (m : Neighbour L S) → slice_get ns k ≡ Some m → IsNeighbour stands_for is_sig value net a m
+    neighbour_is m e =
+        let is = neighbour_at stands_for is_sig value net (arcs_from net i) ns k m are e in
+        let same : is.0 ≡ a = (let f = sym is.1 ∙ placed in cc) in
+        subst (λ z. IsNeighbour stands_for is_sig value net z m) same is.2
 
-    number : a.id ≡ b
+    same_neighbour : IsNeighbour stands_for is_sig value net a neighbour_there.0
+    same_neighbour = neighbour_is neighbour_there.0 neighbour_there.1
+
+    -- and what was heard on the arc is what it was heard to say
+    pub heard_there : (m : Neighbour L S) → slice_get ns k ≡ Some m → heard_by value ns a.id dest ≡ option_map (known_route value) (entry_of m.heard.items dest)
+    heard_there m e =
+        let found = neighbour_found stands_for is_sig value net (arcs_from net i) ns k a m are (ids_from_apart net i n.arc_ids) placed e in
+        rw found refl
+
+    pub number : a.id ≡ b
     number = id_is_place 0 b net.arcs a n.arc_ids stands ∙ (let e : 0 + b ≡ b = omega arith in e)
 
     module _ (route earlier : Option (Known S)) (new : List (Neighbour L S)) (has : HasHeard dest route earlier ns k neighbour_there.0 new) where

@@ -7,4 +7,6 @@ pub mod NodeRows
 pub mod Nodes
 pub mod Owns
 pub mod PathTests
+pub mod Rechoosings
+pub mod Settling
 pub mod Tellings

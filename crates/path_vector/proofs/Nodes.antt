@@ -1,20 +1,23 @@
 -- The state of a node by its fields.
-use Rattle.std.proofs.Common.{◌≡◌, ℕ, ◌<◌, ◌==◌, List, [], ◌∷◌, Bool, true, false, cond, length, map, Option, Some, None, refl, sym, ap, subst, ◌∙◌}
+use Rattle.std.proofs.Common.{◌≡◌, ℕ, ◌<◌, ◌==◌, List, [], ◌∷◌, Bool, true, false, ◌&&◌, cond, length, map, Option, Some, None, refl, sym, ap, subst, ◌∙◌}
 use Rattle.std.specs.Prelude.{option_map, option_and_then, slice_get, IfSome, OnErr, Result, Ok, Err}
 use Rattle.std.proofs.Math.ListN.{set}
 use Rattle.std.proofs.Math.Path.{fun_ext}
+use Rattle.std.proofs.lemmas.Bool.{eqb-true}
 use Rattle.std.proofs.lemmas.Option.{slice_get-map}
+use Rattle.std.proofs.lemmas.Slice.Eq.{bytes_eq-Decides}
+use Rattle.alg_model.specs.Tests.{same_value-Decides}
 use Rattle.alg_model.specs.Expressions.{PureLabel, PureValue}
 use Rattle.net_graph.specs.declared.route.Route.{Route}
 use Rattle.net_graph.specs.Nets.{PureNet, arcs_from, arcs_to, origin_value}
-use Rattle.net_graph.specs.Tables.{PureRow}
+use Rattle.net_graph.specs.Tables.{PureRow, carrier}
 use Rattle.net_graph.specs.Views.{pure_route}
 use Rattle.net_graph.specs.Routes.{PureRoute}
 use Rattle.node_core.specs.Machine.{changed_at}
 use Rattle.path_vector.specs.declared.known.Known.{Known}
 use Rattle.path_vector.specs.declared.neighbour.Neighbour.{Neighbour}
 use Rattle.path_vector.specs.Known.{AreNeighbours, entry_of, heard_by, known_route}
-use Rattle.path_vector.specs.Node.{Begin, PureUpdate, PvState, carried, choice, heard_before, heard_with, new_node, same_row, taken, told_on}
+use Rattle.path_vector.specs.Node.{Begin, PureUpdate, PvState, best_of, carried, choice, heard_before, heard_with, new_node, offers_to, same_row, taken, told_on}
 use Rattle.path_vector.specs.Nodes.{PureNode, heard_in, heard_lists, row_list, state_of}
 use Rattle.path_vector.specs.State.{IsKept, row_routes}
 use Rattle.path_vector.proofs.Hearings.{entry_set, set_length}
@@ -102,6 +105,46 @@ row_is value number dest rows entry route e f =
     let same : option_map pure_route route ≡ entry_of (row_list value rows) dest = f ∙ ap (option_map (known_route value)) (sym e) ∙ sym (entry_mapped (known_route value) rows dest) in
     ap (λ r. row_at number dest r) same
 
+-- ---- rows that are choices
+
+-- what is changed to what it was is as it was
+pub changed_to_itself : {X : Type 0} (f : ℕ → X) (i : ℕ) → changed_at f i (f i) ≡ f
+changed_to_itself f i = fun_ext (λ j. by j (j == i) refl)
+  where
+    by : (j : ℕ) (b : Bool) → (j == i) ≡ b → cond b (f i) (f j) ≡ f j
+    by j true e = ap f (sym (eqb-true j i e))
+    by j false e = refl
+
+pub same_row_self : (row : Option PureRoute) → same_row row row ≡ true
+same_row_self None = refl
+same_row_self (Some r) =
+    let value = (same_value-Decides r.value r.value).1 refl in
+    let path = (bytes_eq-Decides r.path r.path).1 refl in
+    rw (value, path) refl
+
+-- what was heard of one destination makes no other choice
+other_choice : (net : PureNet) (i a : ℕ) (u : PureUpdate) (heard : ℕ → ℕ → Option PureRoute) (dest : ℕ) → (dest == u.dest) ≡ false → choice net dest i (heard_with heard a u) ≡ choice net dest i heard
+other_choice net i a u heard dest e = ap (λ h. best_of (carrier net) (offers_to net dest i h)) (fun_ext (λ b. by b (b == a)))
+  where
+    by : (b : ℕ) (t : Bool) → cond (t && dest == u.dest) u.route (heard b dest) ≡ heard b dest
+    by b true = rw e refl
+    by b false = refl
+
+-- rows that are choices are so after an update, once that of its destination is
+pub chosen_after : (net : PureNet) (i a : ℕ) (u : PureUpdate) (heard new : ℕ → ℕ → Option PureRoute) (rows : ℕ → Option PureRoute) (row : Option PureRoute) → new ≡ heard_with heard a u
+    → ((dest : ℕ) → rows dest ≡ choice net dest i heard) → row ≡ choice net u.dest i new → (dest : ℕ) → changed_at rows u.dest row dest ≡ choice net dest i new
+chosen_after net i a u heard new rows row e chosen is dest = by (dest == u.dest) refl
+  where
+    by : (b : Bool) → (dest == u.dest) ≡ b → cond b row (rows dest) ≡ choice net dest i new
+    by true f = is ∙ ap (λ d. choice net d i new) (sym (eqb-true dest u.dest f))
+    by false f = chosen dest ∙ (sym (other_choice net i a u heard dest f) ∙ ap (choice net dest i) (sym e))
+
+-- and so they are where that row stays the choice
+pub still_chosen : (net : PureNet) (i a : ℕ) (u : PureUpdate) (heard new : ℕ → ℕ → Option PureRoute) (rows : ℕ → Option PureRoute) → new ≡ heard_with heard a u
+    → ((dest : ℕ) → rows dest ≡ choice net dest i heard) → choice net u.dest i new ≡ rows u.dest → (dest : ℕ) → rows dest ≡ choice net dest i new
+still_chosen net i a u heard new rows e chosen stays dest =
+    sym (ap (λ f. f dest) (changed_to_itself rows u.dest)) ∙ chosen_after net i a u heard new rows (rows u.dest) e chosen (sym stays) dest
+
 -- ---- states by fields
 
 abbrev pub state_with : PureNet → Option PureNet → ℕ → Bool → (ℕ → ℕ → Option PureRoute) → (ℕ → Option PureRoute) → ℕ → PvState
@@ -178,6 +221,16 @@ module _ {L S : Type 0} (value : S → PureValue) where
           (rows_set value rows u.dest row l ∙ ap (changed_at (row_routes value rows) u.dest) (e ∙ ap (choice net u.dest number) heard))
           ∙ ap (λ s. (taken s a u clock).0) (sym (state_is net before number begun ns rows last))
 
+      -- and so has one that heard an update and keeps its row, which is its choice
+      pub kept_is : choice net u.dest number (heard_by value new) ≡ row_routes value rows u.dest
+          → state_of (node_with net before number begun new rows clock) ≡ (taken (state_of (node_with net before number begun ns rows last)) a u clock).0
+      kept_is e =
+          state_is net before number begun new rows clock
+          ∙ ap (λ h. state_with net before number begun h (row_routes value rows) clock) heard
+          ∙ ap (λ r. state_with net before number begun (heard_with (heard_by value ns) a u) r clock)
+          (sym (ap (changed_at (row_routes value rows) u.dest) (ap (choice net u.dest number) (sym heard) ∙ e) ∙ changed_to_itself (row_routes value rows) u.dest))
+          ∙ ap (λ s. (taken s a u clock).0) (sym (state_is net before number begun ns rows last))
+
       -- and tells what it tells then
       pub told_is : (told : List (ℕ × PureUpdate))
           → told ≡ cond (same_row (choice net u.dest number (heard_by value new)) (row_routes value rows u.dest)) []
@@ -192,3 +245,11 @@ module _ {L S : Type 0} (value : S → PureValue) where
 pub on_refusal : {T E : Type 0} (P : Type 0) (r : Result T E) → P → OnErr r P
 on_refusal P (Ok x) p = tt
 on_refusal P (Err e) p = p
+
+-- of a row that stayed nothing is told
+pub nothing_told : (row before : Option PureRoute) (all : List (ℕ × PureUpdate)) → row ≡ before → [] ≡ cond (same_row row before) [] all
+nothing_told row before all e = rw (e, same_row_self before) refl
+
+-- and of another one all is
+pub all_told : (row before : Option PureRoute) (told all : List (ℕ × PureUpdate)) → same_row row before ≡ false → told ≡ all → told ≡ cond (same_row row before) [] all
+all_told row before told all e f = rw e f

@@ -2,6 +2,7 @@
 use Rattle.std.specs.Prelude.{◌≡◌, ℕ, ◌==◌, true, List, [], ◌∷◌, Option, Some, None, cond, find, length, option_map, option_and_then, slice_get}
 use Rattle.std.proofs.Math.ListN.{set}
 use Rattle.alg_model.specs.Expressions.{PureCarrier, PureValue, PureLabel}
+use Rattle.meta_base.specs.declared.ids.NodeId.{NodeId}
 use Rattle.meta_base.specs.NodePaths.{numbers}
 use Rattle.net_graph.specs.Nets.{PureArc, PureNet}
 use Rattle.net_graph.specs.Routes.{PureRoute, is_better}
@@ -15,9 +16,13 @@ module _ {S : Type 0} (value : S → PureValue) where
   abbrev pub known_route : Known S → PureRoute
   known_route k = record { value = value k.sig; path = numbers k.path }
 
+  -- a route of a node by its value and what lies behind the node on its path
+  abbrev pub route_through : ℕ → S → List NodeId → PureRoute
+  route_through node sig behind = record { value = value sig; path = node ∷ numbers behind }
+
   -- what an offer to a node stands for
   abbrev pub offered_route : ℕ → Offer S → PureRoute
-  offered_route node o = record { value = value o.sig; path = node ∷ numbers o.behind.now }
+  offered_route node o = route_through node o.sig o.behind.now
 
 -- the entry for a destination of what was heard, or of the rows
 abbrev pub entry_of : {X : Type 0} → List (Option X) → ℕ → Option X

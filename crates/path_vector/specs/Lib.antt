@@ -1,4 +1,5 @@
 pub mod Beginning
+pub mod Changes
 pub mod Choosing
 pub mod Coherent
 pub mod Delivering
@@ -11,6 +12,7 @@ pub mod Nodes
 pub mod Quiet
 pub mod RowLists
 pub mod Runs
+pub mod Settling
 pub mod Starting
 pub mod State
 pub mod Telling

@@ -1,5 +1,5 @@
 -- What contracts see of the program's node, and the state that it stands for.
-use Rattle.std.specs.Prelude.{◌≡◌, ℕ, ◌==◌, Bool, List, Option, find, map, option_map, option_and_then, refl}
+use Rattle.std.specs.Prelude.{◌≡◌, ℕ, ◌==◌, Bool, true, List, Option, find, map, option_map, option_and_then, refl}
 use Rattle.std.specs.Coded.{Coded, code_by, coded×, coded_bool, coded_list, coded_option, coded_ℕ}
 use Rattle.alg_model.specs.Codes.{coded_value}
 use Rattle.alg_model.specs.Expressions.{Expression, PureLabel, PureValue}
@@ -8,9 +8,9 @@ use Rattle.net_graph.specs.Nets.{PureNet, IsNet}
 use Rattle.net_graph.specs.Routes.{PureRoute}
 use Rattle.path_vector.specs.declared.known.Known.{Known}
 use Rattle.path_vector.specs.declared.neighbour.Neighbour.{Neighbour}
-use Rattle.path_vector.specs.Known.{known_route, entry_of}
-use Rattle.path_vector.specs.Node.{PvState}
-use Rattle.path_vector.specs.State.{IsKept}
+use Rattle.path_vector.specs.Known.{known_route, entry_of, heard_by}
+use Rattle.path_vector.specs.Node.{PvState, choice}
+use Rattle.path_vector.specs.State.{IsKept, row_routes}
 
 -- a node by lists: of each arc that it listens on, its number and the route heard for each destination; and the
 -- row of each destination
@@ -44,12 +44,13 @@ row_list value rows = map (option_map (known_route value)) rows
 abbrev pub heard_lists : {L S : Type 0} → (S → PureValue) → List (Neighbour L S) → List (ℕ × List (Option PureRoute))
 heard_lists value neighbours = map (λ (n : Neighbour _ _). (n.arc.0, row_list value n.heard.items)) neighbours
 
--- a node of a network that keeps its rules, over the network's algebra
-pub record IsNodeOf {L S : Type 0} (stands_for : L → PureLabel → Type 0) (is_sig : S → Type 0) (value : S → PureValue) (expression : Expression) (net : PureNet) (number : ℕ)
+-- a node of a network that keeps its rules, over the network's algebra; once it is begun, its rows are its choices
+pub record IsNodeOf {L S : Type 0} (stands_for : L → PureLabel → Type 0) (is_sig : S → Type 0) (value : S → PureValue) (expression : Expression) (net : PureNet) (number : ℕ) (is_begun : Bool)
     (own : List (Option S)) (ns : List (Neighbour L S)) (rows : List (Option (Known S))) : Type 0 where
   pub algebra : expression ≡ net.alg.expression
   pub is_net : IsNet net
   pub kept : IsKept stands_for is_sig value net number own ns rows
+  pub chosen : is_begun ≡ true → (dest : ℕ) → row_routes value rows dest ≡ choice net dest number (heard_by value ns)
 
 abbrev pub coded_route : Coded PureRoute
 coded_route =

@@ -1,23 +1,23 @@
-ghost use Rattle.std.specs.Prelude.{◌≡◌, ◌<◌, [], Some, IfOk, IfSome, OnErr, OnOk, true, cond, length, map, option_map, slice_get};
+ghost use Rattle.std.specs.Prelude.{◌≡◌, ◌<◌, Some, IfOk, IfSome, OnErr, OnOk, true, length, option_map, slice_get};
 ghost use Rattle.path_vector.specs.declared.neighbour.Neighbour.{Neighbour};
 ghost use Rattle.alg_model.specs.Carriers.{carrier_of, In};
 ghost use Rattle.alg_model.specs.Views.{pure_value};
-ghost use Rattle.net_graph.specs.Nets.{PureArc, IsNet, arcs_to};
+ghost use Rattle.net_graph.specs.Nets.{PureArc, IsNet};
 ghost use Rattle.net_graph.specs.Views.{pure_route};
+ghost use Rattle.path_vector.specs.Changes.{HasSigs, IsChange};
 ghost use Rattle.path_vector.specs.Known.{known_route, heard_by, HasHeard};
-ghost use Rattle.path_vector.specs.Node.{choice, same_row, told_on, heard_with};
+ghost use Rattle.path_vector.specs.Node.{choice, heard_with};
 ghost use Rattle.path_vector.specs.State.{IsKept, row_routes};
-ghost use Rattle.path_vector.specs.Updates.{noted, pure_update};
+ghost use Rattle.path_vector.specs.Updates.{pure_update};
 ghost use Rattle.path_vector.specs.Words.{fits_on};
 
 use crate::known::{Known, known_of};
 use crate::neighbour::Neighbour;
-use crate::rechoosing::rechoose;
+use crate::rechoosing::{Change, rechoose};
 use crate::update::Update;
 use alg_model::Algebra;
 use meta_base::{ArcId, NoMemory, NodeId};
 use net_graph::{Net, Route};
-use node_core::Outgoing;
 use std::alloc::Global;
 
 // The route of an update in the algebra's form, if it has one.
@@ -52,8 +52,8 @@ fn hear_at<L, S>(
     neighbours[place].hear(dest, route)
 }
 
-// Hears an update that came on the arc, and gives the row that the node then chooses for the destination, and what
-// it tells of it. After want of memory what was heard is as it was.
+// Hears an update that came on the arc, and gives the change of the row for the destination, which was the node's
+// choice before. After want of memory what was heard is as it was.
 pub(crate) fn hear<A: Algebra>(
     alloc: Global,
     algebra: &A,
@@ -65,26 +65,26 @@ pub(crate) fn hear<A: Algebra>(
     arc: ArcId,
     update: &Update,
     clock: u64,
-) -> Result<(Option<Known<A::Sig>>, Outgoing<Update>), NoMemory>
+) -> Result<Option<Change<A::Sig>>, NoMemory>
     requires algebra { A.expression algebra.now ≡ net.now.alg.expression }
     requires net { IsNet net.now }
     requires kept { IsKept (A.stands_for algebra.now) (A.is_sig algebra.now) (A.sig_value algebra.now)
         net.now node.0 own.now neighbours.old.items rows.now }
     requires fits { (a : PureArc) × (slice_get net.now.arcs arc.0 ≡ Some a) × (a.tail ≡ node.0)
         × (fits_on net.now a (pure_update update.now) ≡ true) }
-    ensures sig { IfOk result (λ r. IfSome r.0 (λ k. A.is_sig algebra.now k.sig)) }
+    requires chosen { let value = A.sig_value algebra.now in row_routes value rows.now update.now.dest.0 ≡
+        choice net.now update.now.dest.0 node.0 (heard_by value neighbours.old.items) }
+    ensures sig { IfOk result (λ change. HasSigs (A.is_sig algebra.now) change) }
     ensures kept { IsKept (A.stands_for algebra.now) (A.is_sig algebra.now) (A.sig_value algebra.now)
         net.now node.0 own.now neighbours.new.items rows.now }
     ensures err { let value = A.sig_value algebra.now in
         OnErr result (heard_by value neighbours.new.items ≡ heard_by value neighbours.old.items) }
     ensures heard { let value = A.sig_value algebra.now in OnOk result (heard_by value neighbours.new.items ≡
         heard_with (heard_by value neighbours.old.items) arc.0 (pure_update update.now)) }
-    ensures row { let value = A.sig_value algebra.now in IfOk result (λ r. option_map (known_route value) r.0 ≡
-        choice net.now update.now.dest.0 node.0 (heard_by value neighbours.new.items)) }
-    ensures told { let value = A.sig_value algebra.now in
-        let row = choice net.now update.now.dest.0 node.0 (heard_by value neighbours.new.items) in
-        IfOk result (λ r. map noted r.1 ≡ cond (same_row row (row_routes value rows.now update.now.dest.0)) []
-        (told_on (arcs_to net.now node.0) (record { dest = update.now.dest.0; route = row; stamp = clock }))) }
+    ensures change { let value = A.sig_value algebra.now in
+        IfOk result (IsChange value net.now node.0 update.now.dest.0 clock
+        (row_routes value rows.now update.now.dest.0)
+        (choice net.now update.now.dest.0 node.0 (heard_by value neighbours.new.items))) }
 {
     let dest = update.dest.0 as usize;
     let place = net.place_of(arc);
@@ -98,10 +98,11 @@ pub(crate) fn hear<A: Algebra>(
         &own[dest],
         neighbours,
         &rows[dest],
+        arc,
         update.dest,
         clock,
     ) {
-        Ok(chosen) => Ok(chosen),
+        Ok(change) => Ok(change),
         Err(refusal) => {
             hear_at(neighbours, place, dest, earlier);
             Err(refusal)

@@ -60,7 +60,7 @@ impl<'a, A: Algebra> Model for PvNode<'a, A> {
     } };
 
     ghost invariant = { λ n. IsNodeOf (A.stands_for n.algebra.now) (A.is_sig n.algebra.now)
-        (A.sig_value n.algebra.now) (A.expression n.algebra.now) n.net.now n.number.0
+        (A.sig_value n.algebra.now) (A.expression n.algebra.now) n.net.now n.number.0 n.is_begun
         n.own.items n.neighbours.items n.rows.items };
 }
 
@@ -153,6 +153,7 @@ impl<'a, A: Algebra> PvNode<'a, A> {
         out: &mut Outgoing<Update>,
     ) -> Result<(), NoMemory>
         requires out { out.old ≡ [] }
+        requires begun { self.old.is_begun ≡ true }
         requires fits { (a : PureArc) × (slice_get self.old.net.arcs arc.0 ≡ Some a) × (a.tail ≡ self.old.number)
             × (fits_on self.old.net a (pure_update update.now) ≡ true) }
         ensures node { OnOk result (state_of self.new ≡
@@ -161,7 +162,7 @@ impl<'a, A: Algebra> PvNode<'a, A> {
             (taken (state_of self.old) arc.0 (pure_update update.now) clock).1) }
         ensures err { OnErr result ((state_of self.new ≡ state_of self.old) × (out.new ≡ [])) }
     {
-        let (row, told) = hear(
+        let change = hear(
             *self.rows.allocator(),
             self.algebra,
             self.net,
@@ -173,9 +174,12 @@ impl<'a, A: Algebra> PvNode<'a, A> {
             update,
             clock,
         )?;
-        self.rows[update.dest.0 as usize] = row;
         self.last = clock;
-        *out = told;
+        let Some(change) = change else {
+            return Ok(());
+        };
+        self.rows[update.dest.0 as usize] = change.row;
+        *out = change.told;
         Ok(())
     }
 }

@@ -2,7 +2,7 @@ ghost use Rattle.std.specs.Prelude.{◌≡◌, ◌<◌, ◌∷◌, ℕ, IfOk, If
 ghost use Rattle.alg_model.specs.Carriers.{carrier_of};
 ghost use Rattle.net_graph.specs.Nets.{PureArc, PureNet, IsNet};
 ghost use Rattle.net_graph.specs.Routes.{is_better};
-ghost use Rattle.path_vector.specs.Known.{entry_of, known_route, offered_route, better_of, IsNeighbour};
+ghost use Rattle.path_vector.specs.Known.{entry_of, known_route, offered_route, route_through, better_of, IsNeighbour};
 ghost use Rattle.path_vector.specs.Node.{offer_by};
 
 use crate::known::Known;
@@ -59,16 +59,24 @@ pub(crate) fn offer_of<'p, A: Algebra>(
     }
 }
 
-// Whether the first offer to a node is better. The paths of both begin with the node.
-fn is_first<A: Algebra>(algebra: &A, first: &Offer<'_, A::Sig>, second: &Offer<'_, A::Sig>) -> bool
-    requires first { A.is_sig algebra.now first.now.sig }
-    requires second { A.is_sig algebra.now second.now.sig }
+// Whether a route of a node with the first value is better than one with the second. Their paths are the node with
+// these behind it.
+pub(crate) fn is_first<A: Algebra>(
+    algebra: &A,
+    first: &A::Sig,
+    behind_first: &[NodeId],
+    second: &A::Sig,
+    behind_second: &[NodeId],
+) -> bool
+    requires first { A.is_sig algebra.now first.now }
+    requires second { A.is_sig algebra.now second.now }
     ensures { (node : ℕ) → let value = A.sig_value algebra.now in
         result ≡ is_better (carrier_of (A.expression algebra.now))
-        (offered_route value node first.now) (offered_route value node second.now) }
+        (route_through value node first.now behind_first.now)
+        (route_through value node second.now behind_second.now) }
 {
-    let values = algebra.order(&first.sig, &second.sig);
-    values.then(compare(first.behind, second.behind)) == Ordering::Less
+    let values = algebra.order(first, second);
+    values.then(compare(behind_first, behind_second)) == Ordering::Less
 }
 
 // The better of two offers to a node; the first, where neither is better.
@@ -86,7 +94,7 @@ pub(crate) fn better_offer<'p, A: Algebra>(
 {
     match (best, next) {
         (Some(best), Some(next)) => {
-            if is_first(algebra, &next, &best) {
+            if is_first(algebra, &next.sig, next.behind, &best.sig, best.behind) {
                 Some(next)
             } else {
                 Some(best)

@@ -1,9 +1,10 @@
 // Tests of paths.
-ghost use Rattle.std.specs.Prelude.{◌≡◌, ◌==◌, nat_lt};
+ghost use Rattle.std.specs.Prelude.{◌≡◌, ◌==◌, ◌∷◌, ℕ, nat_lt, true};
 ghost use Rattle.std.specs.List.{list_all, list_any};
 ghost use Rattle.meta_base.specs.NodePaths.{numbers};
 ghost use Rattle.alg_model.specs.Carriers.{distinct};
 ghost use Rattle.path_vector.specs.Node.{begins_with};
+ghost use Rattle.path_vector.specs.Settling.{is_next};
 
 use meta_base::NodeId;
 
@@ -21,6 +22,26 @@ pub(crate) fn starts_at(path: &[NodeId], node: NodeId) -> bool
     match path.first() {
         Some(first) => first.0 == node.0,
         None => false,
+    }
+}
+
+// What lies behind the first node of the path.
+pub(crate) fn behind(path: &[NodeId]) -> &[NodeId]
+    ensures { (i : ℕ) → begins_with i (numbers path.now) ≡ true → numbers path.now ≡ i ∷ numbers result.now }
+{
+    match path {
+        [] => path,
+        [_first, behind @ ..] => behind,
+    }
+}
+
+// Whether the node is the second on the path.
+pub(crate) fn is_second(path: &[NodeId], node: NodeId) -> bool
+    ensures { result ≡ is_next node.0 (numbers path.now) }
+{
+    match path {
+        [] => false,
+        [_first, behind @ ..] => starts_at(behind, node),
     }
 }
 

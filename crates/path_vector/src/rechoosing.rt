@@ -1,16 +1,22 @@
-ghost use Rattle.std.specs.Prelude.{◌≡◌, ◌<◌, [], IfOk, IfSome, OnErr, OnOk, cond, length, map, option_map, vec_len};
-ghost use Rattle.net_graph.specs.Nets.{IsNet, arcs_from, arcs_to, origin_value};
-ghost use Rattle.path_vector.specs.Known.{known_route, heard_by, AreNeighbours};
-ghost use Rattle.path_vector.specs.Node.{choice, same_row, told_on};
-ghost use Rattle.path_vector.specs.Updates.{noted, pure_update};
+ghost use Rattle.std.specs.Prelude.{◌≡◌, ◌<◌, IfOk, IfSome, Some, length, option_map, slice_get, true};
+ghost use Rattle.alg_model.specs.Carriers.{carrier_of};
+ghost use Rattle.meta_base.specs.NodePaths.{numbers};
+ghost use Rattle.net_graph.specs.Nets.{PureArc, IsNet, arcs_from, origin_value};
+ghost use Rattle.path_vector.specs.Changes.{HasSigs, IsChange};
+ghost use Rattle.path_vector.specs.Known.{known_route, offered_route, heard_by, AreNeighbours};
+ghost use Rattle.path_vector.specs.Node.{begins_with, choice, same_row};
+ghost use Rattle.path_vector.specs.Settling.{goes_by, is_worse, Settles};
+ghost use Rattle.path_vector.specs.Updates.{pure_update};
 
 use crate::choosing::choose;
 use crate::known::{Known, are_same, route_of};
 use crate::neighbour::Neighbour;
+use crate::offer::{Offer, is_first, offer_of, taken_by};
+use crate::paths::{behind, is_second};
 use crate::telling::told;
 use crate::update::Update;
 use alg_model::Algebra;
-use meta_base::{DestId, List, NoMemory, NodeId};
+use meta_base::{ArcId, DestId, NoMemory, NodeId};
 use net_graph::Net;
 use node_core::Outgoing;
 use std::alloc::Global;
@@ -53,7 +59,76 @@ pub(crate) fn update_of<A: Algebra>(
     Ok(Update { dest, route, stamp })
 }
 
-// The row that the node chooses for a destination, and what it tells of it, if it had another before.
+// A row that is another than it was, and what the node tells of it.
+#[derive(Drop)]
+pub(crate) struct Change<S> {
+    pub row: Option<Known<S>>,
+    pub told: Outgoing<Update>,
+}
+
+// The change from the one row to the other, if they aren't one.
+fn change_of<A: Algebra>(
+    alloc: Global,
+    algebra: &A,
+    net: &Net,
+    node: NodeId,
+    before: &Option<Known<A::Sig>>,
+    row: Option<Known<A::Sig>>,
+    dest: DestId,
+    clock: u64,
+) -> Result<Option<Change<A::Sig>>, NoMemory>
+    requires node { node.0 < length net.now.nodes }
+    requires before { IfSome before.now (λ k. A.is_sig algebra.now k.sig) }
+    requires row { IfSome row (λ k. A.is_sig algebra.now k.sig) }
+    ensures sig { IfOk result (λ change. HasSigs (A.is_sig algebra.now) change) }
+    ensures change { let value = A.sig_value algebra.now in
+        IfOk result (IsChange value net.now node.0 dest.0 clock
+        (option_map (known_route value) before.now) (option_map (known_route value) row)) }
+{
+    if is_same_row(alloc, algebra, &row, before)? {
+        return Ok(None);
+    }
+    let update = update_of(alloc, algebra, dest, &row, clock)?;
+    let told = told(alloc, net, node, &update)?;
+    Ok(Some(Change { row, told }))
+}
+
+// Whether the row goes by that neighbour.
+fn goes_by<A: Algebra>(_algebra: &A, row: &Option<Known<A::Sig>>, neighbour: NodeId) -> bool
+    ensures { result ≡ goes_by neighbour.0 (option_map (known_route (A.sig_value _algebra.now)) row.now) }
+{
+    match row {
+        Some(known) => is_second(known.path.as_slice(), neighbour),
+        None => false,
+    }
+}
+
+// Whether there is a row, and the offer is worse, or there is none.
+fn is_worse<A: Algebra>(
+    algebra: &A,
+    node: NodeId,
+    offer: &Option<Offer<'_, A::Sig>>,
+    row: &Option<Known<A::Sig>>,
+) -> bool
+    requires offer { IfSome offer.now (λ o. A.is_sig algebra.now o.sig) }
+    requires row { IfSome row.now (λ k. A.is_sig algebra.now k.sig) }
+    requires begins { IfSome row.now (λ k. begins_with node.0 (numbers k.path) ≡ true) }
+    ensures { let value = A.sig_value algebra.now in
+        result ≡ is_worse (carrier_of (A.expression algebra.now))
+        (option_map (offered_route value node.0) offer.now) (option_map (known_route value) row.now) }
+{
+    match (offer, row) {
+        (_, None) => false,
+        (None, Some(_)) => true,
+        (Some(offer), Some(row)) => {
+            let behind_row = behind(row.path.as_slice());
+            is_first(algebra, &row.sig, behind_row, &offer.sig, offer.behind)
+        }
+    }
+}
+
+// What becomes of the row of a destination once something was heard on the arc. What the arc offers is compared with
+// the row; the other neighbours are asked only where that was the row's own arc and the row is lost.
 pub(crate) fn rechoose<A: Algebra>(
     alloc: Global,
     algebra: &A,
@@ -62,9 +137,10 @@ pub(crate) fn rechoose<A: Algebra>(
     own: &Option<A::Sig>,
     neighbours: &[Neighbour<A::Lab, A::Sig>],
     before: &Option<Known<A::Sig>>,
+    arc: ArcId,
     dest: DestId,
     clock: u64,
-) -> Result<(Option<Known<A::Sig>>, Outgoing<Update>), NoMemory>
+) -> Result<Option<Change<A::Sig>>, NoMemory>
     requires algebra { A.expression algebra.now ≡ net.now.alg.expression }
     requires net { IsNet net.now }
     requires node { node.0 < length net.now.nodes }
@@ -74,19 +150,27 @@ pub(crate) fn rechoose<A: Algebra>(
     requires neighbours { AreNeighbours (A.stands_for algebra.now) (A.is_sig algebra.now) (A.sig_value algebra.now)
         net.now (arcs_from net.now node.0) neighbours.now }
     requires before { IfSome before.now (λ k. A.is_sig algebra.now k.sig) }
-    ensures sig { IfOk result (λ r. IfSome r.0 (λ k. A.is_sig algebra.now k.sig)) }
-    ensures choice { let value = A.sig_value algebra.now in IfOk result (λ r. option_map (known_route value) r.0 ≡
-        choice net.now dest.0 node.0 (heard_by value neighbours.now)) }
-    ensures told { let value = A.sig_value algebra.now in
-        let row = choice net.now dest.0 node.0 (heard_by value neighbours.now) in IfOk result (λ r. map noted r.1 ≡
-        cond (same_row row (option_map (known_route value) before.now)) []
-        (told_on (arcs_to net.now node.0) (record { dest = dest.0; route = row; stamp = clock }))) }
+    requires begins { IfSome before.now (λ k. begins_with node.0 (numbers k.path) ≡ true) }
+    requires settles { let value = A.sig_value algebra.now in
+        (a : PureArc) × (slice_get net.now.arcs arc.0 ≡ Some a) × (a.tail ≡ node.0)
+        × Settles net.now dest.0 node.0 (heard_by value neighbours.now) a (option_map (known_route value) before.now) }
+    ensures sig { IfOk result (λ change. HasSigs (A.is_sig algebra.now) change) }
+    ensures change { let value = A.sig_value algebra.now in
+        IfOk result (IsChange value net.now node.0 dest.0 clock (option_map (known_route value) before.now)
+        (choice net.now dest.0 node.0 (heard_by value neighbours.now))) }
 {
-    let row = choose(alloc, algebra, net, node, own, neighbours, dest)?;
-    if is_same_row(alloc, algebra, &row, before)? {
-        return Ok((row, List::new(alloc)));
+    let neighbour = &neighbours[net.place_of(arc)];
+    let offer = offer_of(alloc, algebra, net, node, neighbour, dest)?;
+    if is_worse(algebra, node, &offer, before) {
+        if !goes_by(algebra, before, net.arc(arc).head) {
+            return Ok(None);
+        }
+        let row = choose(alloc, algebra, net, node, own, neighbours, dest)?;
+        return change_of(alloc, algebra, net, node, before, row, dest, clock);
     }
-    let update = update_of(alloc, algebra, dest, &row, clock)?;
-    let out = told(alloc, net, node, &update)?;
-    Ok((row, out))
+    let Some(offer) = offer else {
+        return Ok(None);
+    };
+    let row = Some(taken_by(alloc, node, offer)?);
+    change_of(alloc, algebra, net, node, before, row, dest, clock)
 }

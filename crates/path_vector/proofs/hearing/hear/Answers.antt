@@ -1,15 +1,16 @@
-use Rattle.std.proofs.Common.{◌≡◌, ◌<◌, [], ◌==◌, ◌&&◌, map, cond, length, subst, sym, ap, ◌∙◌}
+use Rattle.std.proofs.Common.{◌<◌, ◌==◌, ◌&&◌, cond, length, subst, sym, ap, ◌∙◌}
 use Rattle.std.specs.Prelude.{option_map}
-use Rattle.net_graph.specs.Nets.{arcs_to}
 use Rattle.net_graph.specs.Views.{pure_route}
 use Rattle.path_vector.specs.Choosing.{may_be_parts}
 use Rattle.path_vector.specs.Known.{known_route, heard_by}
-use Rattle.path_vector.specs.Node.{PureUpdate, choice, same_row, told_on}
-use Rattle.path_vector.specs.Updates.{noted, pure_update}
+use Rattle.path_vector.specs.Changes.{IsChange}
+use Rattle.path_vector.specs.Node.{choice}
+use Rattle.path_vector.specs.Updates.{pure_update}
 use Rattle.path_vector.specs.Words.{fits_parts}
 use Rattle.path_vector.proofs.Choices.{entry_is}
 use Rattle.path_vector.proofs.Beginnings.{some_holds}
-use Rattle.path_vector.proofs.Hearings.{neighbour_there, still_neighbours, heard_now, earlier_fits, earlier_is, put_back, known_fits}
+use Rattle.path_vector.proofs.Hearings.{neighbour_there, number, still_neighbours, heard_now, earlier_fits, earlier_is, put_back, known_fits}
+use Rattle.path_vector.proofs.Rechoosings.{row_begins, row_settles}
 use Rattle.path_vector.proofs.hearing.hear.Goals as goal
 
 pub heard_route-requires : goal.heard_route-requires
@@ -113,6 +114,54 @@ rechoose-requires-clause-before g c =
     let row = entry_is c.args.rows.now dest c.index-rows-dest.result inside_rows c.index-rows-dest.is in
     some_holds _ c.index-rows-dest.result (λ x e. kept.row_sigs dest x (row ∙ e))
 
+pub rechoose-requires-clause-begins : goal.rechoose-requires-clause-begins
+rechoose-requires-clause-begins g c =
+    let A = g.A.Algebra in
+    let s = c.args.algebra.now in
+    let value = A.sig_value s in
+    let net = c.args.net.now in
+    let i = c.args.node.0 in
+    let kept = c.requires.kept in
+    let ns = c.args.neighbours.now.items in
+    let update = c.args.update.now in
+    let dest = update.dest.0 in
+    let a = c.requires.fits.0 in
+    let parts = fits_parts net a (pure_update update) c.requires.fits.3 in
+    let inside_rows : dest < length c.args.rows.now = subst (λ z. dest < z) (sym kept.row_count) parts.0 in
+    let row = entry_is c.args.rows.now dest c.index-rows-dest.result inside_rows c.index-rows-dest.is in
+    some_holds _ c.index-rows-dest.result (row_begins (A.stands_for s) (A.is_sig s) value net c.requires.net i dest ns kept.neighbours c.index-rows-dest.result (ap (option_map (known_route value)) (sym row) ∙ c.requires.chosen))
+
+pub rechoose-requires-clause-settles : goal.rechoose-requires-clause-settles
+rechoose-requires-clause-settles g c =
+    let A = g.A.Algebra in
+    let s = c.args.algebra.now in
+    let value = A.sig_value s in
+    let net = c.args.net.now in
+    let i = c.args.node.0 in
+    let kept = c.requires.kept in
+    let ns = c.args.neighbours.now.items in
+    let update = c.args.update.now in
+    let dest = update.dest.0 in
+    let a = c.requires.fits.0 in
+    let parts = fits_parts net a (pure_update update) c.requires.fits.3 in
+    let there = neighbour_there (A.stands_for s) (A.is_sig s) value net i c.requires.net ns kept.neighbours c.args.arc.0 c.place_of-place.result dest a c.requires.fits.1 c.requires.fits.2 c.place_of-place.ensures parts.0 in
+    let route = c.in_ok-route.route in
+    let now = c.hear_at-earlier.new.neighbours.items in
+    let has = c.hear_at-earlier.ensures there.0 there.1 in
+    let fit = known_fits (A.is_sig s) value net a route (option_map pure_route update.route) c.in_ok-route.ensures.sig c.in_ok-route.ensures.route parts.1 in
+    let are = still_neighbours (A.stands_for s) (A.is_sig s) value net i c.requires.net ns kept.neighbours c.args.arc.0 c.place_of-place.result dest a c.requires.fits.1 c.requires.fits.2 c.place_of-place.ensures parts.0 route c.hear_at-earlier.result now has fit in
+    let heard = heard_now (A.stands_for s) (A.is_sig s) value net i c.requires.net ns kept.neighbours c.args.arc.0 c.place_of-place.result dest a c.requires.fits.1 c.requires.fits.2 c.place_of-place.ensures parts.0 route c.hear_at-earlier.result now has in
+    let id = number (A.stands_for s) (A.is_sig s) value net i c.requires.net ns kept.neighbours c.args.arc.0 c.place_of-place.result dest a c.requires.fits.1 c.requires.fits.2 c.place_of-place.ensures parts.0 in
+    let inside_rows : dest < length c.args.rows.now = subst (λ z. dest < z) (sym kept.row_count) parts.0 in
+    let row = entry_is c.args.rows.now dest c.index-rows-dest.result inside_rows c.index-rows-dest.is in
+    rw c.deref.ensures.value (
+      a,
+      c.requires.fits.1,
+      c.requires.fits.2,
+      row_settles (A.stands_for s) (A.is_sig s) value net c.requires.net i dest ns now kept.neighbours are a c.args.arc.0 (option_map (known_route value) route) c.requires.fits.1 id c.requires.fits.2 heard
+          (option_map (known_route value) c.index-rows-dest.result) (ap (option_map (known_route value)) (sym row) ∙ c.requires.chosen),
+    )
+
 pub hear_at-requires : goal.hear_at-requires
 hear_at-requires g c =
     let A = g.A.Algebra in
@@ -184,28 +233,17 @@ returns-in-Ok-clause-heard g c =
     heard_now (A.stands_for s) (A.is_sig s) value net i c.requires.net ns kept.neighbours c.args.arc.0 c.place_of-place.result dest a c.requires.fits.1 c.requires.fits.2 c.place_of-place.ensures parts.0 route c.hear_at-earlier.result now has
     ∙ ap (λ z. λ b d. cond (b == c.args.arc.0 && d == dest) z (heard_by value ns b d)) c.in_ok-route.ensures.route
 
-pub returns-in-Ok-clause-row : goal.returns-in-Ok-clause-row
-returns-in-Ok-clause-row g c =
-    rw c.deref.ensures.value at c.in-Ok.ensures.choice
-
-pub returns-in-Ok-clause-told : goal.returns-in-Ok-clause-told
-returns-in-Ok-clause-told g c =
-    let A = g.A.Algebra in
-    let s = c.args.algebra.now in
-    let value = A.sig_value s in
+pub returns-in-Ok-clause-change : goal.returns-in-Ok-clause-change
+returns-in-Ok-clause-change g c =
+    let value = g.A.Algebra.sig_value c.args.algebra.now in
     let net = c.args.net.now in
-    let i = c.args.node.0 in
-    let kept = c.requires.kept in
-    let ns = c.args.neighbours.now.items in
-    let update = c.args.update.now in
-    let dest = update.dest.0 in
+    let dest = c.args.update.now.dest.0 in
     let a = c.requires.fits.0 in
-    let parts = fits_parts net a (pure_update update) c.requires.fits.3 in
-    let inside_rows : dest < length c.args.rows.now = subst (λ z. dest < z) (sym kept.row_count) parts.0 in
+    let parts = fits_parts net a (pure_update c.args.update.now) c.requires.fits.3 in
+    let inside_rows : dest < length c.args.rows.now = subst (λ z. dest < z) (sym c.requires.kept.row_count) parts.0 in
     let row = entry_is c.args.rows.now dest c.index-rows-dest.result inside_rows c.index-rows-dest.is in
-    let chosen = choice net dest i (heard_by value c.hear_at-earlier.new.neighbours.items) in
-    let told : PureUpdate = record { dest = dest; route = chosen; stamp = c.args.clock } in
-    subst (λ z. map noted c.in-Ok.chosen.1 ≡ cond (same_row chosen (option_map (known_route value) z)) [] (told_on (arcs_to net i) told)) (sym row) (rw c.deref.ensures.value at c.in-Ok.ensures.told)
+    let chosen = choice net dest c.args.node.0 (heard_by value c.hear_at-earlier.new.neighbours.items) in
+    subst (λ z. IsChange value net c.args.node.0 dest c.args.clock (option_map (known_route value) z) chosen c.in-Ok.change) (sym row) (rw c.deref.ensures.value at c.in-Ok.ensures.change)
 
 pub returns-in-Err-clause-kept : goal.returns-in-Err-clause-kept
 returns-in-Err-clause-kept g c =

@@ -13,6 +13,7 @@ invariant_of-result g c =
     record {
       algebra = c.old.invariant.algebra ∙ ap (λ (z : PureNet). z.alg.expression) (sym same);
       is_net = c.in_ok-neighbours.ensures.net;
+      chosen = λ begun. absurd (cc);
       kept = kept_on (A.stands_for s) (A.is_sig s) (A.sig_value s) old.net.now net same old.number.0 old.own.items old.neighbours.items c.in_ok-neighbours.neighbours.items old.rows.items c.old.invariant.kept c.in_ok-neighbours.ensures.neighbours;
     }
 

@@ -6,6 +6,7 @@ pub invariant_of-result : goal.invariant_of-result
 invariant_of-result g c = record {
   algebra = c.requires.algebra;
   is_net = c.dest_count.ensures.net;
+  chosen = λ begun. absurd (cc);
   kept = record {
     inside = c.requires.node;
     own_count = c.in_ok-own_sigs.ensures.count;

@@ -6,6 +6,14 @@ use Rattle.path_vector.specs.State.{row_routes}
 use Rattle.path_vector.proofs.Nodes.{begun_is, state_is, state_with}
 use Rattle.path_vector.proofs.node.PvNodeNodeCore.on_start.Goals as goal
 
+pub invariant_of-self : goal.invariant_of-self
+invariant_of-self g c = record {
+  algebra = c.self.invariant.algebra;
+  is_net = c.self.invariant.is_net;
+  kept = rw (c.deref.ensures.value, c.deref-2.ensures.value) at c.in_ok-rows.ensures.kept;
+  chosen = λ begun dest. ap (λ f. f dest) (rw c.deref-2.ensures.value at c.in_ok-rows.ensures.rows);
+}
+
 pub returns-clause-node : goal.returns-clause-node
 returns-clause-node g c =
     let inside = c.self.inside in
