@@ -212,7 +212,7 @@ pub append_nothing : {X : Type 0} (xs : List X) → xs ++ [] ≡ xs
 append_nothing [] = refl
 append_nothing (x ∷ xs) = rw (append_nothing xs) refl
 
-take_whole : {X : Type 0} (xs : List X) (k : ℕ) → length xs ≤ k → take k xs ≡ xs
+pub take_whole : {X : Type 0} (xs : List X) (k : ℕ) → length xs ≤ k → take k xs ≡ xs
 take_whole [] zero l = refl
 take_whole [] (suc k) l = refl
 take_whole (x ∷ xs) zero l = absurd (omega arith)

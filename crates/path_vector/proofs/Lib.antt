@@ -3,6 +3,7 @@ pub mod Bounds
 pub mod Carrying
 pub mod Choices
 pub mod Hearings
+pub mod PathMarks
 pub mod NodeRows
 pub mod Nodes
 pub mod Owns

@@ -1,14 +1,14 @@
 -- Tests of paths, which go over nodes, as tests of their numbers.
-use Rattle.std.proofs.Common.{◌≡◌, ◌≢◌, ◌⊎◌, ◌↔◌, ℕ, ◌≤◌, ◌-◌, take, drop, slice_index_or, subst, List, [], ◌∷◌, Bool, true, false, ◌&&◌, ltb, length, refl, sym, ap, ◌∙◌, arith}
+use Rattle.std.proofs.Common.{◌≡◌, ◌≢◌, ◌⊎◌, ◌↔◌, ℕ, ◌≤◌, subst, List, [], ◌∷◌, Bool, true, false, ◌&&◌, ltb, length, refl, arith}
 use Rattle.std.specs.Prelude.{◌==◌, nat_lt}
 use Rattle.std.specs.Bool.{Decides}
-use Rattle.alg_model.specs.Carriers.{distinct}
 use Rattle.std.specs.List.{list_any, list_all}
 use Rattle.std.specs.Str.{bytes_eq}
 use Rattle.meta_base.specs.declared.ids.NodeId.{NodeId}
 use Rattle.std.specs.Ordering.{nat_cmp}
 use Rattle.std.specs.declared.cmp.Ordering.{Ordering}
 use Rattle.std.specs.declared.cmp.Ordering.TheVariants.{Less, Equal, Greater}
+use Rattle.std.proofs.lemmas.Bool.{and_parts}
 use Rattle.std.proofs.lemmas.Bool.Decides.{nat_tests}
 use Rattle.std.proofs.lemmas.Slice.Eq.{bytes_eq-Decides}
 use Rattle.net_graph.specs.RouteLaws.{paths_equal}
@@ -63,33 +63,22 @@ one_test false false h d = refl
 one_test true false h d = absurd (let e = d.1 (h.0 refl) in cc)
 one_test false true h d = absurd (let e = h.1 (d.0 refl) in cc)
 
-take_more : (p : List NodeId) → take (length p) p ≡ p
-take_more [] = refl
-take_more (n ∷ p) = rw (take_more p) refl
-
-behind : (n : NodeId) (p : List NodeId) → take (length (n ∷ p) - 1) (drop 1 (n ∷ p)) ≡ p
-behind n p =
-    let less : length (n ∷ p) - 1 ≡ length p = omega arith in
-    ap (λ z. take z p) less ∙ take_more p
-
--- whether a path has each node once, from its first node and the others
-pub first_again : (p : List NodeId) (r : Bool) (d : NodeId) → 1 ≤ length p → r ≡ list_any (λ (n : NodeId). n.0 == (slice_index_or p 0 d).0) (take (length p - 1) (drop 1 p)) → r ≡ true → false ≡ distinct (numbers p)
-first_again [] r d l e f = absurd (omega arith)
-first_again (n ∷ p) r d l e f =
-    let there : is_among (numbers p) n.0 ≡ true = sym (any_number p n.0) ∙ (sym (ap (λ z. list_any (λ (m : NodeId). m.0 == n.0) z) (behind n p)) ∙ (sym e ∙ f)) in
-    rw there refl
-
-pub first_once : (p : List NodeId) (r h : Bool) (d : NodeId) → 1 ≤ length p → r ≡ list_any (λ (n : NodeId). n.0 == (slice_index_or p 0 d).0) (take (length p - 1) (drop 1 p)) → r ≡ false
-    → h ≡ distinct (numbers (take (length p - 1) (drop 1 p))) → h ≡ distinct (numbers p)
-first_once [] r h d l e f g = absurd (omega arith)
-first_once (n ∷ p) r h d l e f g =
-    let lacks : is_among (numbers p) n.0 ≡ false = sym (any_number p n.0) ∙ (sym (ap (λ z. list_any (λ (m : NodeId). m.0 == n.0) z) (behind n p)) ∙ (sym e ∙ f)) in
-    let rest : h ≡ distinct (numbers p) = g ∙ ap (λ z. distinct (numbers z)) (behind n p) in
-    rw lacks rest
-
 -- a chain of tests
 pub all_but_last : (a b c d e x : Bool) → a ≡ true → b ≡ true → c ≡ true → d ≡ true → x ≡ e → x ≡ (a && b && c && d && e)
 all_but_last a b c d e x p q r s h = rw (p, q, r, s) h
 
-pub fourth_fails : (a b c d e : Bool) → a ≡ true → b ≡ true → c ≡ true → d ≡ false → false ≡ (a && b && c && d && e)
-fourth_fails a b c d e p q r s = rw (p, q, r, s) refl
+pub fourth_fails : (a b c d e : Bool) → a ≡ true → b ≡ true → d ≡ false → false ≡ (a && b && c && d && e)
+fourth_fails a b true d e p q r = rw (p, q, r) refl
+fourth_fails a b false d e p q r = rw (p, q) refl
+
+pub third_fails : (a b c d e : Bool) → a ≡ true → b ≡ true → c ≡ false → false ≡ (a && b && c && d && e)
+third_fails a b c d e p q r = rw (p, q, r) refl
+
+-- what is below one bound is below a greater one
+pub all_below_more : (path : List NodeId) (few many : ℕ) → few ≤ many → list_all (λ (n : NodeId). nat_lt n.0 few) path ≡ true → list_all (λ (n : NodeId). nat_lt n.0 many) path ≡ true
+all_below_more [] few many l all = refl
+all_below_more (n ∷ path) few many l all =
+    let both = and_parts (nat_lt n.0 few) (list_all (λ (n : NodeId). nat_lt n.0 few) path) all in
+    let test : nat_lt n.0 few ≡ true = both.0 in
+    let more : nat_lt n.0 many ≡ true = grind (arith, nat_tests) in
+    rw (more, all_below_more path few many l both.1) refl

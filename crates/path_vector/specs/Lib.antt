@@ -7,6 +7,7 @@ pub mod Items
 pub mod Known
 pub mod Lawful
 pub mod Laws
+pub mod Marks
 pub mod Node
 pub mod Nodes
 pub mod Quiet

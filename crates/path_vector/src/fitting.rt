@@ -32,10 +32,10 @@ fn may_be_of(net: &Net, speaker: NodeId, route: &Route) -> bool
     if !starts_at(path, speaker) {
         return false;
     }
-    if !has_each_once(path) {
+    if !are_below(path, net.node_count()) {
         return false;
     }
-    if !are_below(path, net.node_count()) {
+    if !has_each_once(path) {
         return false;
     }
     let greatest = path.len() as Amount * (net.edition().greatest_number() as Amount + 1);

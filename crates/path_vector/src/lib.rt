@@ -8,6 +8,7 @@ mod fitting;
 mod hearing;
 mod known;
 mod laws;
+mod marks;
 mod neighbour;
 mod neighbours;
 mod node;

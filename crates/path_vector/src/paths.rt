@@ -2,10 +2,12 @@
 ghost use Rattle.std.specs.Prelude.{◌≡◌, ◌==◌, ◌∷◌, ℕ, nat_lt, true};
 ghost use Rattle.std.specs.List.{list_all, list_any};
 ghost use Rattle.meta_base.specs.NodePaths.{numbers};
+ghost use Rattle.net_graph.specs.declared.limits.TheConstants.{MAX_NODES_TWO};
 ghost use Rattle.alg_model.specs.Carriers.{distinct};
 ghost use Rattle.path_vector.specs.Node.{begins_with};
 ghost use Rattle.path_vector.specs.Settling.{is_next};
 
+use crate::marks::{MARK_WORDS, is_marked, mark};
 use meta_base::NodeId;
 
 // Whether the path passes the node.
@@ -45,14 +47,19 @@ pub(crate) fn is_second(path: &[NodeId], node: NodeId) -> bool
     }
 }
 
-// Whether no node is on the path twice.
+// Whether no node is on the path twice. The nodes are those of a network.
 pub(crate) fn has_each_once(path: &[NodeId]) -> bool
+    requires { list_all (λ n. nat_lt n.0 MAX_NODES_TWO) path.now ≡ true }
     ensures { result ≡ distinct (numbers path.now) }
 {
-    match path {
-        [] => true,
-        [node, behind @ ..] => !passes(behind, *node) && has_each_once(behind),
+    let mut passed = [0; MARK_WORDS];
+    for node in path {
+        if is_marked(&passed, *node) {
+            return false;
+        }
+        mark(&mut passed, *node);
     }
+    true
 }
 
 // Whether all nodes of the path are below this number.
