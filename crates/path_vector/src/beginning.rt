@@ -44,9 +44,19 @@ pub(crate) fn begun_rows<A: Algebra>(
 {
     let mut begun = Vec::with_capacity(alloc, rows.len())?;
     let mut out = List::new(alloc);
+    let mut spare = None;
     for place in 0..rows.len() {
         let dest = DestId(place as u32);
-        let row = choose(alloc, algebra, net, node, &own[place], neighbours, dest)?;
+        let row = choose(
+            alloc,
+            algebra,
+            net,
+            node,
+            &own[place],
+            neighbours,
+            dest,
+            &mut spare,
+        )?;
         let is_same = is_same_row(alloc, algebra, &row, &rows[place])?;
         let update = update_of(alloc, algebra, dest, &row, 0)?;
         tell_begun(alloc, net, before, node, !is_same, &update, &mut out)?;

@@ -33,7 +33,7 @@ fn own_offer<'p, A: Algebra>(
 }
 
 // The node's choice for a destination, from its own origin's value there and what it heard of its neighbours, one
-// for each arc that it may route by.
+// for each arc that it may route by. Offers are made in the memory of the spare value.
 pub(crate) fn choose<A: Algebra>(
     alloc: Global,
     algebra: &A,
@@ -42,6 +42,7 @@ pub(crate) fn choose<A: Algebra>(
     own: &Option<A::Sig>,
     neighbours: &[Neighbour<A::Lab, A::Sig>],
     dest: DestId,
+    spare: &mut Option<A::Sig>,
 ) -> Result<Option<Known<A::Sig>>, NoMemory>
     requires algebra { A.expression algebra.now ≡ net.now.alg.expression }
     requires net { IsNet net.now }
@@ -56,8 +57,8 @@ pub(crate) fn choose<A: Algebra>(
 {
     let mut best = own_offer(alloc, algebra, own)?;
     for neighbour in neighbours {
-        let next = offer_of(alloc, algebra, net, node, neighbour, dest)?;
-        best = better_offer(algebra, best, next);
+        let next = offer_of(alloc, algebra, net, node, neighbour, dest, spare)?;
+        best = better_offer(algebra, best, next, spare);
     }
     match best {
         Some(offer) => Ok(Some(taken_by(alloc, node, offer)?)),

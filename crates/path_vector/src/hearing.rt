@@ -65,6 +65,7 @@ pub(crate) fn hear<A: Algebra>(
     arc: ArcId,
     update: &Update,
     clock: u64,
+    spare: &mut Option<A::Sig>,
 ) -> Result<Option<Change<A::Sig>>, NoMemory>
     requires algebra { A.expression algebra.now ≡ net.now.alg.expression }
     requires net { IsNet net.now }
@@ -101,6 +102,7 @@ pub(crate) fn hear<A: Algebra>(
         arc,
         update.dest,
         clock,
+        spare,
     ) {
         Ok(change) => Ok(change),
         Err(refusal) => {

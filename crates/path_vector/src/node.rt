@@ -1,4 +1,5 @@
 ghost use Rattle.std.specs.Prelude.{◌≡◌, ◌<◌, ◌≤◌, [], Some, true, IfOk, OnErr, OnOk, length, map, slice_get};
+ghost use Rattle.std.proofs.Math.ListN.{set};
 ghost use Rattle.net_graph.specs.declared.limits.TheConstants.{MAX_DESTS_ONE};
 ghost use Rattle.net_graph.specs.Nets.{PureArc};
 ghost use Rattle.net_graph.specs.Views.{pure_row};
@@ -22,6 +23,7 @@ use net_graph::{Net, RouteRow};
 use node_core::{NodeCore, Outgoing};
 use std::alloc::Global;
 use std::marker::Model;
+use std::mem::replace;
 
 /// A node that routes by path vector over an algebra: it keeps what its neighbours told it last, chooses the best
 /// of what they offer for each destination, and tells those that listen to it when its choice changes (Griffin and
@@ -39,6 +41,8 @@ pub struct PvNode<'a, A: Algebra> {
     neighbours: Vec<Neighbour<A::Lab, A::Sig>>,
     rows: Vec<Option<Known<A::Sig>>>,
     last: u64,
+    // A value that is no longer wanted, in whose memory offers are made.
+    spare: Option<A::Sig>,
 }
 
 impl<'a, A: Algebra> Model for PvNode<'a, A> {
@@ -87,6 +91,7 @@ impl<'a, A: Algebra> PvNode<'a, A> {
             neighbours: silent_neighbours(alloc, algebra, net, number)?,
             rows: no_entries(alloc, net.dest_count())?,
             last: 0,
+            spare: None,
         })
     }
 
@@ -116,6 +121,7 @@ impl<'a, A: Algebra> PvNode<'a, A> {
             neighbours,
             rows: old.rows,
             last: 0,
+            spare: old.spare,
         })
     }
 
@@ -173,14 +179,31 @@ impl<'a, A: Algebra> PvNode<'a, A> {
             arc,
             update,
             clock,
+            &mut self.spare,
         )?;
         self.last = clock;
         let Some(change) = change else {
             return Ok(());
         };
-        self.rows[update.dest.0 as usize] = change.row;
+        let dest = update.dest.0 as usize;
+        put_row(&mut self.rows, dest, change.row, &mut self.spare);
         *out = change.told;
         Ok(())
+    }
+}
+
+// Puts the row in the place of the old one, whose value is kept for offers.
+fn put_row<S: Drop>(
+    rows: &mut Vec<Option<Known<S>>>,
+    dest: usize,
+    row: Option<Known<S>>,
+    spare: &mut Option<S>,
+)
+    requires { dest < length rows.old.items }
+    ensures { rows.new.items ≡ set rows.old.items dest row }
+{
+    if let Some(old) = replace(&mut rows[dest], row) {
+        *spare = Some(old.sig);
     }
 }
 

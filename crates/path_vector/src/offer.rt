@@ -1,5 +1,9 @@
 ghost use Rattle.std.specs.Prelude.{◌≡◌, ◌<◌, ◌∷◌, ℕ, IfOk, IfSome, length, option_map, option_and_then};
+ghost use Rattle.alg_model.specs.declared.alg.TheConstants.{MAX_VALUE_NUMBER};
+ghost use Rattle.alg_model.specs.Application.{App};
+ghost use Rattle.alg_model.specs.Bounds.{AtMost};
 ghost use Rattle.alg_model.specs.Carriers.{carrier_of};
+ghost use Rattle.alg_model.specs.Expressions.{PureLabel};
 ghost use Rattle.net_graph.specs.Nets.{PureArc, PureNet, IsNet};
 ghost use Rattle.net_graph.specs.Routes.{is_better};
 ghost use Rattle.path_vector.specs.Known.{entry_of, known_route, offered_route, route_through, better_of, IsNeighbour};
@@ -23,7 +27,35 @@ pub(crate) struct Offer<'p, S> {
     pub behind: &'p [NodeId],
 }
 
-// What the neighbour offers the node for a destination, if what was heard of it makes a route.
+// What the label makes of the value, in the memory of the spare value if there is one, or `None` where it prohibits
+// the value. Then the spare value stays.
+fn image<A: Algebra>(
+    alloc: Global,
+    algebra: &A,
+    lab: &A::Lab,
+    sig: &A::Sig,
+    spare: &mut Option<A::Sig>,
+) -> Result<Option<A::Sig>, NoMemory>
+    requires lab { (l : PureLabel) × A.stands_for algebra.now lab.now l }
+    requires sig { A.is_sig algebra.now sig.now }
+    requires small { AtMost MAX_VALUE_NUMBER (A.sig_value algebra.now sig.now) }
+    ensures sig { IfOk result (λ image. IfSome image (A.is_sig algebra.now)) }
+    ensures image { (l : PureLabel) → A.stands_for algebra.now lab.now l → IfOk result (λ image.
+        option_map (A.sig_value algebra.now) image ≡
+        App (A.expression algebra.now) l (A.sig_value algebra.now sig.now)) }
+{
+    let Some(mut out) = spare.take() else {
+        return algebra.apply(alloc, lab, sig);
+    };
+    if algebra.apply_into(alloc, lab, sig, &mut out)? {
+        return Ok(Some(out));
+    }
+    *spare = Some(out);
+    Ok(None)
+}
+
+// What the neighbour offers the node for a destination, if what was heard of it makes a route. Its value is made in
+// the memory of the spare one.
 pub(crate) fn offer_of<'p, A: Algebra>(
     alloc: Global,
     algebra: &A,
@@ -31,6 +63,7 @@ pub(crate) fn offer_of<'p, A: Algebra>(
     node: NodeId,
     neighbour: &'p Neighbour<A::Lab, A::Sig>,
     dest: DestId,
+    spare: &mut Option<A::Sig>,
 ) -> Result<Option<Offer<'p, A::Sig>>, NoMemory>
     requires algebra { A.expression algebra.now ≡ net.now.alg.expression }
     requires net { IsNet net.now }
@@ -50,7 +83,7 @@ pub(crate) fn offer_of<'p, A: Algebra>(
     if passes(known.path.as_slice(), node) {
         return Ok(None);
     }
-    match algebra.apply(alloc, &neighbour.label, &known.sig)? {
+    match image(alloc, algebra, &neighbour.label, &known.sig, spare)? {
         Some(sig) => Ok(Some(Offer {
             sig,
             behind: known.path.as_slice(),
@@ -75,15 +108,23 @@ pub(crate) fn is_first<A: Algebra>(
         (route_through value node first.now behind_first.now)
         (route_through value node second.now behind_second.now) }
 {
-    let values = algebra.order(first, second);
-    values.then(compare(behind_first, behind_second)) == Ordering::Less
+    match algebra.order(first, second) {
+        Ordering::Equal => compare(behind_first, behind_second) == Ordering::Less,
+        values => values == Ordering::Less,
+    }
 }
 
-// The better of two offers to a node; the first, where neither is better.
+// Keeps the value of an offer that lost, so that the next one is made in its memory.
+pub(crate) fn set_aside<S: Drop>(offer: Offer<'_, S>, spare: &mut Option<S>) {
+    *spare = Some(offer.sig);
+}
+
+// The better of two offers to a node; the first, where neither is better. The value of the other one is kept.
 pub(crate) fn better_offer<'p, A: Algebra>(
     algebra: &A,
     best: Option<Offer<'p, A::Sig>>,
     next: Option<Offer<'p, A::Sig>>,
+    spare: &mut Option<A::Sig>,
 ) -> Option<Offer<'p, A::Sig>>
     requires best { IfSome best (λ o. A.is_sig algebra.now o.sig) }
     requires next { IfSome next (λ o. A.is_sig algebra.now o.sig) }
@@ -95,8 +136,10 @@ pub(crate) fn better_offer<'p, A: Algebra>(
     match (best, next) {
         (Some(best), Some(next)) => {
             if is_first(algebra, &next.sig, next.behind, &best.sig, best.behind) {
+                set_aside(best, spare);
                 Some(next)
             } else {
+                set_aside(next, spare);
                 Some(best)
             }
         }

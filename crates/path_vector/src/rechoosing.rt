@@ -11,7 +11,7 @@ ghost use Rattle.path_vector.specs.Updates.{pure_update};
 use crate::choosing::choose;
 use crate::known::{Known, are_same, route_of};
 use crate::neighbour::Neighbour;
-use crate::offer::{Offer, is_first, offer_of, taken_by};
+use crate::offer::{Offer, is_first, offer_of, set_aside, taken_by};
 use crate::paths::{behind, is_second};
 use crate::telling::told;
 use crate::update::Update;
@@ -140,6 +140,7 @@ pub(crate) fn rechoose<A: Algebra>(
     arc: ArcId,
     dest: DestId,
     clock: u64,
+    spare: &mut Option<A::Sig>,
 ) -> Result<Option<Change<A::Sig>>, NoMemory>
     requires algebra { A.expression algebra.now ≡ net.now.alg.expression }
     requires net { IsNet net.now }
@@ -160,12 +161,15 @@ pub(crate) fn rechoose<A: Algebra>(
         (choice net.now dest.0 node.0 (heard_by value neighbours.now))) }
 {
     let neighbour = &neighbours[net.place_of(arc)];
-    let offer = offer_of(alloc, algebra, net, node, neighbour, dest)?;
+    let offer = offer_of(alloc, algebra, net, node, neighbour, dest, spare)?;
     if is_worse(algebra, node, &offer, before) {
+        if let Some(offer) = offer {
+            set_aside(offer, spare);
+        }
         if !goes_by(algebra, before, net.arc(arc).head) {
             return Ok(None);
         }
-        let row = choose(alloc, algebra, net, node, own, neighbours, dest)?;
+        let row = choose(alloc, algebra, net, node, own, neighbours, dest, spare)?;
         return change_of(alloc, algebra, net, node, before, row, dest, clock);
     }
     let Some(offer) = offer else {

@@ -7,15 +7,15 @@ use Rattle.path_vector.proofs.Choices.{entry_is, offers_known, passing_offers_no
 use Rattle.path_vector.proofs.PathTests.{any_number}
 use Rattle.path_vector.proofs.offer.offer_of.Goals as goal
 
-pub apply-requires-clause-sig : goal.apply-requires-clause-sig
-apply-requires-clause-sig g c =
+pub image-requires-clause-sig : goal.image-requires-clause-sig
+image-requires-clause-sig g c =
     let is = c.requires.neighbour.1 in
     let items = c.args.neighbour.now.heard.items in
     let inside : c.args.dest.0 < length items = subst (λ z. c.args.dest.0 < z) (sym is.count) c.requires.dest in
     (is.known c.args.dest.0 c.in-Some.known (entry_is items c.args.dest.0 c.index.result.now inside c.index.ensures ∙ c.in-Some.is)).0
 
-pub apply-requires-clause-small : goal.apply-requires-clause-small
-apply-requires-clause-small g c =
+pub image-requires-clause-small : goal.image-requires-clause-small
+image-requires-clause-small g c =
     let a = c.requires.neighbour.0 in
     let is = c.requires.neighbour.1 in
     let items = c.args.neighbour.now.heard.items in

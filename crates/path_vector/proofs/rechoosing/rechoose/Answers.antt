@@ -75,8 +75,8 @@ returns-then-not-goes_by-clause-change g c =
     let other : goes_by a.head row ≡ false = ap (λ z. goes_by z row) (sym head) ∙ (sym c.goes_by.ensures ∙ c.if-not-goes_by.true) in
     row_chosen net dest i heard a row offer c.requires.settles.3 offered worse other
 
-pub returns-in_default-clause-change : goal.returns-in_default-clause-change
-returns-in_default-clause-change g c =
+pub returns-in_default-offer-clause-change : goal.returns-in_default-offer-clause-change
+returns-in_default-offer-clause-change g c =
     let A = g.A.Algebra in
     let s = c.args.algebra.now in
     let ns = c.args.neighbours.now in
@@ -98,7 +98,7 @@ returns-in_default-clause-change g c =
     ∙ ap (option_and_then (offer_by net a)) (sym (heard_there (A.stands_for s) (A.is_sig s) (A.sig_value s) c.args.net.now c.args.node.0 c.requires.net ns c.requires.neighbours c.args.arc.0 c.place_of.result c.args.dest.0
     c.requires.settles.0 c.requires.settles.1 c.requires.settles.2 c.place_of.ensures c.requires.dest m here)) in
     let worse = rw c.requires.algebra at (sym c.is_worse.ensures ∙ c.if-is_worse.false) in
-    none_chosen net dest i heard a row offer c.requires.settles.3 offered (rw c.in_default.is refl) worse
+    none_chosen net dest i heard a row offer c.requires.settles.3 offered (rw c.in_default-offer.is refl) worse
 
 pub returns-clause-change : goal.returns-clause-change
 returns-clause-change g c =
@@ -123,5 +123,5 @@ returns-clause-change g c =
     ∙ ap (option_and_then (offer_by net a)) (sym (heard_there (A.stands_for s) (A.is_sig s) (A.sig_value s) c.args.net.now c.args.node.0 c.requires.net ns c.requires.neighbours c.args.arc.0 c.place_of.result c.args.dest.0
     c.requires.settles.0 c.requires.settles.1 c.requires.settles.2 c.place_of.ensures c.requires.dest m here)) in
     let worse = rw c.requires.algebra at (sym c.is_worse.ensures ∙ c.if-is_worse.false) in
-    let taken : option_map (known_route value) (Some c.in_ok-taken_by.field-0) ≡ offer = rw (c.in_ok-taken_by.ensures.sig, c.in_ok-taken_by.ensures.path, c.in-Some.is) refl in
+    let taken : option_map (known_route value) (Some c.in_ok-taken_by.field-0) ≡ offer = rw (c.in_ok-taken_by.ensures.sig, c.in_ok-taken_by.ensures.path, c.in-Some-offer.is) refl in
     subst (λ z. IfOk c.change_of-2.result (IsChange value net i dest c.args.clock row z)) (taken ∙ sym (offer_chosen net dest i heard a row offer c.requires.settles.3 offered worse)) c.change_of-2.ensures.change

@@ -87,8 +87,8 @@ invariant_of-self-2 g c =
     record {
       algebra = c.self.invariant.algebra;
       is_net = c.self.invariant.is_net;
-      kept = kept_with_row value (A.stands_for s) (A.is_sig s) net number inside.own.items c.hear.new.neighbours.items inside.rows.items update.dest row kept within sig;
-      chosen = λ begun dest. ap (λ f. f dest) (rows_set value inside.rows.items update.dest row within)
+      kept = rw c.put_row.ensures (kept_with_row value (A.stands_for s) (A.is_sig s) net number inside.own.items c.hear.new.neighbours.items inside.rows.items update.dest row kept within sig);
+      chosen = λ begun dest. ap (λ z. row_routes value z dest) c.put_row.ensures ∙ ap (λ f. f dest) (rows_set value inside.rows.items update.dest row within)
           ∙ chosen_after net number c.args.arc.0 update (heard_by value inside.neighbours.items) new rows (option_map (known_route value) row) c.in_ok-change.ensures.heard (c.self.invariant.chosen begun) change.0 dest;
     }
 
@@ -101,7 +101,7 @@ returns-clause-node g c =
     let kept = rw (c.deref.ensures.value, c.deref-2.ensures.value) at c.in_ok-change.ensures.kept in
     let within : update.dest < length inside.rows.items = subst (λ z. update.dest < z) (sym kept.row_count) (fits_parts inside.net.now fit.0 update fit.3).0 in
     let change = rw (c.deref-2.ensures.value, c.in-Some.is) at c.in_ok-change.ensures.change in
-    rw (← c.self.view_is) (taken_is value inside.net.now (option_map (λ m. m.now) inside.before) inside.number.0 inside.is_begun inside.neighbours.items c.hear.new.neighbours.items inside.rows.items inside.last
+    rw (← c.self.view_is, c.put_row.ensures) (taken_is value inside.net.now (option_map (λ m. m.now) inside.before) inside.number.0 inside.is_begun inside.neighbours.items c.hear.new.neighbours.items inside.rows.items inside.last
     c.args.arc.0 update c.args.clock c.in_ok-change.ensures.heard c.in-Some.change.row within change.0)
 
 pub returns-clause-out : goal.returns-clause-out
