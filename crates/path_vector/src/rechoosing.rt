@@ -89,7 +89,7 @@ fn change_of<A: Algebra>(
         return Ok(None);
     }
     let update = update_of(alloc, algebra, dest, &row, clock)?;
-    let told = told(alloc, net, node, &update)?;
+    let told = told(alloc, net, node, update)?;
     Ok(Some(Change { row, told }))
 }
 

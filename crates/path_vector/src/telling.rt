@@ -15,30 +15,27 @@ pub(crate) fn told(
     alloc: Global,
     net: &Net,
     node: NodeId,
-    update: &Update,
+    update: Update,
 ) -> Result<Outgoing<Update>, NoMemory>
     requires { node.0 < length net.now.nodes }
-    ensures { IfOk result (λ out. map noted out ≡ told_on (arcs_to net.now node.0) (pure_update update.now)) }
+    ensures { IfOk result (λ out. map noted out ≡ told_on (arcs_to net.now node.0) (pure_update update)) }
 {
-    let mut out = List::new(alloc);
-    tell_all(alloc, net.listeners(node), update, &mut out)?;
-    Ok(out)
+    tell_all(alloc, net.listeners(node), update)
 }
 
-// Puts an equal update on each of these arcs.
-fn tell_all(
-    alloc: Global,
-    arcs: &[ArcId],
-    update: &Update,
-    out: &mut Outgoing<Update>,
-) -> Result<(), NoMemory>
-    ensures { OnOk result (map noted out.new ≡
-        map noted out.old ++ map (λ a. (a.0, pure_update update.now)) arcs.now) }
+// An equal update for each of these arcs. The last one gets the update itself, which isn't copied for it.
+fn tell_all(alloc: Global, arcs: &[ArcId], update: Update) -> Result<Outgoing<Update>, NoMemory>
+    ensures { IfOk result (λ out. map noted out ≡ map (λ a. (a.0, pure_update update)) arcs.now) }
 {
-    for arc in arcs {
+    let [others @ .., last] = arcs else {
+        return Ok(List::new(alloc));
+    };
+    let mut out = Vec::with_capacity(alloc, arcs.len())?;
+    for arc in others {
         out.push((*arc, update.copy(alloc)?))?;
     }
-    Ok(())
+    out.push((*last, update))?;
+    Ok(List::from_vec(out))
 }
 
 // Whether the node spoke on the arc in the network that it comes from, if it was carried.

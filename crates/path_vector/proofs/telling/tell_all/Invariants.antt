@@ -1,4 +1,4 @@
-use Rattle.std.proofs.Common.{◌≡◌, ◌++◌, map, take}
+use Rattle.std.proofs.Common.{◌≡◌, map, take}
 use Rattle.meta_base.specs.declared.ids.ArcId.{ArcId}
 use Rattle.path_vector.specs.Updates.{noted, pure_update}
 use Rattle.path_vector.proofs.telling.tell_all.Given as goal
@@ -6,5 +6,5 @@ use Rattle.path_vector.proofs.telling.tell_all.Given as goal
 -- the arcs so far were told
 abbrev pub invariant-loop-arc : goal.invariant-loop-arc
 invariant-loop-arc l = record {
-  told : map noted l.out ≡ map noted l.fn.out ++ map (λ (a : ArcId). (a.0, pure_update l.fn.update)) (take l.arc-index l.fn.arcs);
+  told : map noted l.out.items ≡ map (λ (a : ArcId). (a.0, pure_update l.fn.update)) (take l.arc-index l.others);
 }
