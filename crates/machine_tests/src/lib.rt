@@ -5,6 +5,12 @@
 #![tactic(auto)]
 
 #[cfg(test)]
+mod machines;
+#[cfg(test)]
+mod nodes;
+#[cfg(test)]
+mod phases;
+#[cfg(test)]
 mod tables;
 #[cfg(test)]
 mod texts;

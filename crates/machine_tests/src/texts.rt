@@ -1,37 +1,48 @@
-// Values, routes and tables of a network as texts. A row is `none`, or a value and the nodes of a path; the rows of a
-// table stand in the order of the nodes, with ` / ` between them. A node is a name, or a number that the network
+// Values, routes and rows of a network as texts. A row is `none`, or a value and the nodes of a path; rows stand in the
+// order of destinations and then of nodes, with ` / ` between them. A node is a name, or a number that the network
 // needn't have.
 use alg_model::{Value, same_value};
 use meta_base::{DestId, List, NodeId};
 use net_graph::{DestTable, Net, Route, RouteRow};
-use sig_text::read_value;
 use std::alloc::Global;
 use std::test::Fail;
+use test_readers::value;
+
+// What stands for a list of nothing.
+pub(crate) const NOTHING: &str = "-";
 
 // The number, which the carrier needn't have, or else the value of the algebra that the text spells.
-pub(crate) fn value_of(alloc: Global, net: &Net, text: &str) -> Result<Value, Fail> {
+fn value_of(alloc: Global, net: &Net, text: &str) -> Result<Value, Fail> {
     match text.parse() {
         Ok(number) => Ok(Value::Number(number)),
-        Err(_) => Ok(read_value(alloc, net.alg(), text.as_bytes())?),
+        Err(_) => value(alloc, net.alg(), text),
     }
 }
 
 // Whether the value is the one that the text spells, or is none where the text is `none`.
-pub(crate) fn is_same_value(
+pub(crate) fn is_value(
     alloc: Global,
     net: &Net,
-    value: Option<Value>,
+    value: Option<&Value>,
     text: &str,
 ) -> Result<bool, Fail> {
-    match &value {
+    match value {
         Some(value) if text != "none" => Ok(same_value(value, &value_of(alloc, net, text)?)),
         Some(_) => Ok(false),
         None => Ok(text == "none"),
     }
 }
 
+// The destination of that name, or of that number where there is no such name.
+pub(crate) fn dest_of(net: &Net, word: &str) -> Result<DestId, Fail> {
+    match net.dest_named(word.as_bytes()) {
+        Some(dest) => Ok(dest),
+        None => Ok(DestId(word.parse()?)),
+    }
+}
+
 // The node of that name, or of that number where there is no such name.
-fn node_of(net: &Net, word: &str) -> Result<NodeId, Fail> {
+pub(crate) fn node_of(net: &Net, word: &str) -> Result<NodeId, Fail> {
     match net.node_named(word.as_bytes()) {
         Some(node) => Ok(node),
         None => Ok(NodeId(word.parse()?)),
@@ -41,6 +52,9 @@ fn node_of(net: &Net, word: &str) -> Result<NodeId, Fail> {
 // The nodes of a path.
 pub(crate) fn path_of(alloc: Global, net: &Net, words: &str) -> Result<List<NodeId>, Fail> {
     let mut path = List::new(alloc);
+    if words == NOTHING {
+        return Ok(path);
+    }
     for word in words.split_whitespace() {
         path.push(node_of(net, word)?)?;
     }
@@ -69,4 +83,53 @@ pub(crate) fn table_of(alloc: Global, net: &Net, rows: &str) -> Result<DestTable
         node = NodeId(node.0.wrapping_add(1));
     }
     Ok(DestTable { dest, rows: table })
+}
+
+fn is_same_route(first: Option<&Route>, second: Option<&Route>) -> bool {
+    match (first, second) {
+        (Some(first), Some(second)) => {
+            first.path.as_slice() == second.path.as_slice()
+                && same_value(&first.value, &second.value)
+        }
+        (None, None) => true,
+        _ => false,
+    }
+}
+
+// Whether the route is the one of the row.
+pub(crate) fn is_route(
+    alloc: Global,
+    net: &Net,
+    route: Option<&Route>,
+    row: &str,
+) -> Result<bool, Fail> {
+    let expected = route_of(alloc, net, row)?;
+    Ok(is_same_route(route, expected.as_ref()))
+}
+
+// Whether the row is the one at that place of all rows.
+fn stands_at(row: &RouteRow, net: &Net, place: usize) -> bool {
+    let count = net.node_count();
+    count > 0 && row.node.0 as usize == place % count && row.dest.0 as usize == place / count
+}
+
+// Whether the rows are all those of the text.
+pub(crate) fn are_rows(
+    alloc: Global,
+    net: &Net,
+    found: &[RouteRow],
+    rows: &str,
+) -> Result<bool, Fail> {
+    let mut place = 0;
+    for row in rows.split(" / ") {
+        if place >= found.len() {
+            return Ok(found.is_empty() && row.is_empty());
+        }
+        let next = &found[place];
+        if !stands_at(next, net, place) || !is_route(alloc, net, next.route.as_ref(), row)? {
+            return Ok(false);
+        }
+        place += 1;
+    }
+    Ok(place == found.len())
 }

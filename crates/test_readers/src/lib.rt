@@ -1,12 +1,13 @@
-//! What the crates of tests read their algebras and networks from: texts, by functions that promise nothing, so
+//! What the crates of tests read their algebras, values and networks from: texts, by functions that promise nothing, so
 //! that no test's proof sees the contracts of the readers. It stands on the readers, and on no crate that it
 //! helps to test beyond them.
 #![tactic(auto)]
 
-use alg_model::Alg;
+use alg_model::{Alg, Value};
 use meta_base::MAX_FILE_BYTES;
 use net_graph::Net;
 use raml_syntax::read_alg;
+use sig_text::read_value;
 use std::alloc::Global;
 use std::test::Fail;
 use topology_file::{NetFile, read_net};
@@ -23,6 +24,11 @@ pub fn algebra_of_file(alloc: Global, text: &[u8]) -> Result<Alg, Fail> {
 pub fn algebra(alloc: Global, expression: &str) -> Result<Alg, Fail> {
     let text = format!(in alloc; "main {expression};")?;
     algebra_of_file(alloc, text.as_bytes())
+}
+
+/// The value of the algebra that the text spells.
+pub fn value(alloc: Global, alg: &Alg, text: &str) -> Result<Value, Fail> {
+    Ok(read_value(alloc, alg, text.as_bytes())?)
 }
 
 /// What the text of a network file means over the algebra of an expression.
