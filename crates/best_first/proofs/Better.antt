@@ -1,13 +1,9 @@
 -- Which of two routes, or none, is unbeaten.
-use Rattle.std.proofs.Common.{◌≡◌, ◌≢◌, ℕ, List, [], ◌∷◌, Option, Some, None, IfSome, Bool, true, false, cond, length, ◌⊎◌, inl, inr, refl, arith}
-use Rattle.std.specs.Ordering.{nat_cmp, ordering_then, ordering_reverse}
+use Rattle.std.proofs.Common.{◌≡◌, ◌≢◌, Option, Some, None, IfSome, Bool, true, false, cond, ◌⊎◌, inl, inr, refl}
 use Rattle.std.specs.declared.cmp.Ordering.{Ordering}
 use Rattle.std.specs.declared.cmp.Ordering.TheVariants.{Less, Equal, Greater}
-use Rattle.std.proofs.lemmas.Bool.Decides.{nat_tests}
 use Rattle.alg_model.specs.Expressions.{PureCarrier}
-use Rattle.alg_model.specs.Carriers.{In, Order}
-use Rattle.alg_model.specs.Laws.{total_preorder}
-use Rattle.meta_base.specs.NodePaths.{compare_nodes, compare_paths}
+use Rattle.alg_model.specs.Carriers.{In}
 use Rattle.net_graph.specs.Routes.{PureRoute, compare_routes, Better, is_less, is_better}
 use Rattle.best_first.specs.Found.{better_of}
 use Rattle.net_graph.specs.RouteOrder.{not_better_trans, better_asymmetric}

@@ -1,6 +1,6 @@
 -- The arcs that a node speaks on, one after the other.
 use Rattle.std.proofs.Common.{◌≡◌, ◌≢◌, ℕ, ◌+◌, ◌<◌, zero, suc, List, [], ◌∷◌, Option, Some, None, Bool, true, false, ◌==◌, ◌||◌, if◌then◌else◌, map, filter, take, get_or, is_some, option_map, option_and_then, length, inl, inr, refl, sym, ap, ◌∙◌, arith}
-use Rattle.std.specs.List.{slice_get, list_any, find, AllByRecursion}
+use Rattle.std.specs.List.{slice_get, list_any, find}
 use Rattle.std.proofs.lemmas.Bool.{false≢true}
 use Rattle.std.proofs.lemmas.Bool.Decides.{nat_tests}
 use Rattle.std.proofs.Math.Seq.{take-length}
@@ -12,7 +12,7 @@ use Rattle.alg_model.specs.declared.edition.TheConstants.{MAX_LABEL_NUMBER}
 use Rattle.alg_model.specs.Application.{App}
 use Rattle.alg_model.specs.Bounds.{LabelAtMost, greatest_number}
 use Rattle.alg_model.specs.Laws.{label_at_most_more, greatest_is_bounded}
-use Rattle.net_graph.specs.Nets.{PureArc, PureNet, IsNet, IsArcOf, AreNumbered, AreDistinct, joins_same, is_arc_between, arcs_to, label_between}
+use Rattle.net_graph.specs.Nets.{PureArc, PureNet, IsNet, IsArcOf, AreNumbered, is_arc_between, arcs_to, label_between}
 use Rattle.net_graph.specs.Routes.{PureRoute}
 use Rattle.net_graph.specs.Tables.{carrier}
 use Rattle.best_first.specs.declared.labels.Listener.{Listener}

@@ -1,11 +1,9 @@
 -- The routes of a table that is made best first are walks that weigh their values.
-use Rattle.std.proofs.Common.{◌≡◌, ℕ, ◌<◌, inl, inr, List, [], ◌∷◌, Option, Some, None, IfSome, Bool, true, false, length, refl, option_and_then}
+use Rattle.std.proofs.Common.{◌≡◌, ℕ, ◌<◌, inl, inr, List, [], ◌∷◌, Some, Bool, true, false, length, refl}
 use Rattle.std.proofs.lemmas.Bool.{cases_lt, false≢true}
-use Rattle.alg_model.specs.Expressions.{PureValue, PureLabel}
-use Rattle.alg_model.specs.Application.{App}
-use Rattle.net_graph.specs.Nets.{PureNet, IsNet, has_arc, label_between, origin_value}
+use Rattle.net_graph.specs.Nets.{PureNet, IsNet, origin_value}
 use Rattle.net_graph.specs.Routes.{PureRoute}
-use Rattle.net_graph.specs.Walks.{Walk, Weight, along}
+use Rattle.net_graph.specs.Walks.{Walk, Weight}
 use Rattle.net_graph.specs.Tables.{PureRow, TableOf, HasWalks, route_at, is_among, IsOfferFrom, AreFixed, BestFirst}
 use Rattle.net_graph.specs.ArcLaws.{of_some, IsOrigin, origins_are, along_has}
 use Rattle.net_graph.specs.RouteLaws.{no_route_past}

@@ -1,11 +1,10 @@
 -- A table that is made best first is beaten by no walk, where labels are monotone and isotone.
-use Rattle.std.proofs.Common.{◌≡◌, ℕ, ◌<◌, inl, inr, List, [], ◌∷◌, Option, Some, None, IfSome, Bool, true, false, length, refl, sym, ◌∙◌, subst, option_map, option_and_then}
+use Rattle.std.proofs.Common.{◌≡◌, ℕ, ◌<◌, inl, inr, List, [], ◌∷◌, Option, Some, None, IfSome, Bool, true, false, length, refl, sym, ◌∙◌, subst, option_map}
 use Rattle.std.proofs.lemmas.Bool.{false≢true}
-use Rattle.alg_model.specs.Expressions.{PureCarrier, PureValue, PureLabel}
+use Rattle.alg_model.specs.Expressions.{PureValue}
 use Rattle.alg_model.specs.Carriers.{In}
 use Rattle.alg_model.specs.Properties.{monotone, isotone}
-use Rattle.alg_model.specs.Application.{App}
-use Rattle.net_graph.specs.Nets.{PureNet, IsNet, label_between, origin_value}
+use Rattle.net_graph.specs.Nets.{PureNet, IsNet, origin_value}
 use Rattle.net_graph.specs.Routes.{PureRoute, Better}
 use Rattle.net_graph.specs.Walks.{Walk, Weight, along}
 use Rattle.net_graph.specs.Tables.{PureRow, TableOf, NetHas, route_at, value_at, carrier, is_among, IsOfferFrom, AreFixed, BestFirst, Optimal}
