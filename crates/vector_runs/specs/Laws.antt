@@ -1,12 +1,16 @@
 -- What holds of every run. Lemmas, so that proofs of other crates may cite them.
-use Rattle.std.proofs.Common.{◌≡◌, ℕ, zero, suc, ◌+◌, ◌-◌, ◌<◌, ◌≤◌, ◌&&◌, Bool, true, false, Option, Some, None, List, [], ◌∷◌, ◌++◌, length, map, refl, sym, ap, subst, ◌∙◌, arith}
+use Rattle.std.proofs.Common.{◌≡◌, ℕ, zero, suc, ◌+◌, ◌-◌, ◌*◌, ◌<◌, ◌≤◌, ◌&&◌, Bool, true, false, Option, Some, None, List, [], ◌∷◌, ◌++◌, length, map, refl, sym, ap, subst, ◌∙◌, arith}
 use Rattle.std.specs.Prelude.{nat_lt, IfSome}
 use Rattle.std.specs.List.{AllByRecursion, list_all, range_with_len}
 use Rattle.std.proofs.lemmas.Bool.Decides.{nat_tests}
 use Rattle.meta_base.specs.declared.ids.Delivery.{Delivery}
 use Rattle.std.proofs.lemmas.List.FromFn.{length-range_with_len}
+use Rattle.std.proofs.lemmas.List.{length-append, length-map}
+use Rattle.std.proofs.lemmas.Nat.{mul-le}
+use Rattle.alg_model.specs.Bounds.{AtMost, greatest_number}
+use Rattle.alg_model.specs.Laws.{at_most_more}
 use Rattle.net_graph.specs.Nets.{PureNet, IsNet}
-use Rattle.net_graph.specs.Tables.{PureRow, Stable, AreRowsOfTables, OnTablesFrom, joined_rows}
+use Rattle.net_graph.specs.Tables.{PureRow, Stable, AreRowsOfTables, AreSettledRows, AreStableRows, OnTablesFrom, joined_rows}
 use Rattle.net_graph.specs.Routes.{PureRoute}
 use Rattle.net_graph.specs.RowTexts.{IsRouteIn, IsRowOf}
 use Rattle.node_core.specs.Kinds.{listener}
@@ -15,9 +19,11 @@ use Rattle.node_core.specs.MachineLaws.{all_join, delivered_at, listens_within, 
 use Rattle.path_vector.specs.Choosing.{may_be_parts}
 use Rattle.path_vector.specs.Coherent.{AreNodesOf, IsCoherent, MayBegin}
 use Rattle.path_vector.specs.Delivering.{node_is}
+use Rattle.path_vector.specs.Quiet.{short_path}
 use Rattle.path_vector.specs.Laws.{carried_nodes_may_begin, new_nodes_may_begin, quiet_runs_are_stable, runs_are_coherent}
 use Rattle.path_vector.specs.Node.{PvState, PureUpdate, carried, dest_rows, may_be_of, node_rows, path_vector, rows_for}
-use Rattle.vector_runs.specs.Runs.{PurePhase, IsPhaseOf, RunsFrom, IsRun, AreLater, AreStable, IsOfNetwork, AreOfNetworks}
+use Rattle.strict_laws.specs.Rows.{stable_rows_are_settled}
+use Rattle.vector_runs.specs.Runs.{PurePhase, IsPhaseOf, RunsFrom, IsRun, IsSmallIn, AreLater, AreStable, IsOfNetwork, AreOfNetworks}
 
 -- the rows of all destinations from one on are those of their tables
 abbrev tables_from : (states : List PvState) (dests : List ℕ) → List (List PureRow)
@@ -47,13 +53,13 @@ node_tables net Holds states h =
       joined = joined states dests;
     }
 
--- the rows of a quiet phase are stable
+-- the rows of a quiet phase are stable, and no others are where all labels are strict
 pub quiet_phase_is_stable : (net : PureNet) (nodes : List PvState) (turns : ℕ) (p : PurePhase) (states : List PvState) → IsNet net → MayBegin net nodes → IsPhaseOf net nodes turns p true states
-    → AreRowsOfTables net (Stable net) p.rows
+    → AreSettledRows net p.rows
 quiet_phase_is_stable net nodes turns p states n may is =
-    subst (AreRowsOfTables net (Stable net)) (sym is.rows_are)
+    stable_rows_are_settled net p.rows n (subst (AreStableRows net) (sym is.rows_are)
     (node_tables net (Stable net) states (λ dest l.
-    quiet_runs_are_stable net nodes states p.journal is.end dest n may is.phase.replayed (is.phase.drained refl) is.states_are is.count l))
+    quiet_runs_are_stable net nodes states p.journal is.end dest n may is.phase.replayed (is.phase.drained refl) is.states_are is.count l)))
 
 runs_are_stable : (nodes : List PvState) (net : PureNet) (nets : List PureNet) (turns : ℕ) (past : List PurePhase) (last : PurePhase) (quiet : Bool) → IsNet net → AllByRecursion IsNet nets → AreLater net nets → MayBegin net nodes
     → RunsFrom nodes net nets turns past last quiet → AreStable net nets past last quiet
@@ -90,26 +96,56 @@ route_within net i (Some r) h =
     let parts = may_be_parts net i r (h r refl) in
     record { value_in = parts.value_in; path_in = path_within (length net.nodes) r.path parts.inside }
 
-dest_rows_within : (net : PureNet) (c : Machine PvState PureUpdate) → IsCoherent net c → (dest : ℕ) → dest < length net.dests → (i : ℕ) (states : List PvState) → AreNodesOf c i states
-    → AllByRecursion (IsRowOf net) (dest_rows states dest)
-dest_rows_within net c k dest l i [] are = tt
-dest_rows_within net c k dest l i (s ∷ states) are =
-    let inside = k.inside i s are.0 in
-    let number : s.number ≡ i = (node_is net c k i s are.0).1 in (
-      record {
-        node_in = subst (λ z. z < length net.nodes) (sym number) inside;
-        dest_in = l;
-        route_in = route_within net i (s.rows dest) (λ r e. (k.routes i dest s r are.0 e).1);
-      },
-      dest_rows_within net c k dest l (i + 1) states are.1,
-    )
+-- and its values are small
+route_small : (net : PureNet) (i : ℕ) (o : Option PureRoute) → ((r : PureRoute) → o ≡ Some r → may_be_of net i r ≡ true) → IfSome o (λ (r : PureRoute). AtMost (length net.nodes * (greatest_number net.alg.edition + 1)) r.value)
+route_small net i None h = tt
+route_small net i (Some r) h =
+    let parts = may_be_parts net i r (h r refl) in
+    let g = greatest_number net.alg.edition + 1 in
+    let short = short_path net i r parts in
+    at_most_more (length r.path * g) (length net.nodes * g) r.value (mul-le (length r.path) g (length net.nodes) g short (omega arith)) parts.bound
 
-rows_within : (net : PureNet) (c : Machine PvState PureUpdate) → IsCoherent net c → (states : List PvState) → AreNodesOf c 0 states → (a n : ℕ) → a + n ≤ length net.dests
-    → AllByRecursion (IsRowOf net) (rows_for states (range_with_len a n))
-rows_within net c k states are a zero l = tt
-rows_within net c k states are a (suc n) l =
-    all_join (IsRowOf net) (dest_rows states a) (rows_for states (range_with_len (a + 1) n))
-    (dest_rows_within net c k a (omega arith) 0 states are) (rows_within net c k states are (a + 1) n (omega arith))
+abbrev row_of : ℕ → PvState → PureRow
+row_of dest s = record { node = s.number; dest = dest; route = s.rows dest }
+
+row_within : (net : PureNet) (c : Machine PvState PureUpdate) → IsCoherent net c → (dest : ℕ) → dest < length net.dests → (i : ℕ) (s : PvState) → c.node i ≡ Some s → IsRowOf net (row_of dest s)
+row_within net c k dest l i s at =
+    let inside = k.inside i s at in
+    let number : s.number ≡ i = (node_is net c k i s at).1 in
+    record {
+      node_in = subst (λ z. z < length net.nodes) (sym number) inside;
+      dest_in = l;
+      route_in = route_within net i (s.rows dest) (λ r e. (k.routes i dest s r at e).1);
+    }
+
+row_small : (net : PureNet) (c : Machine PvState PureUpdate) → IsCoherent net c → (dest i : ℕ) (s : PvState) → c.node i ≡ Some s → IsSmallIn net (row_of dest s)
+row_small net c k dest i s at = route_small net i (s.rows dest) (λ r e. (k.routes i dest s r at e).1)
+
+-- what holds of each node's rows holds of those of all
+dest_rows_hold : (P : PureRow → Type 0) (c : Machine PvState PureUpdate) (dest : ℕ) → ((i : ℕ) (s : PvState) → c.node i ≡ Some s → P (row_of dest s)) → (i : ℕ) (states : List PvState) → AreNodesOf c i states
+    → AllByRecursion P (dest_rows states dest)
+dest_rows_hold P c dest each i [] are = tt
+dest_rows_hold P c dest each i (s ∷ states) are = (each i s are.0, dest_rows_hold P c dest each (i + 1) states are.1)
+
+rows_hold : (P : PureRow → Type 0) (c : Machine PvState PureUpdate) (bound : ℕ) → ((dest : ℕ) → dest < bound → (i : ℕ) (s : PvState) → c.node i ≡ Some s → P (row_of dest s)) → (states : List PvState) → AreNodesOf c 0 states
+    → (a n : ℕ) → a + n ≤ bound → AllByRecursion P (rows_for states (range_with_len a n))
+rows_hold P c bound each states are a zero l = tt
+rows_hold P c bound each states are a (suc n) l =
+    all_join P (dest_rows states a) (rows_for states (range_with_len (a + 1) n))
+    (dest_rows_hold P c a (each a (omega arith)) 0 states are) (rows_hold P c bound each states are (a + 1) n (omega arith))
+
+no_rows : (n : ℕ) → 0 ≡ 0 * n
+no_rows n = grind arith
+
+more_rows : (a b k n : ℕ) → a ≡ n → b ≡ k * n → a + b ≡ suc k * n
+more_rows a b k n e f = grind arith
+
+-- one row for each destination and node
+rows_count : (states : List PvState) (dests : List ℕ) → length (rows_for states dests) ≡ length dests * length states
+rows_count states [] = no_rows (length states)
+rows_count states (dest ∷ dests) =
+    length-append (dest_rows states dest) (rows_for states dests)
+    ∙ more_rows (length (dest_rows states dest)) (length (rows_for states dests)) (length dests) (length states) (length-map states (row_of dest)) (rows_count states dests)
 
 journal_within : (net : PureNet) (journal : List Delivery) (c d : Machine PvState PureUpdate) → replay_from path_vector net c journal ≡ Some d → AllByRecursion (λ (e : Delivery). e.arc.0 < length net.arcs) journal
 journal_within net [] c d r = tt
@@ -123,7 +159,12 @@ phase_is_of : (net : PureNet) (nodes : List PvState) (turns : ℕ) (p : PurePhas
 phase_is_of net nodes turns p quiet states n may is =
     let coherent = runs_are_coherent net nodes p.journal is.end n may is.phase.replayed in
     record {
-      rows_in = subst (AllByRecursion (IsRowOf net)) (sym is.rows_are) (rows_within net is.end coherent states is.states_are 0 (length net.dests) (omega arith));
+      rows_in = subst (AllByRecursion (IsRowOf net)) (sym is.rows_are)
+          (rows_hold (IsRowOf net) is.end (length net.dests) (row_within net is.end coherent) states is.states_are 0 (length net.dests) (omega arith));
+      small = subst (AllByRecursion (IsSmallIn net)) (sym is.rows_are)
+          (rows_hold (IsSmallIn net) is.end (length net.dests) (λ dest l. row_small net is.end coherent dest) states is.states_are 0 (length net.dests) (omega arith));
+      count = ap length is.rows_are
+          ∙ (rows_count states (range_with_len 0 (length net.dests)) ∙ (ap (λ n. n * length states) (length-range_with_len 0 (length net.dests)) ∙ ap (λ n. length net.dests * n) is.count));
       arcs_in = journal_within net p.journal (Start path_vector nodes) is.end is.phase.replayed;
     }
 

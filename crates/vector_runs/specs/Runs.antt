@@ -1,10 +1,12 @@
 -- Runs of path-vector nodes through the networks of a file, phase by phase: what a run comes to.
-use Rattle.std.specs.Prelude.{◌≡◌, ℕ, ◌+◌, ◌-◌, ◌<◌, Bool, true, List, [], ◌∷◌, length, map}
+use Rattle.std.specs.Prelude.{◌≡◌, ℕ, ◌+◌, ◌-◌, ◌*◌, ◌<◌, Bool, true, IfSome, List, [], ◌∷◌, length, map}
 use Rattle.std.specs.List.{AllByRecursion, range_with_len}
 use Rattle.meta_base.specs.declared.ids.Delivery.{Delivery}
+use Rattle.alg_model.specs.Bounds.{AtMost, greatest_number}
 use Rattle.net_graph.specs.Nets.{PureNet}
+use Rattle.net_graph.specs.Routes.{PureRoute}
 use Rattle.net_graph.specs.RowTexts.{IsRowOf}
-use Rattle.net_graph.specs.Tables.{PureRow, Stable, AreRowsOfTables}
+use Rattle.net_graph.specs.Tables.{PureRow, AreSettledRows}
 use Rattle.net_graph.specs.Views.{pure_row}
 use Rattle.node_core.specs.Machine.{Machine}
 use Rattle.path_vector.specs.Coherent.{AreNodesOf}
@@ -56,15 +58,23 @@ abbrev pub AreBegun : PureNet → ℕ → List PvState → Type 0
 AreBegun net i [] = length net.nodes ≡ i
 AreBegun net i (s ∷ nodes) = (s.net ≡ net) × (s.number ≡ i) × (s.is_begun ≡ true) × AreBegun net (i + 1) nodes
 
--- the rows of the phases that are quiet are stable tables of their networks
+-- the rows of the phases that are quiet are stable tables of their networks, and no others are where all labels are
+-- strict
 abbrev pub AreStable : PureNet → List PureNet → List PurePhase → PurePhase → Bool → Type 0
-AreStable net nets [] last quiet = quiet ≡ true → AreRowsOfTables net (Stable net) last.rows
+AreStable net nets [] last quiet = quiet ≡ true → AreSettledRows net last.rows
 AreStable net [] (p ∷ past) last quiet = ⊥
-AreStable net (m ∷ nets) (p ∷ past) last quiet = AreRowsOfTables net (Stable net) p.rows × AreStable m nets past last quiet
+AreStable net (m ∷ nets) (p ∷ past) last quiet = AreSettledRows net p.rows × AreStable m nets past last quiet
 
--- the rows of a phase are rows of its network, and its deliveries are on arcs of that
+-- no number of a row's value is above what the labels along a path through all nodes may make of an origin's
+abbrev pub IsSmallIn : PureNet → PureRow → Type 0
+IsSmallIn net row = IfSome row.route (λ (r : PureRoute). AtMost (length net.nodes * (greatest_number net.alg.edition + 1)) r.value)
+
+-- the rows of a phase are rows of its network with small values, one for each destination and node, and its
+-- deliveries are on arcs of that
 pub record IsOfNetwork (net : PureNet) (p : PurePhase) : Type 0 where
   pub rows_in : AllByRecursion (IsRowOf net) p.rows
+  pub small : AllByRecursion (IsSmallIn net) p.rows
+  pub count : length p.rows ≡ length net.dests * length net.nodes
   pub arcs_in : AllByRecursion (λ (e : Delivery). e.arc.0 < length net.arcs) p.journal
 
 -- the same of all phases
