@@ -1,3 +1,4 @@
 pub mod VerdictTexts
 pub mod Refusals
 pub mod RunTexts
+pub mod SummaryTexts

@@ -6,9 +6,11 @@
 mod refusals;
 mod rows;
 mod runs;
+mod summary;
 mod verdicts;
 
 pub use refusals::{Refusal, lacks_line, refusal_line};
 pub use rows::row_line;
 pub use runs::{delivery_line, end_line, phase_line};
+pub use summary::{MAX_SUMMED, reach_line, size_line, summary_end_line, summary_lines};
 pub use verdicts::{verdict_line, verdict_lines};

@@ -16,7 +16,7 @@ pub(crate) fn push_node(out: &mut String, net: &Net, node: NodeId) -> Result<(),
     Ok(out.push_str(net.node_text(node))?)
 }
 
-fn push_dest(out: &mut String, net: &Net, dest: DestId) -> Result<(), NoMemory>
+pub(crate) fn push_dest(out: &mut String, net: &Net, dest: DestId) -> Result<(), NoMemory>
     requires { dest.0 < length net.now.dests }
     ensures { OnOk result (Gains out.old (dest_text net.now dest.0) out.new) }
 {
