@@ -3,7 +3,7 @@ use Rattle.std.proofs.Common.{◌≡◌, ℕ, ◌+◌, List, [], ◌∷◌, true
 use Rattle.std.specs.Option.{option_map, OnSome}
 use Rattle.command_words.specs.Parts.{argument, flag, is_flag, parts_from}
 
-pub first_argument : (place : ℕ) (word : List ℕ) (rest : List (List ℕ)) → is_flag word ≡ false → parts_from place (word ∷ rest) ≡ argument place ∷ parts_from (place + 1) rest
+pub first_argument : (place : ℕ) (word : List ℕ) (rest : List (List ℕ)) → is_flag word ≡ false → parts_from place (word ∷ rest) ≡ argument place word ∷ parts_from (place + 1) rest
 first_argument place word [] e = rw e refl
 first_argument place word (next ∷ rest) e = rw e refl
 
@@ -18,8 +18,8 @@ first_flag place between after word words rest behind (Some v) s e m split moved
 -- each part takes a word or two
 pub parts_within : (place : ℕ) (words : List (List ℕ)) → length (parts_from place words) ≤ length words
 parts_within place [] = omega arith
-parts_within place (word ∷ []) = elim (is_flag word) as (λ b. length (if b then flag word None ∷ [] else argument place ∷ []) ≤ 1) [ true ↦ omega arith | false ↦ omega arith ]
+parts_within place (word ∷ []) = elim (is_flag word) as (λ b. length (if b then flag word None ∷ [] else argument place word ∷ []) ≤ 1) [ true ↦ omega arith | false ↦ omega arith ]
 parts_within place (word ∷ next ∷ rest) =
     let one = parts_within (place + 1) (next ∷ rest) in
     let two = parts_within (place + 2) rest in
-    elim (is_flag word) as (λ b. length (if b then flag word (Some next) ∷ parts_from (place + 2) rest else argument place ∷ parts_from (place + 1) (next ∷ rest)) ≤ length (word ∷ next ∷ rest)) [ true ↦ omega arith | false ↦ omega arith ]
+    elim (is_flag word) as (λ b. length (if b then flag word (Some next) ∷ parts_from (place + 2) rest else argument place word ∷ parts_from (place + 1) (next ∷ rest)) ≤ length (word ∷ next ∷ rest)) [ true ↦ omega arith | false ↦ omega arith ]

@@ -1,6 +1,7 @@
 -- The places of a command are places of words.
 use Rattle.std.proofs.Common.{◌≡◌, refl, nat_le, ◌&&◌, lit≤, ℕ, zero, suc, ◌<◌, ◌≤◌, ◌+◌, List, [], ◌∷◌, length, Bool, true, false, Option, Some, None, IfSome, Err, IfOk, if◌then◌else◌, arith, slice_get, slice_index}
 use Rattle.std.specs.Prelude.{find}
+use Rattle.std.specs.List.{filter}
 use Rattle.std.specs.Option.{option_map, option_and_then, ok_or}
 use Rattle.std.proofs.lemmas.Bool.Decides.{nat_tests}
 use Rattle.meta_base.specs.Bytes.{number_from}
@@ -8,12 +9,12 @@ use Rattle.command_words.specs.Numbers.{is_number, number_within}
 use Rattle.command_words.specs.declared.command.Command.{Command}
 use Rattle.command_words.specs.declared.usage.Kind.{Kind}
 use Rattle.command_words.specs.declared.usage.Kind.TheVariants as kind
-use Rattle.command_words.specs.declared.command.Command.TheVariants.{Route, Run, Trace}
+use Rattle.command_words.specs.declared.command.Command.TheVariants.{Route, Run, Trace, Demo}
 use Rattle.command_words.specs.declared.command.WordsFault.TheVariants.{BadFlag, WrongCount, BadNumber}
 use Rattle.command_words.specs.declared.usage.Flag.TheVariants.{Workers, Turns}
 use Rattle.command_words.specs.Usages.{usage_of, has_word, kinds}
-use Rattle.command_words.specs.Parts.{PurePart, argument, flag, is_flag, gives, value_of, parts_from, places}
-use Rattle.command_words.specs.Words.{Words, HasItsWords, AreWorkers, AreTurns, with_numbers, has_bad_flag, has_wrong_count, number_given, number_of, command_of, meaning_of}
+use Rattle.command_words.specs.Parts.{PurePart, argument, flag, is_flag, is_argument, word_of, gives, value_of, parts_from, places}
+use Rattle.command_words.specs.Words.{Words, HasItsWords, AreDemoNodes, AreWorkers, AreTurns, argument_number, greatest_nodes, greatest_seed, least_nodes, with_numbers, has_bad_flag, has_wrong_count, number_given, number_of, command_of, meaning_of}
 
 -- each place is below the bound
 abbrev AllBelow : ℕ → List ℕ → Type 0
@@ -24,9 +25,9 @@ AllBelow bound (place ∷ rest) = (place < bound) × AllBelow bound rest
 places_below : (bound place : ℕ) (words : List (List ℕ)) → place + length words ≤ bound → AllBelow bound (places (parts_from place words))
 places_below bound place [] h = tt
 places_below bound place (word ∷ []) h =
-    elim (is_flag word) as (λ b. AllBelow bound (places (if b then flag word None ∷ [] else argument place ∷ []))) [ true ↦ tt | false ↦ (omega arith, tt) ]
+    elim (is_flag word) as (λ b. AllBelow bound (places (if b then flag word None ∷ [] else argument place word ∷ []))) [ true ↦ tt | false ↦ (omega arith, tt) ]
 places_below bound place (word ∷ next ∷ rest) h =
-    elim (is_flag word) as (λ b. AllBelow bound (places (if b then flag word (Some next) ∷ parts_from (place + 2) rest else argument place ∷ parts_from (place + 1) (next ∷ rest))))
+    elim (is_flag word) as (λ b. AllBelow bound (places (if b then flag word (Some next) ∷ parts_from (place + 2) rest else argument place word ∷ parts_from (place + 1) (next ∷ rest))))
     [ true ↦ places_below bound (place + 2) rest (omega arith) | false ↦ (omega arith, places_below bound (place + 1) (next ∷ rest) (omega arith)) ]
 
 -- past the end the place is 0, which is below the bound too
@@ -63,6 +64,13 @@ turns_bounded (Some word) = of (number_within 0 1000000 word) (number_bounded 0 
     of None h = tt
     of (Some n) h = h.1
 
+nodes_bounded : (parts : List PurePart) → IfSome (argument_number least_nodes greatest_nodes 1 parts) AreDemoNodes
+nodes_bounded parts = of (slice_get (filter is_argument parts) 1)
+  where
+    of : (part : Option PurePart) → IfSome (option_and_then (λ part. number_within least_nodes greatest_nodes (word_of part)) part) AreDemoNodes
+    of None = tt
+    of (Some part) = number_bounded least_nodes greatest_nodes (word_of part)
+
 -- what holds of all that is made of good numbers holds of what these parts make
 with_good_numbers : {X : Type 0} (make : ℕ → ℕ → X) (P : X → Type 0) (parts : List PurePart) → ((workers turns : ℕ) → AreWorkers workers → AreTurns turns → P (make workers turns)) → IfSome (with_numbers make parts) P
 with_good_numbers {X = X} make P parts all =
@@ -87,6 +95,14 @@ command_of_below words kind.Run parts some below =
 command_of_below words kind.Trace parts some below =
     with_good_numbers (Trace (slice_index (places parts) 0) (slice_index (places parts) 1)) (HasItsWords words) parts
     (λ workers turns h i. (below_at (length words) (places parts) 0 some below, below_at (length words) (places parts) 1 some below, h, i))
+command_of_below words kind.Settle parts some below = (below_at (length words) (places parts) 0 some below, below_at (length words) (places parts) 1 some below)
+command_of_below words kind.Demo parts some below =
+    by (argument_number 0 greatest_seed 0 parts) (argument_number least_nodes greatest_nodes 1 parts) (nodes_bounded parts)
+  where
+    by : (seed nodes : Option ℕ) → IfSome nodes AreDemoNodes → IfSome (option_and_then (λ s. option_map (Demo s) nodes) seed) (HasItsWords words)
+    by None nodes h = tt
+    by (Some s) None h = tt
+    by (Some s) (Some n) h = h
 
 meaning_of_below : (words : List (List ℕ)) (k : Option Kind) (parts : List PurePart) → 0 < length words → AllBelow (length words) (places parts) → IfOk (meaning_of k parts) (HasItsWords words)
 meaning_of_below words None parts some below = tt

@@ -2,7 +2,7 @@
 use Rattle.std.specs.Prelude.{ℕ, List, [], ◌∷◌, Bool, codes}
 use Rattle.std.specs.Str.{bytes_eq}
 use Rattle.command_words.specs.declared.usage.Kind.{Kind}
-use Rattle.command_words.specs.declared.usage.Kind.TheVariants.{Check, Route, Run, Trace}
+use Rattle.command_words.specs.declared.usage.Kind.TheVariants.{Check, Route, Settle, Run, Trace, Demo}
 use Rattle.command_words.specs.declared.usage.Flag.{Flag}
 use Rattle.command_words.specs.declared.usage.Flag.TheVariants.{Workers, Turns}
 use Rattle.command_words.specs.declared.usage.Limits.{Limits}
@@ -23,12 +23,14 @@ pure_usage u = record { word = u.word.now; least = u.least; most = u.most; flags
 abbrev pub usage_of : Kind → PureUsage
 usage_of Check = record { word = codes "check"; least = 1; most = 2; flags = [] }
 usage_of Route = record { word = codes "route"; least = 2; most = 2; flags = Workers ∷ [] }
+usage_of Settle = record { word = codes "settle"; least = 2; most = 2; flags = [] }
 usage_of Run = record { word = codes "run"; least = 2; most = 2; flags = Workers ∷ Turns ∷ [] }
 usage_of Trace = record { word = codes "trace"; least = 2; most = 2; flags = Workers ∷ Turns ∷ [] }
+usage_of Demo = record { word = codes "demo"; least = 2; most = 2; flags = [] }
 
 -- all commands
 abbrev pub kinds : List Kind
-kinds = Check ∷ Route ∷ Run ∷ Trace ∷ []
+kinds = Check ∷ Route ∷ Settle ∷ Run ∷ Trace ∷ Demo ∷ []
 
 -- it is the command of this word
 abbrev pub has_word : List ℕ → Kind → Bool

@@ -1,9 +1,9 @@
 -- What the words of a command line mean.
 use Rattle.std.specs.Prelude.{ℕ, ◌<◌, ◌≤◌, length, List, [], ◌∷◌, Bool, not, ◌||◌, ◌&&◌, nat_lt, nat_le, Option, Some, None, IfSome, option_map, option_and_then, Result, Err, if◌then◌else◌, find, count_by, slice_get, slice_index}
 use Rattle.std.specs.Option.{ok_or}
-use Rattle.std.specs.List.{list_any}
+use Rattle.std.specs.List.{list_any, filter}
 use Rattle.command_words.specs.declared.command.Command.{Command}
-use Rattle.command_words.specs.declared.command.Command.TheVariants.{Check, Route, Run, Trace}
+use Rattle.command_words.specs.declared.command.Command.TheVariants.{Check, Route, Settle, Run, Trace, Demo}
 use Rattle.command_words.specs.declared.command.WordsFault.{WordsFault}
 use Rattle.command_words.specs.declared.command.WordsFault.TheVariants.{NoCommand, UnknownCommand, WrongCount, BadNumber, BadFlag}
 use Rattle.command_words.specs.declared.usage.Kind.{Kind}
@@ -11,7 +11,7 @@ use Rattle.command_words.specs.declared.usage.Kind.TheVariants as kind
 use Rattle.command_words.specs.declared.usage.Flag.{Flag}
 use Rattle.command_words.specs.declared.usage.Flag.TheVariants.{Workers, Turns}
 use Rattle.command_words.specs.Usages.{PureUsage, usage_of, limits_of, has_word, kinds}
-use Rattle.command_words.specs.Parts.{PurePart, parts_from, places, value_of, lacks_value, gives, is_unknown}
+use Rattle.command_words.specs.Parts.{PurePart, parts_from, places, word_of, is_argument, value_of, lacks_value, gives, is_unknown}
 use Rattle.command_words.specs.Numbers.{number_within}
 
 -- the flag is given more than once
@@ -41,6 +41,21 @@ number_of f parts = number_given f (option_and_then value_of (find (gives f) par
 abbrev pub with_numbers : {X : Type 0} → (ℕ → ℕ → X) → List PurePart → Option X
 with_numbers make parts = option_and_then (λ workers. option_map (make workers) (number_of Turns parts)) (number_of Workers parts)
 
+-- the greatest seed, and the least and the greatest number of nodes of a generated network
+abbrev pub greatest_seed : ℕ
+greatest_seed = 18446744073709551615
+
+abbrev pub least_nodes : ℕ
+least_nodes = 2
+
+abbrev pub greatest_nodes : ℕ
+greatest_nodes = 512
+
+-- the argument with this number, from 0, as a number of that range, if it is there and good
+abbrev pub argument_number : ℕ → ℕ → ℕ → List PurePart → Option ℕ
+argument_number least greatest number parts =
+    option_and_then (λ part. number_within least greatest (word_of part)) (slice_get (filter is_argument parts) number)
+
 -- the command that these parts make, with as many arguments as it takes, if its numbers are good
 abbrev pub command_of : Kind → List PurePart → Option Command
 command_of kind.Check parts = Some (Check (slice_index (places parts) 0) (slice_get (places parts) 1))
@@ -48,6 +63,9 @@ command_of kind.Route parts =
     option_map (Route (slice_index (places parts) 0) (slice_index (places parts) 1)) (number_of Workers parts)
 command_of kind.Run parts = with_numbers (Run (slice_index (places parts) 0) (slice_index (places parts) 1)) parts
 command_of kind.Trace parts = with_numbers (Trace (slice_index (places parts) 0) (slice_index (places parts) 1)) parts
+command_of kind.Settle parts = Some (Settle (slice_index (places parts) 0) (slice_index (places parts) 1))
+command_of kind.Demo parts =
+    option_and_then (λ seed. option_map (Demo seed) (argument_number least_nodes greatest_nodes 1 parts)) (argument_number 0 greatest_seed 0 parts)
 
 -- the command of this kind with these parts, or their first fault
 abbrev pub meaning_of : Option Kind → List PurePart → Result Command WordsFault
@@ -69,12 +87,18 @@ AreWorkers workers = (1 ≤ workers) × (workers ≤ 16)
 abbrev pub AreTurns : ℕ → Type 0
 AreTurns turns = turns ≤ 1000000
 
--- the files of the command are words, and there may be so many workers and turns
+-- and so many nodes
+abbrev pub AreDemoNodes : ℕ → Type 0
+AreDemoNodes nodes = (least_nodes ≤ nodes) × (nodes ≤ greatest_nodes)
+
+-- the files of the command are words, and there may be so many workers, turns and nodes
 abbrev pub HasItsWords : List (List ℕ) → Command → Type 0
 HasItsWords words (Check file net) = (file < length words) × IfSome net (λ net. net < length words)
 HasItsWords words (Route file net workers) = (file < length words) × (net < length words) × AreWorkers workers
+HasItsWords words (Settle file net) = (file < length words) × (net < length words)
 HasItsWords words (Run file net workers turns) = (file < length words) × (net < length words) × AreWorkers workers × AreTurns turns
 HasItsWords words (Trace file net workers turns) = (file < length words) × (net < length words) × AreWorkers workers × AreTurns turns
+HasItsWords words (Demo seed nodes) = AreDemoNodes nodes
 
 -- the number that stands behind the C of a printed fault
 abbrev pub words_fault_number : WordsFault → ℕ

@@ -17,6 +17,12 @@ pub enum Command {
         net: usize,
         workers: u32,
     },
+    /// `settle FILE NET` asks for the one stable table of every destination of a network file, found without nodes
+    /// that run.
+    Settle {
+        file: usize,
+        net: usize,
+    },
     /// `run FILE NET [--workers W] [--turns N]` asks for the routes that path-vector nodes come to, phase by phase,
     /// run by so many workers, as for `route`, with so many turns for all phases: 0 to 1,000,000, and 100,000
     /// where the words don't say.
@@ -32,6 +38,12 @@ pub enum Command {
         net: usize,
         workers: u32,
         turns: u64,
+    },
+    /// `demo SEED N` asks for a summary of what the nodes of a generated network come to, of 2 to 512 nodes, which
+    /// the seed and this number determine.
+    Demo {
+        seed: u64,
+        nodes: u32,
     },
 }
 

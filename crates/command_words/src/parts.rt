@@ -8,8 +8,11 @@ use meta_base::Text;
 /// A part of the words behind the command.
 #[derive(Clone, Copy)]
 pub enum Part<'a> {
-    /// The argument at this place among all words.
-    Argument(usize),
+    /// An argument, and its place among all words.
+    Argument {
+        place: usize,
+        word: &'a str,
+    },
     /// A flag and its value, the word behind it; a flag that is the last word has none.
     Flag {
         word: &'a str,
@@ -20,16 +23,32 @@ pub enum Part<'a> {
 impl<'a> Part<'a> {
     ghost use Rattle.std.specs.Prelude.{option_map};
     ghost use Rattle.std.specs.List.{list_any};
-    ghost use Rattle.command_words.specs.Parts.{pure_part, place_of, value_of, lacks_value, gives, is_unknown};
+    ghost use Rattle.command_words.specs.Parts.{pure_part, place_of, word_of, is_argument, value_of, lacks_value, gives, is_unknown};
 
     /// The place of an argument.
     pub fn place(self) -> Option<usize>
         ensures { result ≡ place_of (pure_part self.entry) }
     {
         match self {
-            Part::Argument(place) => Some(place),
+            Part::Argument { place, .. } => Some(place),
             Part::Flag { .. } => None,
         }
+    }
+
+    /// The word of an argument, or of a flag.
+    pub fn word(self) -> &'a str
+        ensures { result.now ≡ word_of (pure_part self.entry) }
+    {
+        match self {
+            Part::Argument { word, .. } | Part::Flag { word, .. } => word,
+        }
+    }
+
+    /// Whether it is an argument.
+    pub fn is_argument(self) -> bool
+        ensures { result ≡ is_argument (pure_part self.entry) }
+    {
+        matches!(self, Part::Argument { .. })
     }
 
     /// The value of a flag.
@@ -37,7 +56,7 @@ impl<'a> Part<'a> {
         ensures { option_map (λ v. v.now) result ≡ value_of (pure_part self.entry) }
     {
         match self {
-            Part::Argument(_) => None,
+            Part::Argument { .. } => None,
             Part::Flag { value, .. } => value,
         }
     }
@@ -54,7 +73,7 @@ impl<'a> Part<'a> {
         ensures { result ≡ gives flag (pure_part self.entry) }
     {
         match self {
-            Part::Argument(_) => false,
+            Part::Argument { .. } => false,
             Part::Flag { word, .. } => word == flag.word(),
         }
     }
@@ -128,7 +147,7 @@ impl<'a> Iterator for Parts<'a> {
             let value = self.take_word();
             Some(Part::Flag { word, value })
         } else {
-            Some(Part::Argument(place))
+            Some(Part::Argument { place, word })
         }
     }
 }

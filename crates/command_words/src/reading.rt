@@ -1,14 +1,19 @@
 ghost use Rattle.std.specs.Prelude.{◌≡◌, ◌≤◌, Some, IfOk, IfSome, length, slice_get, option_map, option_and_then, find};
-ghost use Rattle.std.specs.List.{list_any};
-ghost use Rattle.command_words.specs.Parts.{parts_from, places, lacks_value, gives, is_unknown, value_of};
+ghost use Rattle.std.specs.List.{list_any, filter};
+ghost use Rattle.command_words.specs.Parts.{parts_from, places, word_of, is_argument, lacks_value, gives, is_unknown, value_of};
 ghost use Rattle.command_words.specs.Usages.{pure_usage, usage_of, limits_of};
-ghost use Rattle.command_words.specs.Words.{Words, HasItsWords, command_of, has_bad_flag, has_wrong_count, is_repeated, meaning_of, number_of};
+ghost use Rattle.command_words.specs.Words.{Words, HasItsWords, command_of, has_bad_flag, has_wrong_count, is_repeated, meaning_of, argument_number, number_of};
 
 use crate::number::number_within;
 use crate::parts::{Part, Parts};
 use crate::usage::{Flag, Kind, Usage};
 use crate::{Command, WordsFault};
 use meta_base::Text;
+
+// How many nodes a generated network may have.
+const LEAST_NODES: u64 = 2;
+
+const GREATEST_NODES: u64 = 512;
 
 /// The command that the words after the program's name mean, or the first fault in them. It takes no memory.
 ///
@@ -113,6 +118,10 @@ fn command_of(kind: Kind, rest: &[Text]) -> Option<Command>
             net: net.unwrap(),
             workers: number_of(Flag::Workers, rest)? as u32,
         }),
+        Kind::Settle => Some(Command::Settle {
+            file,
+            net: net.unwrap(),
+        }),
         Kind::Run => Some(Command::Run {
             file,
             net: net.unwrap(),
@@ -125,7 +134,30 @@ fn command_of(kind: Kind, rest: &[Text]) -> Option<Command>
             workers: number_of(Flag::Workers, rest)? as u32,
             turns: number_of(Flag::Turns, rest)?,
         }),
+        Kind::Demo => Some(Command::Demo {
+            seed: argument_number(0, u64::MAX, 0, rest)?,
+            nodes: argument_number(LEAST_NODES, GREATEST_NODES, 1, rest)? as u32,
+        }),
     }
+}
+
+// The argument with this number, from 0, as a number of that range, unless it is bad.
+fn argument_number(least: u64, greatest: u64, number: usize, rest: &[Text]) -> Option<u64>
+    ensures number { result ≡ argument_number least greatest number (parts_from 1 rest.now) }
+    ensures bounded { IfSome result (λ n. n ≤ greatest) }
+{
+    number_within(least, greatest, argument_word(number, rest)?)
+}
+
+// The word of the argument with this number, if there are so many.
+fn argument_word(number: usize, rest: &[Text]) -> Option<&str>
+    ensures { option_map (λ word. word.now) result ≡
+        option_map word_of (slice_get (filter is_argument (parts_from 1 rest.now)) number) }
+{
+    let part = Parts::behind_command(rest)
+        .filter(|part| part.is_argument())
+        .nth(number)?;
+    Some(part.word())
 }
 
 // The number of the flag, unless its value is bad.

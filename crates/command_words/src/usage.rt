@@ -7,8 +7,10 @@ ghost use Rattle.command_words.specs.Usages.{flag_word, limits_of};
 pub enum Kind {
     Check,
     Route,
+    Settle,
     Run,
     Trace,
+    Demo,
 }
 
 /// How a command is used: its word, how many arguments it takes at least and at most, and which flags it has.
@@ -25,7 +27,14 @@ impl Kind {
     ghost use Rattle.command_words.specs.Usages.{has_word, kinds, pure_usage, usage_of};
 
     // All commands.
-    const ALL: [Kind; 4] = [Kind::Check, Kind::Route, Kind::Run, Kind::Trace];
+    const ALL: [Kind; 6] = [
+        Kind::Check,
+        Kind::Route,
+        Kind::Settle,
+        Kind::Run,
+        Kind::Trace,
+        Kind::Demo,
+    ];
 
     /// How the command is used.
     pub fn usage(self) -> Usage
@@ -44,6 +53,12 @@ impl Kind {
                 most: 2,
                 flags: &[Flag::Workers],
             },
+            Kind::Settle => Usage {
+                word: "settle",
+                least: 2,
+                most: 2,
+                flags: &[],
+            },
             Kind::Run => Usage {
                 word: "run",
                 least: 2,
@@ -55,6 +70,12 @@ impl Kind {
                 least: 2,
                 most: 2,
                 flags: &[Flag::Workers, Flag::Turns],
+            },
+            Kind::Demo => Usage {
+                word: "demo",
+                least: 2,
+                most: 2,
+                flags: &[],
             },
         }
     }

@@ -14,11 +14,13 @@ use Rattle.topology_file.specs.NetText.{PureNetFile, NetText, HasOneOutcome, cha
 use Rattle.report_text.specs.Refusals.{PureRefusal, words, expr, network, lacks, read, long, memory}
 use Rattle.metacli.specs.Answers.{done, refused}
 use Rattle.metacli.specs.Reading.{Holds, IsUntaken, IsReadAs, IsExprRefusal, IsNetRefusal}
-use Rattle.metacli.specs.Outcome.{PureOutcome, stopped, checked, routed, ran, answer_in, IsCheckedAs, IsAlgebraChecked, IsNetworkChecked, IsOnArc, IsRoutedAs, IsNetworkRouted, IsRunAs, IsNetworkRun, IsRunOn, IsFit, unbeaten_properties, GoesOnFrom, GoesOnOver, WithNetwork, ComesBy, word_at}
-use Rattle.metacli.specs.Complete.{IsUnlessMemory, IsTold, IsJudged, IsNetJudged, IsAny, IsDone, IsRunOut, CompleteBy}
+use Rattle.metacli.specs.Outcome.{PureOutcome, stopped, checked, routed, ran, shown, answer_in, IsCheckedAs, IsAlgebraChecked, IsNetworkChecked, IsOnArc, IsRoutedAs, IsNetworkRouted, IsRunAs, IsNetworkRun, IsRunOn, IsShownAs, IsFit, IsRouted, asked_of, GoesOnFrom, GoesOnOver, WithNetwork, ComesBy, word_at}
+use Rattle.metacli.specs.Complete.{IsUnlessMemory, IsTold, IsJudged, IsNetJudged, IsAny, IsDone, IsRunOut, IsRoutedWholly, CompleteBy}
 use Rattle.command_words.specs.declared.command.Command.{Command}
-use Rattle.command_words.specs.declared.command.Command.TheVariants.{Check, Route, Run, Trace}
+use Rattle.command_words.specs.declared.command.Command.TheVariants.{Check, Route, Settle, Run, Trace, Demo}
 use Rattle.command_words.specs.declared.command.WordsFault.{WordsFault}
+use Rattle.metacli.specs.declared.routing.Solution.{Solution}
+use Rattle.metacli.specs.declared.routing.Solution.TheVariants.{Unbeaten, Settled}
 
 -- the laws of texts
 pub record Laws : Type 0 where
@@ -148,19 +150,21 @@ checked_done a file S (stopped b f (read w)) h = absurd h
 checked_done a file S (stopped b f (long w)) h = absurd h
 checked_done a file S (routed b f rows) h = absurd h
 checked_done a file S (ran b f t past last quiet) h = absurd h
+checked_done a file S (shown b f last quiet) h = absurd h
 
 -- a network whose labels are fit has no arc that lacks what is asked
-routed_done : (a : PureAlg) (file : PureNetFile) (o : PureOutcome) → IsRoutedAs a file o → IsFit (changed_net file) → IsUnlessMemory o done
-routed_done a file (routed b f rows) h fit = inl refl
-routed_done a file (stopped b f (lacks arc x)) h fit = absurd (first_refutes unbeaten_properties (changed_net file) arc x.property h.2.first fit)
-routed_done a file (stopped b f memory) h fit = inr refl
-routed_done a file (stopped b f (words n)) h fit = absurd h
-routed_done a file (stopped b f (expr g)) h fit = absurd h
-routed_done a file (stopped b f (network g)) h fit = absurd h
-routed_done a file (stopped b f (read w)) h fit = absurd h
-routed_done a file (stopped b f (long w)) h fit = absurd h
-routed_done a file (checked b f v) h fit = absurd h
-routed_done a file (ran b f t past last quiet) h fit = absurd h
+routed_done : (solution : Solution) (a : PureAlg) (file : PureNetFile) (o : PureOutcome) → IsRoutedAs solution a file o → IsFit solution (changed_net file) → IsUnlessMemory o done
+routed_done solution a file (routed b f rows) h fit = inl refl
+routed_done solution a file (stopped b f (lacks arc x)) h fit = absurd (first_refutes (asked_of solution) (changed_net file) arc x.property h.2.first fit)
+routed_done solution a file (stopped b f memory) h fit = inr refl
+routed_done solution a file (stopped b f (words n)) h fit = absurd h
+routed_done solution a file (stopped b f (expr g)) h fit = absurd h
+routed_done solution a file (stopped b f (network g)) h fit = absurd h
+routed_done solution a file (stopped b f (read w)) h fit = absurd h
+routed_done solution a file (stopped b f (long w)) h fit = absurd h
+routed_done solution a file (checked b f v) h fit = absurd h
+routed_done solution a file (ran b f t past last quiet) h fit = absurd h
+routed_done solution a file (shown b f last quiet) h fit = absurd h
 
 run_out : (traced : Bool) (turns : ℕ) (a : PureAlg) (file : PureNetFile) (o : PureOutcome) → IsRunAs traced turns a file o → IsRunOut o
 run_out traced turns a file (ran b f t past last true) h = inl (inl refl)
@@ -174,6 +178,30 @@ run_out traced turns a file (stopped b f (read w)) h = absurd h
 run_out traced turns a file (stopped b f (long w)) h = absurd h
 run_out traced turns a file (checked b f v) h = absurd h
 run_out traced turns a file (routed b f rows) h = absurd h
+run_out traced turns a file (shown b f last quiet) h = absurd h
+
+shown_out : (seed nodes : ℕ) (o : PureOutcome) → IsShownAs seed nodes o → IsRunOut o
+shown_out seed nodes (shown a f last true) h = inl (inl refl)
+shown_out seed nodes (shown a f last false) h = inr refl
+shown_out seed nodes (stopped None None memory) h = inl (inr refl)
+shown_out seed nodes (stopped None None (words n)) h = absurd h
+shown_out seed nodes (stopped None None (expr g)) h = absurd h
+shown_out seed nodes (stopped None None (network g)) h = absurd h
+shown_out seed nodes (stopped None None (lacks arc x)) h = absurd h
+shown_out seed nodes (stopped None None (read w)) h = absurd h
+shown_out seed nodes (stopped None None (long w)) h = absurd h
+shown_out seed nodes (stopped (Some a) f r) h = absurd h
+shown_out seed nodes (stopped None (Some f) r) h = absurd h
+shown_out seed nodes (checked b f v) h = absurd h
+shown_out seed nodes (routed b f rows) h = absurd h
+shown_out seed nodes (ran b f t past last quiet) h = absurd h
+
+-- what route or settle comes to is judged
+routed_wholly : Laws → (solution : Solution) (file net : List ℕ) (old new : Moment) (o : PureOutcome) → IsRouted solution file net old new o → IsRoutedWholly solution file net old new o
+routed_wholly laws solution file net old new o h = λ bytes net_bytes t u quiet.
+    judged laws file bytes (IsNetworkRouted solution net) (IsNetJudged net_bytes (IsFit solution) IsDone o) old h.between new o h.expression h.reads.as_read h.goes_on t quiet
+    (λ a x. over_network laws a net net_bytes (IsFit solution) IsDone (IsRoutedAs solution a) old h.between new o h.reads.keeps x u quiet (λ d. d) (λ f y fit. routed_done solution a f o y fit))
+    (λ e a. net_judged_memory net_bytes (IsFit solution) IsDone o a e (λ d. d))
 
 -- what run or trace comes to is judged
 ran_complete : Laws → (file net : List ℕ) (traced : Bool) (turns : ℕ) (old new : Moment) (o : PureOutcome) → IsRunOn traced turns file net old new o → (bytes net_bytes : List ℕ) → IsTold old file bytes → IsTold old net net_bytes
@@ -193,10 +221,9 @@ complete laws text old new c o (Ok (Check file (Some net))) h = λ bytes net_byt
     (λ a x. over_network laws a (word_at text net) net_bytes IsAny IsDone (λ f. IsCheckedAs a (Some f) (IsOnArc (changed_net f))) old h.1.between new o h.1.reads.keeps x u quiet (λ d. d)
     (λ f y any. checked_done a (Some f) (IsOnArc (changed_net f)) o y))
     (λ e a. net_judged_memory net_bytes IsAny IsDone o a e (λ d. d))
-complete laws text old new c o (Ok (Route file net workers)) h = λ bytes net_bytes t u quiet.
-    judged laws (word_at text file) bytes (IsNetworkRouted (word_at text net)) (IsNetJudged net_bytes IsFit IsDone o) old h.1.between new o h.1.expression h.1.reads.as_read h.1.goes_on t quiet
-    (λ a x. over_network laws a (word_at text net) net_bytes IsFit IsDone (IsRoutedAs a) old h.1.between new o h.1.reads.keeps x u quiet (λ d. d) (λ f y fit. routed_done a f o y fit))
-    (λ e a. net_judged_memory net_bytes IsFit IsDone o a e (λ d. d))
+complete laws text old new c o (Ok (Route file net workers)) h = routed_wholly laws Unbeaten (word_at text file) (word_at text net) old new o h.1
+complete laws text old new c o (Ok (Settle file net)) h = routed_wholly laws Settled (word_at text file) (word_at text net) old new o h.1
 complete laws text old new c o (Ok (Run file net workers turns)) h = ran_complete laws (word_at text file) (word_at text net) false turns old new o h.1
 complete laws text old new c o (Ok (Trace file net workers turns)) h = ran_complete laws (word_at text file) (word_at text net) true turns old new o h.1
+complete laws text old new c o (Ok (Demo seed nodes)) h = shown_out seed nodes o h.2
 complete laws text old new c o (Err f) h = tt

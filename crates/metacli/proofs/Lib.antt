@@ -7,3 +7,4 @@ mod Printable
 mod Refused
 mod RowsBehind
 mod Written
+mod Demos

@@ -1,8 +1,8 @@
 -- Texts that are written a line at a time.
-use Rattle.std.proofs.Common.{◌≡◌, ◌≢◌, ◌<◌, ℕ, ◌+◌, ◌++◌, List, length, take, drop, arith, refl, sym, ap, ◌∙◌, append_assoc, inl, inr, ⊎_elim, [], Result, Ok, Err, append-nil, length-append, ◌∷◌, map, get_or, zero, suc, subst}
+use Rattle.std.proofs.Common.{◌≡◌, ◌≢◌, ◌<◌, ℕ, ◌+◌, ◌-◌, ◌++◌, List, length, take, drop, arith, refl, sym, ap, ◌∙◌, append_assoc, inl, inr, ⊎_elim, [], Result, Ok, Err, append-nil, length-append, ◌∷◌, map, get_or, zero, suc, subst}
 use Rattle.std.proofs.Math.Seq.{take-append-add}
 use Rattle.std.proofs.lemmas.List.{take_all, take-append-le, at_drop_more}
-use Rattle.std.specs.List.{AllByRecursion}
+use Rattle.std.specs.List.{AllByRecursion, range_with_len}
 use Rattle.alg_classes.specs.Instances.{pure_property}
 use Rattle.alg_classes.specs.declared.property.Property.{Property}
 use Rattle.alg_classes.specs.declared.property.Property.TheVariants.{Monotone}
@@ -14,7 +14,9 @@ use Rattle.net_graph.specs.RowTexts.{IsRowOf, row_text}
 use Rattle.net_graph.specs.declared.route.RouteRow.{RouteRow}
 use Rattle.meta_base.specs.Sink.{Held, Appended, AppendedPart}
 use Rattle.meta_base.specs.declared.ids.Delivery.{Delivery}
+use Rattle.net_graph.specs.Tables.{PureRow}
 use Rattle.report_text.specs.RunTexts.{delivery_text}
+use Rattle.report_text.specs.SummaryTexts.{reach_text, reaches_text}
 use Rattle.report_text.specs.Refusals.{words, expr, network, lacks, read, long, memory}
 use Rattle.report_text.specs.VerdictTexts.{verdict_text, lines_on}
 use Rattle.metacli.specs.Answers.{PureAnswer, done, refused, spent, write_fault}
@@ -120,6 +122,13 @@ verdicts_at a v properties i h = at_drop_more (λ (ps : List Property). lines_on
 pub deliveries_at : (net : PureNet) (journal : List Delivery) (i : ℕ) (d : Delivery) → i < length journal
     → journal_text net (drop i journal) ≡ delivery_text net (get_or journal i d) ++ journal_text net (drop (i + 1) journal)
 deliveries_at net journal i d h = at_drop_more (journal_text net) journal i d h
+
+-- the lines from one destination on
+pub reaches_at : (net : PureNet) (rows : List PureRow) (dest dests : ℕ) → dest < dests
+    → reaches_text net rows (range_with_len dest (dests - dest)) ≡ reach_text net rows dest ++ reaches_text net rows (range_with_len (dest + 1) (dests - (dest + 1)))
+reaches_at net rows dest dests l =
+    let e : dests - dest ≡ suc (dests - (dest + 1)) = omega arith in
+    rw e refl
 
 -- what holds of all deliveries holds of one
 pub delivery_at : (P : Delivery → Type 0) (journal : List Delivery) (i : ℕ) (d : Delivery) → i < length journal → AllByRecursion P journal → P (get_or journal i d)

@@ -15,8 +15,10 @@ use Rattle.metacli.specs.Answers.{PureAnswer, done, refused, spent}
 use Rattle.command_words.specs.Words.{Words}
 use Rattle.metacli.specs.Outcome.{PureOutcome, answer_in, IsFit, word_at}
 use Rattle.command_words.specs.declared.command.Command.{Command}
-use Rattle.command_words.specs.declared.command.Command.TheVariants.{Check, Route, Run, Trace}
+use Rattle.command_words.specs.declared.command.Command.TheVariants.{Check, Route, Settle, Run, Trace, Demo}
 use Rattle.command_words.specs.declared.command.WordsFault.{WordsFault}
+use Rattle.metacli.specs.declared.routing.Solution.{Solution}
+use Rattle.metacli.specs.declared.routing.Solution.TheVariants.{Unbeaten, Settled}
 
 -- this was decided, or memory was refused
 abbrev pub IsUnlessMemory : PureOutcome → PureAnswer → Type 0
@@ -49,17 +51,23 @@ IsDone o = IsUnlessMemory o done
 abbrev pub IsRunOut : PureOutcome → Type 0
 IsRunOut o = IsDone o ⊎ (answer_in o ≡ spent)
 
+-- the routes of the files of these names are found where the labels on all arcs are fit for them
+abbrev pub IsRoutedWholly : Solution → List ℕ → List ℕ → Moment → Moment → PureOutcome → Type 0
+IsRoutedWholly solution file net old new o = (bytes net_bytes : List ℕ) → IsTold old file bytes → IsTold old net net_bytes
+    → ¬ HasRisen old.faults new.faults → IsJudged bytes (IsNetJudged net_bytes (IsFit solution) IsDone o) o
+
 abbrev pub CompleteBy : List (List ℕ) → Moment → Moment → PureOutcome → Result Command WordsFault → Type 0
 CompleteBy words old new o (Ok (Check file None)) = (bytes : List ℕ) → IsTold old (word_at words file) bytes → ¬ HasRisen old.faults new.faults
     → IsJudged bytes (λ a. IsDone o) o
 CompleteBy words old new o (Ok (Check file (Some net))) = (bytes net_bytes : List ℕ) → IsTold old (word_at words file) bytes → IsTold old (word_at words net) net_bytes
     → ¬ HasRisen old.faults new.faults → IsJudged bytes (IsNetJudged net_bytes IsAny IsDone o) o
-CompleteBy words old new o (Ok (Route file net workers)) = (bytes net_bytes : List ℕ) → IsTold old (word_at words file) bytes → IsTold old (word_at words net) net_bytes
-    → ¬ HasRisen old.faults new.faults → IsJudged bytes (IsNetJudged net_bytes IsFit IsDone o) o
+CompleteBy words old new o (Ok (Route file net workers)) = IsRoutedWholly Unbeaten (word_at words file) (word_at words net) old new o
+CompleteBy words old new o (Ok (Settle file net)) = IsRoutedWholly Settled (word_at words file) (word_at words net) old new o
 CompleteBy words old new o (Ok (Run file net workers turns)) = (bytes net_bytes : List ℕ) → IsTold old (word_at words file) bytes → IsTold old (word_at words net) net_bytes
     → ¬ HasRisen old.faults new.faults → IsJudged bytes (IsNetJudged net_bytes IsAny IsRunOut o) o
 CompleteBy words old new o (Ok (Trace file net workers turns)) = (bytes net_bytes : List ℕ) → IsTold old (word_at words file) bytes → IsTold old (word_at words net) net_bytes
     → ¬ HasRisen old.faults new.faults → IsJudged bytes (IsNetJudged net_bytes IsAny IsRunOut o) o
+CompleteBy words old new o (Ok (Demo seed nodes)) = IsRunOut o
 CompleteBy words old new o (Err f) = Unit {0}
 
 abbrev pub IsComplete : List (List ℕ) → Moment → Moment → PureOutcome → Type 0

@@ -9,9 +9,10 @@ use Rattle.net_graph.specs.RowTexts.{IsRowOf}
 use Rattle.net_graph.specs.Views.{pure_row}
 use Rattle.net_graph.specs.declared.route.RouteRow.{RouteRow}
 use Rattle.report_text.specs.Refusals.{CanLack}
-use Rattle.metacli.specs.Outcome.{AreRoutesOn, IsFit, unbeaten_properties}
+use Rattle.metacli.specs.Outcome.{AreRoutesOn, IsFit, asked_of}
+use Rattle.metacli.specs.declared.routing.Solution.{Solution}
 
 -- rows that can be printed, or an instance that can
-abbrev pub IsFoundOn : PureNet → Result (List RouteRow) Lack → Type 0
-IsFoundOn net (Ok rows) = IsFit net × AreRoutesOn net (map pure_row rows) × AllByRecursion (IsRowOf net) (map pure_row rows)
-IsFoundOn net (Err lack) = IsFirstLack unbeaten_properties net lack.arc.0 (pure_instance lack.instance) × CanLack lack.arc.0 (pure_instance lack.instance) (Some net)
+abbrev pub IsFoundOn : Solution → PureNet → Result (List RouteRow) Lack → Type 0
+IsFoundOn solution net (Ok rows) = IsFit solution net × AreRoutesOn solution net (map pure_row rows) × AllByRecursion (IsRowOf net) (map pure_row rows)
+IsFoundOn solution net (Err lack) = IsFirstLack (asked_of solution) net lack.arc.0 (pure_instance lack.instance) × CanLack lack.arc.0 (pure_instance lack.instance) (Some net)

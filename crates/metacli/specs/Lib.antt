@@ -7,3 +7,4 @@ pub mod Behind
 pub mod Texts
 pub mod Runs
 pub mod Found
+pub mod Generated

@@ -7,15 +7,17 @@ use Rattle.alg_model.specs.declared.alg.TheConstants.{MAX_INSTANCE_NUMBER}
 use Rattle.alg_model.specs.Expressions.{PureAlg, PureLabel}
 use Rattle.alg_model.specs.Application.{IsLabel}
 use Rattle.alg_model.specs.Bounds.{greatest_number}
-use Rattle.alg_model.specs.Properties.{PureProperty, monotone, isotone}
+use Rattle.alg_model.specs.Properties.{PureProperty, monotone, isotone, strict}
 use Rattle.alg_model.specs.Verdicts.{PureVerdicts, ExactFor}
 use Rattle.alg_model.specs.Instances.{VerdictsAtMost}
 use Rattle.property_infer.specs.Views.{pure_verdicts}
 use Rattle.net_graph.specs.Nets.{PureNet, PureArc}
-use Rattle.net_graph.specs.Tables.{PureRow, BestFirst, Optimal, AreRowsOfTables}
+use Rattle.net_graph.specs.Tables.{PureRow, BestFirst, NetHas, Optimal, AreRowsOfTables, AreSettledRows}
 use Rattle.net_graph.specs.Changes.{PureChange}
 use Rattle.net_graph.specs.Views.{pure_change, pure_row}
-use Rattle.topology_file.specs.NetText.{PureNetFile, changed_net}
+use Rattle.topology_file.specs.NetText.{PureNetFile, NetText, changed_net}
+use Rattle.net_gen.specs.Generated.{Generated}
+use Rattle.net_gen.specs.Networks.{demo_alg}
 use Rattle.vector_runs.specs.Runs.{PurePhase, IsRun, AreStable, pure_phase}
 use Rattle.report_text.specs.Refusals as refusal
 use Rattle.net_facts.specs.Lacks.{IsFirstLack, NetHasAll}
@@ -25,9 +27,11 @@ use Rattle.metacli.specs.Behind.{nets_after}
 use Rattle.metacli.specs.Reading.{ReadsExpression, ReadsNetwork}
 use Rattle.command_words.specs.Words.{Words, words_fault_number}
 use Rattle.command_words.specs.declared.command.Command.{Command}
-use Rattle.command_words.specs.declared.command.Command.TheVariants.{Check, Route, Run, Trace}
+use Rattle.command_words.specs.declared.command.Command.TheVariants.{Check, Route, Settle, Run, Trace, Demo}
 use Rattle.command_words.specs.declared.command.WordsFault.{WordsFault}
 use Rattle.metacli.specs.declared.ended.Ended.{Ended}
+use Rattle.metacli.specs.declared.routing.Solution.{Solution}
+use Rattle.metacli.specs.declared.routing.Solution.TheVariants.{Unbeaten, Settled}
 
 -- What a run comes to before anything is written.
 pub data PureOutcome : Type 0 where
@@ -39,48 +43,57 @@ pub data PureOutcome : Type 0 where
   routed : PureAlg → PureNetFile → List PureRow → PureOutcome
   -- the phases before the last, the last, and whether it is quiet; deliveries are printed or not
   ran : PureAlg → PureNetFile → Bool → List PurePhase → PurePhase → Bool → PureOutcome
+  -- the one phase on a generated network, and whether it is quiet
+  shown : PureAlg → PureNetFile → PurePhase → Bool → PureOutcome
 
 abbrev pub algebra_in : PureOutcome → Option PureAlg
 algebra_in (stopped a f r) = a
 algebra_in (checked a f v) = Some a
 algebra_in (routed a f rows) = Some a
 algebra_in (ran a f traced past last quiet) = Some a
+algebra_in (shown a f last quiet) = Some a
 
 abbrev pub file_in : PureOutcome → Option PureNetFile
 file_in (stopped a f r) = f
 file_in (checked a f v) = f
 file_in (routed a f rows) = Some f
 file_in (ran a f traced past last quiet) = Some f
+file_in (shown a f last quiet) = Some f
 
 abbrev pub verdicts_in : PureOutcome → Option PureVerdicts
 verdicts_in (stopped a f r) = None
 verdicts_in (checked a f v) = Some v
 verdicts_in (routed a f rows) = None
 verdicts_in (ran a f traced past last quiet) = None
+verdicts_in (shown a f last quiet) = None
 
 abbrev pub rows_in : PureOutcome → List PureRow
 rows_in (stopped a f r) = []
 rows_in (checked a f v) = []
 rows_in (routed a f rows) = rows
 rows_in (ran a f traced past last quiet) = last.rows
+rows_in (shown a f last quiet) = last.rows
 
 abbrev pub journal_in : PureOutcome → List Delivery
 journal_in (stopped a f r) = []
 journal_in (checked a f v) = []
 journal_in (routed a f rows) = []
 journal_in (ran a f traced past last quiet) = last.journal
+journal_in (shown a f last quiet) = last.journal
 
 abbrev pub past_in : PureOutcome → List PurePhase
 past_in (stopped a f r) = []
 past_in (checked a f v) = []
 past_in (routed a f rows) = []
 past_in (ran a f traced past last quiet) = past
+past_in (shown a f last quiet) = []
 
 abbrev pub answer_in : PureOutcome → PureAnswer
 answer_in (stopped a f r) = refused r
 answer_in (checked a f v) = done
 answer_in (routed a f rows) = done
 answer_in (ran a f traced past last quiet) = if quiet then done else spent
+answer_in (shown a f last quiet) = if quiet then done else spent
 
 -- the changes of a network file, if there is one
 abbrev pub changes_of : Option PureNetFile → List PureChange
@@ -117,26 +130,29 @@ labels_on net = map (λ (a : PureArc). a.label) net.arcs
 abbrev pub IsOnArc : PureNet → PureLabel → Type 0
 IsOnArc net = Contains (labels_on net)
 
--- the rows are those of the tables of all destinations in order, each of which is made best first and beaten by no
--- walk
-abbrev pub AreRoutesOn : PureNet → List PureRow → Type 0
-AreRoutesOn net = AreRowsOfTables net (λ dest table. BestFirst net dest table × Optimal net dest table)
+-- what is asked of all labels, in the order in which it is looked for
+abbrev pub asked_of : Solution → List PureProperty
+asked_of Unbeaten = monotone ∷ isotone ∷ []
+asked_of Settled = strict ∷ []
 
--- what link state asks of all labels, in the order in which it looks
-abbrev pub unbeaten_properties : List PureProperty
-unbeaten_properties = monotone ∷ isotone ∷ []
+-- the labels on all arcs have it
+abbrev pub IsFit : Solution → PureNet → Type 0
+IsFit solution = NetHasAll (asked_of solution)
 
--- the labels on all arcs have what link state asks
-abbrev pub IsFit : PureNet → Type 0
-IsFit = NetHasAll unbeaten_properties
+-- The rows are those of the tables of all destinations in order, each of which is made best first. Unbeaten ones are
+-- beaten by no walk, and settled too where all labels are strict.
+abbrev pub AreRoutesOn : Solution → PureNet → List PureRow → Type 0
+AreRoutesOn Unbeaten net rows =
+    AreRowsOfTables net (λ dest table. BestFirst net dest table × Optimal net dest table) rows × (NetHas strict net → AreSettledRows net rows)
+AreRoutesOn Settled net rows = AreRowsOfTables net (BestFirst net) rows × AreSettledRows net rows
 
--- What route comes to where all was read, on the network behind its changes: the routes, where its labels are fit for
--- them; else the first arc whose label isn't; unless memory is refused.
-abbrev pub IsRoutedAs : PureAlg → PureNetFile → PureOutcome → Type 0
-IsRoutedAs a file (routed b f rows) = (b ≡ a) × (f ≡ file) × IsFit (changed_net file) × AreRoutesOn (changed_net file) rows
-IsRoutedAs a file (stopped b f (lacks arc x)) = (b ≡ Some a) × (f ≡ Some file) × IsFirstLack unbeaten_properties (changed_net file) arc x
-IsRoutedAs a file (stopped b f memory) = (b ≡ Some a) × (f ≡ Some file)
-IsRoutedAs a file _ = ⊥
+-- What route and settle come to where all was read, on the network behind its changes: the routes, where its labels
+-- are fit for them; else the first arc whose label isn't; unless memory is refused.
+abbrev pub IsRoutedAs : Solution → PureAlg → PureNetFile → PureOutcome → Type 0
+IsRoutedAs solution a file (routed b f rows) = (b ≡ a) × (f ≡ file) × IsFit solution (changed_net file) × AreRoutesOn solution (changed_net file) rows
+IsRoutedAs solution a file (stopped b f (lacks arc x)) = (b ≡ Some a) × (f ≡ Some file) × IsFirstLack (asked_of solution) (changed_net file) arc x
+IsRoutedAs solution a file (stopped b f memory) = (b ≡ Some a) × (f ≡ Some file)
+IsRoutedAs solution a file _ = ⊥
 
 -- What run and trace come to where all was read: a run of the network's new nodes, and then on the networks behind the
 -- changes, whose quiet phases have stable rows; unless memory is refused.
@@ -146,6 +162,19 @@ IsRunAs traced turns a file (ran b f t past last quiet) =
     × AreStable file.net (nets_after file.net file.changes) past last quiet
 IsRunAs traced turns a file (stopped b f memory) = (b ≡ Some a) × (f ≡ Some file)
 IsRunAs traced turns a file _ = ⊥
+
+-- how many deliveries the nodes of a generated network may make
+abbrev pub demo_turns : ℕ
+demo_turns = 100000
+
+-- What demo comes to: a run of the new nodes of the network that the generated text means over add(1..9), without
+-- changes; all labels are strict, so that the rows of a quiet run are the only stable ones; unless memory is refused.
+abbrev pub IsShownAs : ℕ → ℕ → PureOutcome → Type 0
+IsShownAs seed nodes (shown a f last quiet) =
+    (a ≡ demo_alg) × NetText (Generated seed nodes) demo_alg f × (f.changes ≡ []) × NetHas strict f.net
+    × IsRun f.net [] demo_turns [] last quiet × AreStable f.net [] [] last quiet
+IsShownAs seed nodes (stopped None None memory) = Unit {0}
+IsShownAs seed nodes _ = ⊥
 
 -- What comes of an expression file: over its algebra, what Then says; or it is refused, and nothing more is
 -- begun.
@@ -179,8 +208,8 @@ abbrev pub IsNetworkChecked : List ℕ → PureAlg → Moment → Moment → Pur
 IsNetworkChecked net a = WithNetwork a net (λ f. IsCheckedAs a (Some f) (IsOnArc (changed_net f)))
 
 -- the network file is read over the algebra, and then its routes are found, behind all changes
-abbrev pub IsNetworkRouted : List ℕ → PureAlg → Moment → Moment → PureOutcome → Type 0
-IsNetworkRouted net a = WithNetwork a net (IsRoutedAs a)
+abbrev pub IsNetworkRouted : Solution → List ℕ → PureAlg → Moment → Moment → PureOutcome → Type 0
+IsNetworkRouted solution net a = WithNetwork a net (IsRoutedAs solution a)
 
 -- the network file is read over the algebra, and then nodes run on its network, through its changes
 abbrev pub IsNetworkRun : Bool → ℕ → List ℕ → PureAlg → Moment → Moment → PureOutcome → Type 0
@@ -193,9 +222,9 @@ IsChecked file = WithAlgebra file IsAlgebraChecked
 abbrev pub IsCheckedOn : List ℕ → List ℕ → Moment → Moment → PureOutcome → Type 0
 IsCheckedOn file net = WithAlgebra file (IsNetworkChecked net)
 
--- what route comes to on the files of these names
-abbrev pub IsRouted : List ℕ → List ℕ → Moment → Moment → PureOutcome → Type 0
-IsRouted file net = WithAlgebra file (IsNetworkRouted net)
+-- what route and settle come to on the files of these names
+abbrev pub IsRouted : Solution → List ℕ → List ℕ → Moment → Moment → PureOutcome → Type 0
+IsRouted solution file net = WithAlgebra file (IsNetworkRouted solution net)
 
 -- what run and trace come to on the files of these names, with so many turns
 abbrev pub IsRunOn : Bool → ℕ → List ℕ → List ℕ → Moment → Moment → PureOutcome → Type 0
@@ -209,11 +238,13 @@ word_at words place = slice_index_or words place []
 abbrev pub ComesBy : List (List ℕ) → Result Command WordsFault → Moment → Moment → Option Command → PureOutcome → Type 0
 ComesBy words (Ok (Check file None)) old new c o = (c ≡ Some (Check file None)) × IsChecked (word_at words file) old new o
 ComesBy words (Ok (Check file (Some net))) old new c o = (c ≡ Some (Check file (Some net))) × IsCheckedOn (word_at words file) (word_at words net) old new o
-ComesBy words (Ok (Route file net workers)) old new c o = (c ≡ Some (Route file net workers)) × IsRouted (word_at words file) (word_at words net) old new o
+ComesBy words (Ok (Route file net workers)) old new c o = (c ≡ Some (Route file net workers)) × IsRouted Unbeaten (word_at words file) (word_at words net) old new o
+ComesBy words (Ok (Settle file net)) old new c o = (c ≡ Some (Settle file net)) × IsRouted Settled (word_at words file) (word_at words net) old new o
 ComesBy words (Ok (Run file net workers turns)) old new c o =
     (c ≡ Some (Run file net workers turns)) × IsRunOn false turns (word_at words file) (word_at words net) old new o
 ComesBy words (Ok (Trace file net workers turns)) old new c o =
     (c ≡ Some (Trace file net workers turns)) × IsRunOn true turns (word_at words file) (word_at words net) old new o
+ComesBy words (Ok (Demo seed nodes)) old new c o = (c ≡ Some (Demo seed nodes)) × (new ≡ old) × IsShownAs seed nodes o
 ComesBy words (Err f) old new c o = (c ≡ None) × (new ≡ old) × (o ≡ stopped None None (refusal.words (words_fault_number f)))
 
 abbrev pub ComesTo : List (List ℕ) → Moment → Moment → Option Command → PureOutcome → Type 0

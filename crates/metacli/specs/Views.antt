@@ -10,7 +10,7 @@ use Rattle.report_text.specs.Refusals.{PureRefusal, lacks}
 use Rattle.vector_runs.specs.Runs.{pure_phase}
 use Rattle.metacli.specs.Answers.{pure_stop}
 use Rattle.metacli.specs.Texts.{IsPrintable}
-use Rattle.metacli.specs.Outcome.{PureOutcome, stopped, checked, routed, ran}
+use Rattle.metacli.specs.Outcome.{PureOutcome, stopped, checked, routed, ran, shown}
 use Rattle.metacli.specs.declared.outcome.Stop.{Stop}
 use Rattle.metacli.specs.declared.outcome.Outcome.{Outcome}
 use Rattle.metacli.specs.declared.outcome.Outcome.TheVariants as outcome
@@ -21,6 +21,7 @@ pure_outcome (outcome.Lacking a f behind lack) = stopped (Some a) (Some (pure_fi
 pure_outcome (outcome.Checked a f v) = checked a (option_map pure_file f) (pure_verdicts v)
 pure_outcome (outcome.Routed a f rows) = routed a (pure_file f) (map pure_row rows)
 pure_outcome (outcome.Ran a f nets traced run) = ran a (pure_file f) traced (map pure_phase run.past) (pure_phase run.last) run.is_quiet
+pure_outcome (outcome.Shown a f last quiet) = shown a (pure_file f) (pure_phase last) quiet
 
 -- the network of an arc that lacks a property is that of the file behind its changes; those of the phases behind the
 -- first are those behind the first change, the first two, and so on
@@ -30,6 +31,7 @@ IsBehind (outcome.Lacking a f behind lack) = last_of behind f.net ≡ changed_ne
 IsBehind (outcome.Checked a f v) = Unit {0}
 IsBehind (outcome.Routed a f rows) = Unit {0}
 IsBehind (outcome.Ran a f nets traced run) = nets ≡ nets_after f.net (pure_file f).changes
+IsBehind (outcome.Shown a f last quiet) = Unit {0}
 
 -- the text of the outcome can be made
 pub record CanBeWritten (o : Outcome) : Type 0 where

@@ -5,12 +5,14 @@
 mod behind;
 mod checking;
 mod ended;
+mod generating;
 mod outcome;
 mod phases;
 mod putting;
 mod reading;
 mod routing;
 mod running;
+mod summing;
 mod top;
 mod writing;
 

@@ -106,6 +106,13 @@ pub enum Outcome {
         is_traced: bool,
         run: Run,
     },
+    /// The phase of path-vector nodes on a generated network.
+    Shown {
+        alg: Alg,
+        file: NetFile,
+        last: Phase,
+        is_quiet: bool,
+    },
 }
 
 impl Outcome {
@@ -170,6 +177,17 @@ impl Outcome {
                 let decided = end_answer(run.is_quiet);
                 (Some(alg), Some(file), Made::of_run(run), decided)
             }
+            Outcome::Shown {
+                alg,
+                file,
+                last,
+                is_quiet,
+            } => (
+                Some(alg),
+                Some(file),
+                Made::of_phase(alloc, last),
+                end_answer(is_quiet),
+            ),
         };
         let (net, changes) = match file {
             Some(NetFile { net, changes }) => (Some(net), changes),
@@ -234,6 +252,23 @@ impl Made {
             verdicts: None,
             rows,
             journal: List::new(alloc),
+            past: List::new(alloc),
+        }
+    }
+
+    // One phase.
+    fn of_phase(alloc: Global, phase: Phase) -> Made
+        ensures { result ≡ record {
+          verdicts = None;
+          rows = phase.rows;
+          journal = phase.journal;
+          past = [];
+        } }
+    {
+        Made {
+            verdicts: None,
+            rows: phase.rows,
+            journal: phase.journal,
             past: List::new(alloc),
         }
     }

@@ -1,4 +1,4 @@
-// What `route` decides.
+// What `route` and `settle` decide.
 ghost use Rattle.std.specs.Prelude.{◌≡◌, IfOk, map};
 ghost use Rattle.std.specs.List.{AllByRecursion};
 ghost use Rattle.link_state.specs.Tables.{AreTablesOf};
@@ -10,8 +10,9 @@ ghost use Rattle.net_graph.specs.Tables.{joined_rows};
 ghost use Rattle.topology_file.specs.Views.{pure_file};
 ghost use Rattle.topology_file.specs.NetText.{changed_net};
 ghost use Rattle.metacli.specs.Behind.{last_of};
-ghost use Rattle.metacli.specs.Outcome.{AreRoutesOn, IsFit, IsRoutedAs};
+ghost use Rattle.metacli.specs.Outcome.{AreRoutesOn, IsFit, IsRoutedAs, asked_of};
 ghost use Rattle.metacli.specs.Found.{IsFoundOn};
+ghost use Rattle.alg_classes.specs.Instances.{pure_property};
 ghost use Rattle.metacli.specs.Views.{CanBeWritten, pure_outcome};
 
 use crate::behind::{last_of, net_behind};
@@ -25,26 +26,46 @@ use net_facts::{Lack, first_lack};
 use net_graph::{DestTable, Net, RouteRow};
 use std::alloc::{AllocGlobal, Global};
 use std::thread::Threads;
+use strict_laws::{best_first_is_stable, stable_rows_are_settled};
 use topology_file::NetFile;
 
-// What link state asks of all labels, in the order in which it looks.
-const UNBEATEN: [Property; 2] = [Property::Monotone, Property::Isotone];
+/// Which routes of a network are asked for.
+#[derive(Clone, Copy, Debug)]
+pub enum Solution {
+    /// Those that no walk beats, by `route`.
+    Unbeaten,
+    /// Those of the one stable table of each destination, by `settle`.
+    Settled,
+}
 
-/// What `route` comes to on a network over the algebra, behind all its changes, with so many workers.
+impl Solution {
+    // What all labels must have, in the order in which it is looked for.
+    fn properties(self) -> &'static [Property]
+        ensures { map pure_property result.now ≡ asked_of self }
+    {
+        match self {
+            Solution::Unbeaten => &[Property::Monotone, Property::Isotone],
+            Solution::Settled => &[Property::Strict],
+        }
+    }
+}
+
+/// What `route` or `settle` comes to on a network over the algebra, behind all its changes, with so many workers.
 pub fn route<R: AllocGlobal + Threads + Sync>(
     rt: &R,
     alg: Alg,
     file: NetFile,
+    solution: Solution,
     workers: u32,
 ) -> Outcome
     requires workers { AreWorkers workers }
     requires over { file.net.alg ≡ alg }
     requires changes { AreChanges file.net (map pure_change file.changes) }
-    ensures routed { IsRoutedAs alg (pure_file file) (pure_outcome result) }
+    ensures routed { IsRoutedAs solution alg (pure_file file) (pure_outcome result) }
     ensures printable { CanBeWritten result }
 {
-    match found_behind(rt, &file, workers) {
-        Ok((behind, found)) => outcome_of(alg, file, behind, found),
+    match found_behind(rt, &file, solution, workers) {
+        Ok((behind, found)) => outcome_of(alg, file, solution, behind, found),
         Err(NoMemory) => Outcome::Stopped {
             alg: Some(alg),
             file: Some(file),
@@ -57,13 +78,14 @@ pub fn route<R: AllocGlobal + Threads + Sync>(
 fn outcome_of(
     alg: Alg,
     file: NetFile,
+    solution: Solution,
     behind: Option<Net>,
     found: Result<List<RouteRow>, Lack>,
 ) -> Outcome
     requires over { file.net.alg ≡ alg }
     requires behind { last_of behind file.net ≡ changed_net (pure_file file) }
-    requires found { IsFoundOn (changed_net (pure_file file)) found }
-    ensures routed { IsRoutedAs alg (pure_file file) (pure_outcome result) }
+    requires found { IsFoundOn solution (changed_net (pure_file file)) found }
+    ensures routed { IsRoutedAs solution alg (pure_file file) (pure_outcome result) }
     ensures printable { CanBeWritten result }
 {
     match found {
@@ -84,15 +106,16 @@ fn outcome_of(
 fn found_behind<R: AllocGlobal + Threads + Sync>(
     rt: &R,
     file: &NetFile,
+    solution: Solution,
     workers: u32,
 ) -> Result<(Option<Net>, Result<List<RouteRow>, Lack>), NoMemory>
     requires workers { AreWorkers workers }
     requires changes { AreChanges file.now.net (map pure_change file.now.changes) }
     ensures behind { IfOk result (λ found. last_of found.0 file.now.net ≡ changed_net (pure_file file.now)) }
-    ensures found { IfOk result (λ found. IsFoundOn (changed_net (pure_file file.now)) found.1) }
+    ensures found { IfOk result (λ found. IsFoundOn solution (changed_net (pure_file file.now)) found.1) }
 {
     let behind = net_behind(rt.alloc(), &file.net, file.changes.as_slice())?;
-    let found = found_on(rt, last_of(&behind, &file.net), workers)?;
+    let found = found_on(rt, last_of(&behind, &file.net), solution, workers)?;
     Ok((behind, found))
 }
 
@@ -100,30 +123,34 @@ fn found_behind<R: AllocGlobal + Threads + Sync>(
 fn found_on<R: AllocGlobal + Threads + Sync>(
     rt: &R,
     net: &Net,
+    solution: Solution,
     workers: u32,
 ) -> Result<Result<List<RouteRow>, Lack>, NoMemory>
     requires { AreWorkers workers }
-    ensures { IfOk result (IsFoundOn net.now) }
+    ensures { IfOk result (IsFoundOn solution net.now) }
 {
-    match first_lack(rt.alloc(), net, &UNBEATEN)? {
+    match first_lack(rt.alloc(), net, solution.properties())? {
         Some(lack) => Ok(Err(lack)),
-        None => Ok(Ok(all_routes(rt, net, workers)?)),
+        None => Ok(Ok(all_routes(rt, net, solution, workers)?)),
     }
 }
 
 // The routes of all nodes for all destinations. What is made best first is beaten by no walk where labels are
-// monotone and isotone.
+// monotone and isotone, and is the one stable table where they are strict.
 fn all_routes<R: AllocGlobal + Threads + Sync>(
     rt: &R,
     net: &Net,
+    solution: Solution,
     workers: u32,
 ) -> Result<List<RouteRow>, NoMemory>
     requires workers { AreWorkers workers }
-    requires fit { IsFit net.now }
-    ensures routes { IfOk result (λ rows. AreRoutesOn net.now (map pure_row rows)) }
+    requires fit { IsFit solution net.now }
+    ensures routes { IfOk result (λ rows. AreRoutesOn solution net.now (map pure_row rows)) }
     ensures rows { IfOk result (λ rows. AllByRecursion (IsRowOf net.now) (map pure_row rows)) }
 {
     best_first_is_optimal();
+    best_first_is_stable();
+    stable_rows_are_settled();
     best_first_rows_are_the_networks();
     let algebra = TreeAlgebra::new(net.alg());
     let tables = all_tables(rt, &algebra, net, workers)?;

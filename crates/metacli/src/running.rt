@@ -49,8 +49,8 @@ pub fn run<G: Gate>(
     }
 }
 
-// The networks behind the file's changes, and a run through them.
-fn run_through<G: Gate>(
+/// The networks behind the file's changes, and a run through them.
+pub(crate) fn run_through<G: Gate>(
     alloc: Global,
     file: &NetFile,
     turns: u64,

@@ -5,9 +5,10 @@ ghost use Rattle.metacli.specs.Runs.{Runs};
 ghost use Rattle.metacli.specs.Views.{CanBeWritten, pure_outcome};
 
 use crate::checking::{check, check_network};
+use crate::generating::demo;
 use crate::outcome::{Outcome, Stop};
 use crate::reading::{read_expression, read_network};
-use crate::routing::route;
+use crate::routing::{Solution, route};
 use crate::running::run;
 use crate::writing::write;
 use crate::{Command, Ended, read_words};
@@ -16,6 +17,9 @@ use raml_syntax::{no_fault_beside_an_algebra, one_text_one_algebra, one_text_one
 use std::alloc::{AllocGlobal, Global};
 use std::thread::Threads;
 use topology_file::one_text_one_network;
+
+// `settle` finds its tables on one thread.
+const SETTLE_WORKERS: u32 = 1;
 
 /// All that the program does: it reads what the words mean, reads the files that they name, decides,
 /// and writes what was decided.
@@ -69,7 +73,16 @@ fn decide<R: AllocGlobal + Threads + Sync, S: Shelf, G: Gate>(
             shelf,
             name_at(words, file),
             name_at(words, net),
+            Solution::Unbeaten,
             workers,
+        ),
+        Command::Settle { file, net } => route_files(
+            rt,
+            shelf,
+            name_at(words, file),
+            name_at(words, net),
+            Solution::Settled,
+            SETTLE_WORKERS,
         ),
         Command::Run {
             file,
@@ -99,6 +112,7 @@ fn decide<R: AllocGlobal + Threads + Sync, S: Shelf, G: Gate>(
             true,
             gate,
         ),
+        Command::Demo { seed, nodes } => demo(alloc, seed, nodes, gate),
     };
     (Some(command), outcome)
 }
@@ -141,16 +155,18 @@ fn check_files<S: Shelf>(alloc: Global, shelf: &mut S, file: &str, net: &str) ->
     }
 }
 
-// What `route` comes to on the files of these names, with so many workers.
+// What `route` or `settle` comes to on the files of these names, with so many workers.
 fn route_files<R: AllocGlobal + Threads + Sync, S: Shelf>(
     rt: &R,
     shelf: &mut S,
     file: &str,
     net: &str,
+    solution: Solution,
     workers: u32,
 ) -> Outcome
     requires { AreWorkers workers }
-    ensures routed { IsRouted file.now net.now (S.now_is shelf.old) (S.now_is shelf.new) (pure_outcome result) }
+    ensures routed { IsRouted solution file.now net.now (S.now_is shelf.old) (S.now_is shelf.new)
+        (pure_outcome result) }
     ensures printable { CanBeWritten result }
 {
     let alloc = rt.alloc();
@@ -159,7 +175,7 @@ fn route_files<R: AllocGlobal + Threads + Sync, S: Shelf>(
         Err(stop) => return Outcome::refused(stop),
     };
     match read_network(alloc, shelf, &alg, net) {
-        Ok(file) => route(rt, alg, file, workers),
+        Ok(file) => route(rt, alg, file, solution, workers),
         Err(stop) => Outcome::Stopped {
             alg: Some(alg),
             file: None,

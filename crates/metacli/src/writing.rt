@@ -19,6 +19,7 @@ use crate::behind::last_of;
 use crate::outcome::{Outcome, Stop, end_answer};
 use crate::phases::put_phases;
 use crate::putting::{Cut, answered, put_line};
+use crate::summing::put_summary;
 use alg_classes::{Instance, Property};
 use alg_model::{Alg, Value};
 use meta_base::{Failed, NoMemory, Sink, Text, put_all};
@@ -68,6 +69,15 @@ pub fn write<K: Sink>(alloc: Global, out: &mut K, outcome: &Outcome) -> Answer
                 run,
             ),
             end_answer(run.is_quiet),
+        ),
+        Outcome::Shown {
+            file,
+            last,
+            is_quiet,
+            ..
+        } => answered(
+            put_summary(alloc, out, &file.net, last.rows.as_slice(), *is_quiet),
+            end_answer(*is_quiet),
         ),
     }
 }

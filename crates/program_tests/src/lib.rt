@@ -4,6 +4,8 @@
 #![tactic(auto)]
 
 #[cfg(test)]
+mod demos;
+#[cfg(test)]
 mod host;
 #[cfg(test)]
 mod program;
@@ -11,5 +13,7 @@ mod program;
 mod routes;
 #[cfg(test)]
 mod runs;
+#[cfg(test)]
+mod settled;
 #[cfg(test)]
 mod tables;

@@ -20,6 +20,12 @@ pub fn ended_with(outcome: Outcome, text: &[u8], status: u8) -> bool {
     outcome.taken.as_slice() == text && outcome.status == status
 }
 
+/// Whether the run was refused for a label with a line that begins so.
+pub fn is_lacking(outcome: Outcome, begins: &str) -> Result<bool, Fail> {
+    let text = str::from_utf8(&outcome.taken)?;
+    Ok(outcome.status == 3 && text.starts_with(begins) && text.lines().count() == 1)
+}
+
 // What stands around a run: the bytes of the expression file `f` and of the network file `n`, the
 // calls of the shelf and of the sink that fail, and how much the sink takes at a time.
 #[derive(Clone, Copy)]
@@ -156,6 +162,8 @@ fn words_are_refused(rt: HostRuntime) -> Result<(), Fail> {
                 &["check", "a", "b", "c"],
                 &["route", "f"],
                 &["route", "f", "n", "n"],
+                &["settle", "f"],
+                &["demo", "1"],
                 &["route", "f", "n", "--workers"],
                 &["run", "f", "n", "--turns"],
                 &["route", "f", "--workers", "n"],
@@ -175,6 +183,10 @@ fn words_are_refused(rt: HostRuntime) -> Result<(), Fail> {
                 &["route", "f", "n", "--workers", "000000000000000000004"],
                 &["route", "f", "n", "--workers", "99999999999999999999"],
                 &["route", "f", "--workers", "--workers", "n"],
+                &["demo", "1", "1"],
+                &["demo", "1", "513"],
+                &["demo", "x", "2"],
+                &["demo", "18446744073709551616", "2"],
             ],
         ),
         (
@@ -188,6 +200,8 @@ fn words_are_refused(rt: HostRuntime) -> Result<(), Fail> {
                 &["route", "f", "n", "--workers", "2", "--workers", "3"],
                 &["route", "f", "n", "--workers", "2", "--workers"],
                 &["check", "f", "--workers", "2"],
+                &["settle", "f", "n", "--workers", "2"],
+                &["demo", "1", "2", "--turns", "3"],
             ],
         ),
     ];
@@ -228,6 +242,14 @@ fn words_mean_commands(rt: HostRuntime) -> Result<(), Fail> {
         (
             &["route", "f", "n", "--workers", "00000000000000000001"],
             route(1, 2, 1),
+        ),
+        (&["settle", "f", "n"], Command::Settle { file: 1, net: 2 }),
+        (
+            &["demo", "18446744073709551615", "512"],
+            Command::Demo {
+                seed: u64::MAX,
+                nodes: 512,
+            },
         ),
     ];
     for (words, command) in meant {

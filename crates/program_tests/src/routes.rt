@@ -1,6 +1,6 @@
 // Tests of `route`: rows whose values are told by hand, labels that forbid it, and a plain program that relaxes values
 // along arcs until none changes.
-use crate::program::{BAD_GADGET, CUSTOMERS, Outcome, ended_with, run_on};
+use crate::program::{BAD_GADGET, CUSTOMERS, ended_with, is_lacking, run_on};
 use meta_base::NoMemory;
 use std::alloc::{AllocGlobal, Global};
 use std::fmt::Write;
@@ -116,12 +116,6 @@ fn sums_pass_a_word(rt: HostRuntime) -> Result<(), Fail> {
     Ok(())
 }
 
-// Whether the run was refused with a line that begins so.
-fn is_refused(outcome: Outcome, begins: &str) -> Result<bool, Fail> {
-    let text = str::from_utf8(&outcome.taken)?;
-    Ok(outcome.status == 3 && text.starts_with(begins) && text.lines().count() == 1)
-}
-
 const PROVIDERS: &[u8] = b"node u v w\nlink u v : (P,1)\nlink v w : (C,1)\norigin x at w : (c,0)\n";
 
 const LATE_PROVIDER: &[u8] =
@@ -154,7 +148,7 @@ fn labels_forbid_routes(rt: HostRuntime) -> Result<(), Fail> {
         ),
     ];
     for (file, net, begins) in cases {
-        assert!(rt; is_refused(run_on(&rt, &["route", "f", "n"], *file, *net)?, *begins)?);
+        assert!(rt; is_lacking(run_on(&rt, &["route", "f", "n"], *file, *net)?, *begins)?);
     }
     Ok(())
 }

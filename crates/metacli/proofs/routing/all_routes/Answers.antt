@@ -11,17 +11,21 @@ returns-clause-routes g c =
     let net = c.args.net.now in
     let is_net = c.alg.ensures.net in
     let laws : Laws net = record {
-      optimal = λ dest t best. c.best_first_is_optimal.ensures net dest t is_net c.requires.fit.0 c.requires.fit.1.0 best;
+      optimal = λ first second dest t best. c.best_first_is_optimal.ensures net dest t is_net first second best;
+      stable = λ all dest t best. c.best_first_is_stable.ensures net dest t is_net all best;
+      settled = λ rows stable. c.stable_rows_are_settled.ensures net rows is_net stable;
       rows = λ dest t within best. c.best_first_rows_are_the_networks.ensures net dest t is_net within best;
     } in
-    IfOk-weaker c.joined.result _ _ (λ rows h. subst (AreRoutesOn net) (sym h) (routes_on net laws c.in_ok-tables.tables c.in_ok-tables.ensures.tables)) c.joined.ensures
+    IfOk-weaker c.joined.result _ _ (λ rows h. subst (AreRoutesOn c.args.solution net) (sym h) (routes_on c.args.solution net laws c.requires.fit c.in_ok-tables.tables c.in_ok-tables.ensures.tables)) c.joined.ensures
 
 pub returns-clause-rows : goal.returns-clause-rows
 returns-clause-rows g c =
     let net = c.args.net.now in
     let is_net = c.alg.ensures.net in
     let laws : Laws net = record {
-      optimal = λ dest t best. c.best_first_is_optimal.ensures net dest t is_net c.requires.fit.0 c.requires.fit.1.0 best;
+      optimal = λ first second dest t best. c.best_first_is_optimal.ensures net dest t is_net first second best;
+      stable = λ all dest t best. c.best_first_is_stable.ensures net dest t is_net all best;
+      settled = λ rows stable. c.stable_rows_are_settled.ensures net rows is_net stable;
       rows = λ dest t within best. c.best_first_rows_are_the_networks.ensures net dest t is_net within best;
     } in
     IfOk-weaker c.joined.result _ _ (λ rows h. subst (AllByRecursion (IsRowOf net)) (sym h) (rows_on net laws c.in_ok-tables.tables c.in_ok-tables.ensures.tables)) c.joined.ensures

@@ -9,7 +9,7 @@ use Rattle.metacli.proofs.routing.outcome_of.Goals as goal
 pub returns-in-Ok-clause-printable : goal.returns-in-Ok-clause-printable
 returns-in-Ok-clause-printable c =
     let file = c.args.file in
-    let found = subst (IsFoundOn (changed_net (pure_file file))) c.in-Ok.is c.requires.found in
+    let found = subst (IsFoundOn c.args.solution (changed_net (pure_file file))) c.in-Ok.is c.requires.found in
     record {
       printable = rows_behind_all file.net (map pure_change file.changes) (map pure_row c.in-Ok.rows) found.2;
       behind = tt;

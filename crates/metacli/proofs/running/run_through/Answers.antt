@@ -28,6 +28,7 @@ returns-clause-run g c =
     let later : AreLater net nets = subst (AreLater net) (sym is) (nets_are_later net changes) in
     let is_run = rw c.as_slice-2.ensures at c.in_ok-run.ensures in
     record {
+      is_net = c.alg.ensures.net;
       is_run = is_run;
       stable = c.quiet_phases_are_stable.ensures net nets c.args.turns past last run.is_quiet c.alg.ensures.net all later is_run;
       of_networks = c.phases_are_of_networks.ensures net nets c.args.turns past last run.is_quiet c.alg.ensures.net all later is_run;

@@ -1,0 +1,87 @@
+// What `demo` decides.
+ghost use Rattle.std.specs.Prelude.{◌≡◌, IfOk, [], map};
+ghost use Rattle.command_words.specs.Words.{AreDemoNodes};
+ghost use Rattle.net_gen.specs.Networks.{demo_alg};
+ghost use Rattle.topology_file.specs.Views.{pure_file};
+ghost use Rattle.vector_runs.specs.Runs.{pure_phase};
+ghost use Rattle.metacli.specs.Generated.{IsGenerated, IsRunAlone};
+ghost use Rattle.metacli.specs.Outcome.{IsShownAs, demo_turns};
+ghost use Rattle.metacli.specs.Views.{CanBeWritten, pure_outcome};
+
+use crate::outcome::{Outcome, Stop};
+use crate::running::run_through;
+use alg_model::{Alg, Tree};
+use meta_base::{Gate, NoMemory};
+use net_gen::{
+    generated_texts_are_networks, generated_texts_are_never_refused, generated_texts_are_short,
+    network_text,
+};
+use std::alloc::Global;
+use topology_file::{NetError, NetFile, read_net};
+use vector_runs::Phase;
+
+// How many deliveries the nodes of a generated network may make.
+const DEMO_TURNS: u64 = 100_000;
+
+/// What `demo` comes to with this seed and so many nodes.
+pub fn demo<G: Gate>(alloc: Global, seed: u64, nodes: u32, gate: &G) -> Outcome
+    requires { AreDemoNodes nodes }
+    ensures shown { IsShownAs seed nodes (pure_outcome result) }
+    ensures printable { CanBeWritten result }
+{
+    match run_generated(alloc, seed, nodes, gate) {
+        Ok((alg, file, last, is_quiet)) => Outcome::Shown {
+            alg,
+            file,
+            last,
+            is_quiet,
+        },
+        Err(NoMemory) => Outcome::refused(Stop::Memory),
+    }
+}
+
+// The generated network, and the phase that its nodes run, with whether it is quiet.
+fn run_generated<G: Gate>(
+    alloc: Global,
+    seed: u64,
+    nodes: u32,
+    gate: &G,
+) -> Result<(Alg, NetFile, Phase, bool), NoMemory>
+    requires { AreDemoNodes nodes }
+    ensures alg { IfOk result (λ made. made.0 ≡ demo_alg) }
+    ensures file { IfOk result (λ made. IsGenerated seed nodes (pure_file made.1)) }
+    ensures run { IfOk result (λ made. IsRunAlone made.1.net (pure_phase made.2) made.3) }
+{
+    let alg = demo_algebra();
+    let file = generated(alloc, demo_algebra(), seed, nodes)?;
+    let (changed, run) = run_through(alloc, &file, DEMO_TURNS, gate)?;
+    drop(changed);
+    Ok((alg, file, run.last, run.is_quiet))
+}
+
+// `add(1..9)`.
+fn demo_algebra() -> Alg
+    ensures { result ≡ demo_alg }
+{
+    match Alg::checked(Tree::Add { low: 1, high: 9 }) {
+        Ok(alg) => alg,
+        Err(_) => unreachable!(),
+    }
+}
+
+// The network of the generated text.
+fn generated(alloc: Global, alg: Alg, seed: u64, nodes: u32) -> Result<NetFile, NoMemory>
+    requires alg { alg ≡ demo_alg }
+    requires nodes { AreDemoNodes nodes }
+    ensures { IfOk result (λ file. IsGenerated seed nodes (pure_file file)) }
+{
+    generated_texts_are_networks();
+    generated_texts_are_never_refused();
+    generated_texts_are_short();
+    let text = network_text(alloc, seed, nodes)?;
+    match read_net(alloc, alg, text.as_str().as_bytes()) {
+        Ok(file) => Ok(file),
+        Err(NetError::NoMemory) => Err(NoMemory),
+        Err(NetError::Bad(_)) => unreachable!(),
+    }
+}
