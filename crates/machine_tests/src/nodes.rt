@@ -137,7 +137,9 @@ fn answers<A: Algebra>(
     }
     let mut node = PvNode::new(alloc, algebra, net, number)?;
     let sent = sent_last(alloc, &mut node, net, number, updates)?;
-    let rows = rows_of(alloc, &[node])?;
+    let mut nodes = Vec::with_capacity(alloc, 1)?;
+    nodes.push(node)?;
+    let rows = rows_of(alloc, &nodes)?;
     let clock = updates.len() as u64;
     Ok(
         has_row(alloc, net, rows.as_slice(), number, row)?
