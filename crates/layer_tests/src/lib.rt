@@ -1,6 +1,6 @@
-//! The tests of the crates below `metacli` that `algebra_tests`, `machine_tests` and `thread_tests` leave, a file for each, so that none is
-//! proved a second time with its tests. They show what no clause says: that calls succeed, and that what is
-//! printed is what the formats say. It stands on every library that it tests.
+//! The tests of the crates below `metacli` that `algebra_tests`, `machine_tests` and `thread_tests` leave, a file
+//! for each, so that none is proved a second time with its tests. They show what no clause says: that calls
+//! succeed, and that what is printed is what the formats say. It stands on every library that it tests.
 #![tactic(auto)]
 
 #[cfg(test)]
