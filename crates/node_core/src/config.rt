@@ -34,6 +34,7 @@ impl<'a, N: NodeCore> Config<'a, N> {
     ghost use Rattle.node_core.specs.Machine.{AreUnbegun, Start, Deliver, front_clock};
     ghost use Rattle.node_core.specs.Running.{IsRunning};
     ghost use Rattle.node_core.specs.MachineOf.{net_of, machine_of};
+    ghost use Rattle.node_core.specs.Configs.{waits_on};
 
     /// The machine of these nodes, one for each of the network in order, none of which is begun: every node
     /// has begun, and what they sent waits on its arcs. All clocks are 0.
@@ -119,11 +120,16 @@ impl<'a, N: NodeCore> Config<'a, N> {
         &self.nodes
     }
 
-    /// Hands over the nodes, in the order of the network. What was on its way is gone.
-    pub fn into_nodes(self) -> List<N>
-        ensures { (i : ℕ) → (machine_of N.state N.note self.entry).node i ≡ option_map N.state (slice_get result i) }
+    /// Hands over the nodes, in the order of the network, and what waits on each arc, by the numbers of the arcs and
+    /// with the oldest message in front.
+    pub fn into_parts(self) -> (List<N>, Vec<VecDeque<N::Message>>)
+        ensures nodes { (i : ℕ) → (machine_of N.state N.note self.entry).node i
+            ≡ option_map N.state (slice_get result.0 i) }
+        ensures links { (a : ℕ) → (machine_of N.state N.note self.entry).link a
+            ≡ map N.note (waits_on result.1.items a) }
+        ensures count { vec_len result.1 ≡ length (net_of self.entry).arcs }
     {
-        List::from_vec(self.nodes)
+        (List::from_vec(self.nodes), self.links)
     }
 
     /// Lends the network.
