@@ -1,0 +1,8 @@
+//! Phases of runs on several workers: nodes of any kind that are begun on a network, and deliveries that workers make
+//! at once, each among the nodes of its block, until nothing is on its way or turns are used up. It stands on
+//! `woven_laws`, `journal_merge`, `link_queues` and `quiet_ledger`; it knows no route and prints nothing.
+#![tactic(auto)]
+
+mod phase;
+
+pub use phase::{WeaveEnd, weave};
