@@ -38,6 +38,13 @@ impl<T> OutEnd<T> {
         self.outbox.push_back_reserved(item);
     }
 
+    /// How many items stand in the outbox: those that were sent and that no `flush` has moved to the ring.
+    pub fn unsent(&self) -> usize
+        ensures { result ≡ length (outbox_of self.now) }
+    {
+        self.outbox.len()
+    }
+
     /// Moves items from the front of the outbox to the ring, as long as the ring shows a free slot.
     /// It looks at the ring again once the slots that it knew of are filled.
     pub fn flush(&mut self)

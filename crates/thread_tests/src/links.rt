@@ -2,7 +2,7 @@
 ghost use Rattle.std.specs.Prelude.{◌≡◌, ◌≤◌, IfOk};
 ghost use Rattle.link_queues.specs.Links.{spare_of, out_link, in_link};
 
-use link_queues::{InEnd, OutEnd, link, settle_pair};
+use link_queues::{InEnd, Local, OutEnd, link, settle_pair};
 use meta_base::NoMemory;
 use std::alloc::Global;
 use std::sync::atomic::{AtomicBool, Ordering};
@@ -42,6 +42,7 @@ fn three_sent(alloc: Global) -> Result<(OutEnd<char>, InEnd<char>), NoMemory>
 #[test]
 fn ring_then_outbox(rt: HostRuntime) -> Result<(), Fail> {
     let (out, mut into) = three_sent(rt.alloc())?;
+    assert_eq!(rt; out.unsent(), 1);
     assert_eq!(rt; into.take(), Some('p'));
     let waiting = settle_pair(rt.alloc(), out, into)?;
     assert_eq!(rt; waiting.as_slice(), ['q', 'r'].as_slice());
@@ -54,6 +55,20 @@ fn nothing_sent(rt: HostRuntime) -> Result<(), Fail> {
     assert_eq!(rt; into.take(), None);
     let waiting = settle_pair(rt.alloc(), out, into)?;
     assert!(rt; waiting.as_slice().is_empty());
+    Ok(())
+}
+
+#[test]
+fn both_ends_with_one_worker(rt: HostRuntime) -> Result<(), Fail> {
+    let mut local = Local::new(rt.alloc());
+    local.reserve(2)?;
+    local.send('p');
+    local.send('q');
+    assert_eq!(rt; local.waiting(), 2);
+    assert_eq!(rt; local.front(), Some(&'p'));
+    assert_eq!(rt; local.take(), Some('p'));
+    assert_eq!(rt; local.take(), Some('q'));
+    assert_eq!(rt; local.take(), None);
     Ok(())
 }
 
