@@ -1,3 +1,6 @@
 pub mod Histories
 pub mod Woven
 pub mod Counts
+pub mod ArcEnds
+pub mod HistoryLaws
+pub mod CountLaws
