@@ -1,6 +1,6 @@
 -- Who listens and who speaks on the arcs of a network. Lemmas, so that proofs of other crates may cite them.
-use Rattle.std.proofs.Common.{◌≡◌, ℕ, ◌<◌, ◌≤◌, ◌⊎◌, List, Option, Some, None, length, slice_get, get_or, option_map, inl, inr, subst, refl, ap, arith}
-use Rattle.std.proofs.lemmas.Option.{same_Some, slice_get_cases}
+use Rattle.std.proofs.Common.{◌≡◌, ℕ, ◌<◌, ◌≤◌, ◌⊎◌, List, Some, None, length, slice_get, get_or, option_map, inl, inr, subst, ap, arith}
+use Rattle.std.proofs.lemmas.Option.{slice_get_cases}
 use Rattle.net_graph.specs.Nets.{PureArc, PureNet, IsNet, IsArcOf}
 use Rattle.net_graph.specs.ArcLaws.{all_at}
 use Rattle.node_core.specs.Kinds.{listener, speaker}

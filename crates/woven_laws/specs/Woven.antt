@@ -1,5 +1,5 @@
 -- What the nodes of a network took and sent, each by itself, in whatever order of all.
-use Rattle.std.specs.Prelude.{◌≡◌, ℕ, ◌<◌, ◌≤◌, ◌==◌, false, Bool, List, [], ◌++◌, Option, Some, None, length, map, filter}
+use Rattle.std.specs.Prelude.{◌≡◌, ℕ, ◌<◌, ◌≤◌, ◌==◌, false, Bool, List, [], ◌++◌, Some, None, length, map, filter}
 use Rattle.std.specs.Option.{option_map_or}
 use Rattle.std.specs.List.{AllByRecursion}
 use Rattle.meta_base.specs.declared.ids.Delivery.{Delivery}

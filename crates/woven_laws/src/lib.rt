@@ -5,4 +5,4 @@
 
 mod laws;
 
-pub use laws::{histories_replay, histories_count, replays_count};
+pub use laws::{histories_count, histories_replay, replays_count};
