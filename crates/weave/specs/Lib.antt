@@ -1,1 +1,5 @@
 pub mod Phases
+pub mod Lanes
+pub mod Views
+pub mod Blocks
+pub mod Gathered

@@ -3,6 +3,12 @@
 //! `woven_laws`, `journal_merge`, `link_queues` and `quiet_ledger`; it knows no route and prints nothing.
 #![tactic(auto)]
 
+mod block;
+mod lane;
+mod part;
 mod phase;
+mod seat;
+mod sending;
+mod worker;
 
 pub use phase::{WeaveEnd, weave};

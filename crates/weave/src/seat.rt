@@ -1,0 +1,48 @@
+// A node at work.
+ghost use Rattle.std.specs.Prelude.{◌≡◌, ◌+◌, ◌++◌, ◌∷◌, [], max, map, IfOk, Some, true, false};
+ghost use Rattle.node_core.specs.Configs.{noted};
+ghost use Rattle.node_core.specs.Kinds.{listener};
+ghost use Rattle.weave.specs.Lanes.{HasPassed, lane_of};
+
+use crate::lane::{Lane, take_front};
+use meta_base::{ArcId, Delivery, List, NoMemory};
+use node_core::{NodeCore, Outgoing};
+
+/// A node at work: with its last clock, and the deliveries that it took.
+#[derive(Drop)]
+pub struct Seat<N: NodeCore> {
+    pub(crate) node: N,
+    pub(crate) clock: u64,
+    pub(crate) log: List<Delivery>,
+}
+
+/// Hands the node the message in front of an arc on which it listens, if one is seen, and puts into `out`, which is
+/// empty, what it sends.
+pub(crate) fn take<N: NodeCore>(
+    seat: &mut Seat<N>,
+    lane: &mut Lane<N::Message>,
+    arc: ArcId,
+    out: &mut Outgoing<N::Message>,
+) -> Result<bool, NoMemory>
+    requires out { out.old ≡ [] }
+    requires begun { N.kind.is_begun (N.state seat.old.node) ≡ true }
+    requires last { N.kind.last (N.state seat.old.node) ≡ seat.old.clock }
+    requires listens { listener (N.kind.net (N.state seat.old.node)) arc.0
+        ≡ Some (N.kind.number (N.state seat.old.node)) }
+    ensures none { IfOk result (λ found. found ≡ false → (seat.new ≡ seat.old)
+        × (lane_of lane.new ≡ lane_of lane.old)) }
+    ensures taken { IfOk result (λ found. found ≡ true → (m : N.Message)
+        × (seat.new.clock ≡ max seat.old.clock (N.kind.stamp (N.note m)) + 1)
+        × (seat.new.log ≡ seat.old.log ++ record { clock = seat.new.clock; arc = arc } ∷ [])
+        × (N.state seat.new.node ≡ (N.kind.step (N.state seat.old.node) arc.0 (N.note m) seat.new.clock).0)
+        × (map (noted N.note) out.new ≡ (N.kind.step (N.state seat.old.node) arc.0 (N.note m) seat.new.clock).1)
+        × HasPassed (lane_of lane.old) [] (m ∷ []) (lane_of lane.new)) }
+{
+    let Some((message, clock)) = take_front::<N>(lane, seat.clock) else {
+        return Ok(false);
+    };
+    seat.node.on_message(arc, &message, clock, out)?;
+    seat.clock = clock;
+    seat.log.push(Delivery { clock, arc })?;
+    Ok(true)
+}

@@ -1,0 +1,169 @@
+// A worker's part of a round.
+ghost use Rattle.std.specs.Prelude.{◌≡◌, false, OnOk};
+ghost use Rattle.net_graph.specs.Nets.{IsNet};
+ghost use Rattle.weave.specs.Blocks.{HasWorked, IsReady};
+
+use crate::part::{Part, commit, flush, turn};
+use meta_base::{Gate, NoMemory};
+use net_graph::Net;
+use node_core::NodeCore;
+use quiet_ledger::Book;
+use std::alloc::Global;
+use std::sync::Wait;
+use std::thread;
+
+// How many deliveries on arcs inside its block a worker makes before it looks at those from other blocks.
+const STRETCH: u32 = 64;
+
+// How many looks in a row find nothing before a worker ends its part.
+const LOOKS: u32 = 1000;
+
+// Makes the next delivery inside the block. True if it was made.
+fn deliver_ready<N: NodeCore, G: Gate>(
+    alloc: Global,
+    part: &mut Part<N>,
+    net: &Net,
+    worker: u32,
+    gate: &G,
+) -> Result<bool, NoMemory>
+    requires net { IsNet net.now }
+    requires ready { IsReady N.state N.note N.kind net.now part.old }
+    ensures worked { OnOk result (HasWorked N.state N.note N.kind net.now part.old part.new) }
+    ensures ready { OnOk result (IsReady N.state N.note N.kind net.now part.new) }
+    ensures refused { part.new.refused ≡ part.old.refused }
+{
+    match part.block.ready.pop_front() {
+        Some(arc) => turn(alloc, part, net, arc, worker, gate),
+        None => Ok(false),
+    }
+}
+
+// Makes deliveries on arcs inside the block, in the order in which the messages were sent there.
+fn deliver_inside<N: NodeCore, G: Gate>(
+    alloc: Global,
+    part: &mut Part<N>,
+    net: &Net,
+    worker: u32,
+    gate: &G,
+) -> Result<(), NoMemory>
+    requires net { IsNet net.now }
+    requires ready { IsReady N.state N.note N.kind net.now part.old }
+    ensures worked { OnOk result (HasWorked N.state N.note N.kind net.now part.old part.new) }
+    ensures ready { OnOk result (IsReady N.state N.note N.kind net.now part.new) }
+    ensures refused { part.new.refused ≡ part.old.refused }
+{
+    for _ in 0..STRETCH {
+        if !deliver_ready(alloc, part, net, worker, gate)? {
+            break;
+        }
+    }
+    Ok(())
+}
+
+// One look at each arc from another block, and the delivery of what is seen there.
+fn deliver_coming<N: NodeCore, G: Gate>(
+    alloc: Global,
+    part: &mut Part<N>,
+    net: &Net,
+    worker: u32,
+    gate: &G,
+) -> Result<(), NoMemory>
+    requires net { IsNet net.now }
+    requires ready { IsReady N.state N.note N.kind net.now part.old }
+    ensures worked { OnOk result (HasWorked N.state N.note N.kind net.now part.old part.new) }
+    ensures ready { OnOk result (IsReady N.state N.note N.kind net.now part.new) }
+    ensures refused { part.new.refused ≡ part.old.refused }
+{
+    for place in 0..part.block.coming.len() {
+        let Some(arc) = part.block.coming.get(place).copied() else {
+            break;
+        };
+        turn(alloc, part, net, arc, worker, gate)?;
+    }
+    Ok(())
+}
+
+// Deliveries inside the block and from other blocks; then they are entered in the book, and only then what was sent is
+// passed on: so the book never shows as many taken as sent while something is on its way. True if any was made.
+fn stretch<N: NodeCore, G: Gate, R: Wait>(
+    rt: &R,
+    alloc: Global,
+    part: &mut Part<N>,
+    net: &Net,
+    book: &Book,
+    worker: u32,
+    gate: &G,
+) -> Result<bool, NoMemory>
+    requires net { IsNet net.now }
+    requires ready { IsReady N.state N.note N.kind net.now part.old }
+    ensures worked { OnOk result (HasWorked N.state N.note N.kind net.now part.old part.new) }
+    ensures ready { OnOk result (IsReady N.state N.note N.kind net.now part.new) }
+    ensures refused { part.new.refused ≡ part.old.refused }
+{
+    let turns = part.turns;
+    deliver_inside(alloc, part, net, worker, gate)?;
+    deliver_coming(alloc, part, net, worker, gate)?;
+    let is_fruitful = part.turns < turns;
+    commit(rt, part, net, book);
+    flush(part, net)?;
+    Ok(is_fruitful)
+}
+
+// Whether the book shows as many taken as sent.
+fn shows_quiet<R: Wait>(rt: &R, book: &Book) -> bool {
+    let sight = book.look(rt);
+    sight.sent == sight.taken
+}
+
+// Stretches, until the turns are used up, the book shows that nothing is on its way, or so many looks in a row found
+// nothing.
+fn run<N: NodeCore, G: Gate, R: Wait>(
+    rt: &R,
+    alloc: Global,
+    part: &mut Part<N>,
+    net: &Net,
+    book: &Book,
+    worker: u32,
+    gate: &G,
+) -> Result<(), NoMemory>
+    requires net { IsNet net.now }
+    requires ready { IsReady N.state N.note N.kind net.now part.old }
+    ensures worked { OnOk result (HasWorked N.state N.note N.kind net.now part.old part.new) }
+    ensures refused { part.new.refused ≡ part.old.refused }
+{
+    let mut looks = 0;
+    for _ in rt.forever() {
+        if stretch(rt, alloc, part, net, book, worker, gate)? {
+            looks = 0;
+        } else if looks >= LOOKS || shows_quiet(rt, book) {
+            break;
+        } else {
+            looks += 1;
+            thread::yield_now();
+        }
+        if part.turns == 0 {
+            break;
+        }
+    }
+    Ok(())
+}
+
+/// A worker's part of a round. The part is refused where memory was, and else it worked.
+pub(crate) fn work<N: NodeCore, G: Gate, R: Wait>(
+    rt: &R,
+    alloc: Global,
+    part: &mut Part<N>,
+    net: &Net,
+    book: &Book,
+    worker: u32,
+    gate: &G,
+)
+    requires net { IsNet net.now }
+    requires ready { IsReady N.state N.note N.kind net.now part.old }
+    requires fresh { part.old.refused ≡ false }
+    ensures { part.new.refused ≡ false → HasWorked N.state N.note N.kind net.now part.old part.new }
+{
+    if run(rt, alloc, part, net, book, worker, gate).is_err() {
+        part.refused = true;
+    }
+}
