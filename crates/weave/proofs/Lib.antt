@@ -1,2 +1,4 @@
 mod Passing
+mod Places
+mod Hearing
 mod Runs

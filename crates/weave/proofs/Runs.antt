@@ -95,8 +95,8 @@ module _ {S M : Type 0} (k : Kind S M) (net : PureNet) where
   pub none_sent : (node : ℕ → Option S) → sent_by_all k net node (λ i. []) ≡ 0
   none_sent node = total_zero (length net.nodes) (λ i. length (option_out k (node i) [])) (λ i lt. ap length (out_none k (node i)))
 
-  pub none_taken : {X : Type 0} → taken_by_all {M = X} net (λ i. []) ≡ 0
-  none_taken = total_zero (length net.nodes) (λ i. 0) (λ i lt. refl)
+  pub none_taken : (X : Type 0) → taken_by_all {M = X} net (λ i. []) ≡ 0
+  none_taken X = total_zero (length net.nodes) (λ i. 0) (λ i lt. refl)
 
   module _ (lawful : IsLawful k) (is_net : IsNet net) (v w : View S M) (e : Delivery) (out : List (ℕ × M)) (seated : AreSeated k net v) (x : HasTaken k net v e out out w) where
     abbrev entry : Taken M

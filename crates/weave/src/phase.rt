@@ -46,7 +46,7 @@ where
     requires nodes { AreUnbegun N.kind net.now 0 (map N.state nodes) }
     requires workers { (0 < workers) × (workers ≤ MAX_WORKERS) }
     requires turns { turns ≤ MAX_CLOCK }
-    ensures { IfOk result (λ end. IsPhaseEnd N.kind net.now (map N.state nodes.entry) turns
+    ensures { IfOk result (λ end. IsPhaseEnd N.kind net.now (map N.state nodes) turns
         end.journal (map N.state end.nodes) end.totals end.quiet) }
 {
     drop(nodes);

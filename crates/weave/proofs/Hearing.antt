@@ -1,0 +1,76 @@
+-- One message that a node of a block takes.
+use Rattle.std.proofs.Common.{◌≡◌, ℕ, ◌+◌, max, Bool, true, false, cond, List, [], ◌∷◌, ◌++◌, Option, Some, None, map, slice_get, slice_set, option_map, refl, sym, ap, subst, ◌∙◌}
+use Rattle.std.specs.Prelude.{◌==◌}
+use Rattle.std.proofs.lemmas.Bool.{eqb-false}
+use Rattle.meta_base.specs.declared.ids.Delivery.{Delivery}
+use Rattle.net_graph.specs.Nets.{PureNet}
+use Rattle.node_core.specs.Kinds.{Kind, listener, on_arc}
+use Rattle.node_core.specs.Machine.{changed_at}
+use Rattle.node_core.specs.MachineLaws.{same_test, at_each}
+use Rattle.weave.specs.declared.lane.Lane.{Lane}
+use Rattle.weave.specs.declared.seat.Seat.{Seat}
+use Rattle.weave.specs.Lanes.{PureLane, HasPassed, lane_of, lane_in, noted_lane}
+use Rattle.weave.specs.Views.{View, IsSeated, AreSeated, HasTaken, IsSameView}
+use Rattle.weave.specs.Blocks.{flat, clock_in, log_in, view_over}
+use Rattle.weave.proofs.Passing.{passed_by, passed_then, passed_noted}
+use Rattle.weave.proofs.Places.{set_same, set_other, taken_at, kept_at}
+
+module _ {N M S W : Type 0} (state : N → S) (note : M → W) (k : Kind S W) (net : PureNet) (seats : List (Option (Seat N M))) (lanes : List (Lane M)) where
+  noted_one : (b : Bool) (m : M) → map note (cond b (m ∷ []) []) ≡ cond b (note m ∷ []) []
+  noted_one true m = refl
+  noted_one false m = refl
+
+  pub heard : (i : ℕ) (e : Delivery) (seat new : Seat N M) (lane next : Lane M) (m : M) (out : List (ℕ × W))
+      → listener net e.arc.0 ≡ Some i → slice_get seats i ≡ Some (Some seat) → slice_get lanes e.arc.0 ≡ Some lane → e.clock ≡ new.clock
+      → new.clock ≡ max seat.clock (k.stamp (note m)) + 1 → new.log ≡ seat.log ++ e ∷ [] → state new.node ≡ (k.step (state seat.node) e.arc.0 (note m) new.clock).0
+      → out ≡ (k.step (state seat.node) e.arc.0 (note m) new.clock).1 → HasPassed (lane_of lane) [] (m ∷ []) (lane_of next)
+      → HasTaken k net (view_over state note seats lanes) e out [] (view_over state note (slice_set seats i (Some new)) (slice_set lanes e.arc.0 next))
+  heard i e seat new lane next m out listens seat_is lane_is e_is clock log node put passed =
+      let now : slice_get (slice_set seats i (Some new)) i ≡ Some (Some new) = set_same seats i (Some new) (Some seat) seat_is in
+      let v = view_over state note seats lanes in
+      let w = view_over state note (slice_set seats i (Some new)) (slice_set lanes e.arc.0 next) in
+      record {
+        number = i;
+        node = state seat.node;
+        message = note m;
+        listens = listens;
+        was = rw seat_is refl;
+        timed = rw seat_is (e_is ∙ clock);
+        out_is = put ∙ ap (λ t. (k.step (state seat.node) e.arc.0 (note m) t).1) (sym e_is);
+        node_is = at_each (λ j. w.node j ≡ changed_at v.node i (Some (k.step (state seat.node) e.arc.0 (note m) e.clock).0) j) i
+            (rw (now, same_test i) (ap (λ x. Some x) (node ∙ ap (λ t. (k.step (state seat.node) e.arc.0 (note m) t).0) (sym e_is))))
+            (λ j ne. rw (set_other seats i j (Some new) (eqb-false j i ne), ne) refl);
+        clock_is = at_each (λ j. w.clock j ≡ changed_at v.clock i e.clock j) i (rw (now, same_test i) (sym e_is)) (λ j ne. rw (set_other seats i j (Some new) (eqb-false j i ne), ne) refl);
+        log_is = at_each (λ j. w.log j ≡ changed_at v.log i (v.log i ++ e ∷ []) j) i (rw (now, same_test i, seat_is) log) (λ j ne. rw (set_other seats i j (Some new) (eqb-false j i ne), ne) refl);
+        lane_is = λ b. subst (λ l. HasPassed (noted_lane note (lane_in (slice_get lanes b))) [] l (noted_lane note (lane_in (slice_get (slice_set lanes e.arc.0 next) b)))) (noted_one (e.arc.0 == b) m)
+            (passed_noted note (lane_in (slice_get lanes b)) (lane_in (slice_get (slice_set lanes e.arc.0 next) b)) [] (cond (e.arc.0 == b) (m ∷ []) []) (taken_at lanes e.arc.0 lane next m lane_is passed b));
+      }
+
+  -- a seat and a lane that stayed as they were
+  pub unheard : (i a : ℕ) (seat new : Seat N M) (lane next : Lane M) → slice_get seats i ≡ Some (Some seat) → slice_get lanes a ≡ Some lane → new ≡ seat → lane_of next ≡ lane_of lane
+      → IsSameView (view_over state note seats lanes) (view_over state note (slice_set seats i (Some new)) (slice_set lanes a next))
+  unheard i a seat new lane next seat_is lane_is same same_lane =
+      let now : slice_get (slice_set seats i (Some new)) i ≡ Some (Some new) = set_same seats i (Some new) (Some seat) seat_is in
+      let each : (j : ℕ) → slice_get (slice_set seats i (Some new)) j ≡ slice_get seats j = at_each (λ j. slice_get (slice_set seats i (Some new)) j ≡ slice_get seats j) i
+          (now ∙ (ap (λ x. Some (Some x)) same ∙ sym seat_is)) (λ j ne. set_other seats i j (Some new) (eqb-false j i ne)) in
+      record {
+        node_is = λ j. ap (λ o. option_map (λ (x : Seat N M). state x.node) (flat o)) (each j);
+        clock_is = λ j. ap (λ o. clock_in (flat o)) (each j);
+        log_is = λ j. ap (λ o. log_in (flat o)) (each j);
+        lane_is = λ b. passed_by (noted_lane note (lane_in (slice_get lanes b))) (noted_lane note (lane_in (slice_get (slice_set lanes a next) b))) (ap (noted_lane note) (kept_at lanes a lane next lane_is same_lane b));
+      }
+
+  pub same_view : IsSameView (view_over state note seats lanes) (view_over state note seats lanes)
+  same_view =
+      record {
+        node_is = λ j. refl;
+        clock_is = λ j. refl;
+        log_is = λ j. refl;
+        lane_is = λ b. passed_by (noted_lane note (lane_in (slice_get lanes b))) (noted_lane note (lane_in (slice_get lanes b))) refl;
+      }
+
+  -- the node in a seat is seated
+  pub seated_at : (i : ℕ) (seat : Seat N M) → slice_get seats i ≡ Some (Some seat) → AreSeated k net (view_over state note seats lanes) → IsSeated k net i seat.clock (state seat.node)
+  seated_at i seat here seated =
+      let place = seated i (state seat.node) (rw here refl) in
+      subst (λ t. IsSeated k net i t (state seat.node)) (ap (λ o. clock_in (flat o)) here) place
