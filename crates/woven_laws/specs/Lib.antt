@@ -4,3 +4,4 @@ pub mod Counts
 pub mod ArcEnds
 pub mod HistoryLaws
 pub mod CountLaws
+pub mod MergedLogs

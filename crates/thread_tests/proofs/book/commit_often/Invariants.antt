@@ -1,6 +1,6 @@
 use Rattle.std.proofs.Common.{◌≡◌}
 use Rattle.quiet_ledger.specs.Ledger.{sent_by, taken_by}
-use Rattle.layer_tests.proofs.book.commit_often.Given as goal
+use Rattle.thread_tests.proofs.book.commit_often.Given as goal
 
 -- one and one were committed in each turn
 abbrev pub invariant-loop : goal.invariant-loop

@@ -1,6 +1,6 @@
 use Rattle.std.proofs.Common.{◌≡◌, ◌+◌, ◌≤◌}
 use Rattle.link_queues.specs.Links.{spare_of, out_link}
-use Rattle.layer_tests.proofs.links.send_numbers.Given as goal
+use Rattle.thread_tests.proofs.links.send_numbers.Given as goal
 
 -- there is room for the numbers that are left
 abbrev pub invariant-loop-number : goal.invariant-loop-number

@@ -1,0 +1,4 @@
+pub mod Merging
+pub mod Timing
+pub mod UniqueLaws
+pub mod MergeLaws
