@@ -1,8 +1,10 @@
 -- One message that a node of a block takes.
-use Rattle.std.proofs.Common.{◌≡◌, ℕ, ◌+◌, max, Bool, true, false, cond, List, [], ◌∷◌, ◌++◌, Option, Some, None, map, slice_get, slice_set, option_map, refl, sym, ap, subst, ◌∙◌}
+use Rattle.std.proofs.Common.{◌≡◌, ℕ, ◌+◌, max, Bool, true, false, cond, List, [], ◌∷◌, ◌++◌, Option, Some, None, map, slice_get, slice_set, option_map, refl, sym, ap, subst, ◌∙◌, append-nil}
 use Rattle.std.specs.Prelude.{◌==◌}
 use Rattle.std.proofs.lemmas.Bool.{eqb-false}
+use Rattle.meta_base.specs.declared.ids.ArcId.{ArcId}
 use Rattle.meta_base.specs.declared.ids.Delivery.{Delivery}
+use Rattle.node_core.specs.Configs.{numbered, noted}
 use Rattle.net_graph.specs.Nets.{PureNet}
 use Rattle.node_core.specs.Kinds.{Kind, listener, on_arc}
 use Rattle.node_core.specs.Machine.{changed_at}
@@ -52,7 +54,7 @@ module _ {N M S W : Type 0} (state : N → S) (note : M → W) (k : Kind S W) (n
   unheard i a seat new lane next seat_is lane_is same same_lane =
       let now : slice_get (slice_set seats i (Some new)) i ≡ Some (Some new) = set_same seats i (Some new) (Some seat) seat_is in
       let each : (j : ℕ) → slice_get (slice_set seats i (Some new)) j ≡ slice_get seats j = at_each (λ j. slice_get (slice_set seats i (Some new)) j ≡ slice_get seats j) i
-          (now ∙ (ap (λ x. Some (Some x)) same ∙ sym seat_is)) (λ j ne. set_other seats i j (Some new) (eqb-false j i ne)) in
+      (now ∙ (ap (λ x. Some (Some x)) same ∙ sym seat_is)) (λ j ne. set_other seats i j (Some new) (eqb-false j i ne)) in
       record {
         node_is = λ j. ap (λ o. option_map (λ (x : Seat N M). state x.node) (flat o)) (each j);
         clock_is = λ j. ap (λ o. clock_in (flat o)) (each j);
@@ -74,3 +76,48 @@ module _ {N M S W : Type 0} (state : N → S) (note : M → W) (k : Kind S W) (n
   seated_at i seat here seated =
       let place = seated i (state seat.node) (rw here refl) in
       subst (λ t. IsSeated k net i t (state seat.node)) (ap (λ o. clock_in (flat o)) here) place
+
+  -- lanes that stay
+  pub flushed : (next : List (Lane M)) → ((b : ℕ) → lane_in (slice_get next b) ≡ lane_in (slice_get lanes b)) → IsSameView (view_over state note seats lanes) (view_over state note seats next)
+  flushed next same =
+      record {
+        node_is = λ j. refl;
+        clock_is = λ j. refl;
+        log_is = λ j. refl;
+        lane_is = λ b. passed_by (noted_lane note (lane_in (slice_get lanes b))) (noted_lane note (lane_in (slice_get next b))) (ap (noted_lane note) (same b));
+      }
+
+  -- what is put on an arc, by what it says
+  noted_on : (b : ℕ) (ps : List (ArcId × M)) → map note (on_arc b (map numbered ps)) ≡ on_arc b (map (noted note) ps)
+  noted_on b [] = refl
+  noted_on b (p ∷ ps) = by (p.0.0 == b) (noted_on b ps)
+    where
+      by : (t : Bool) → map note (on_arc b (map numbered ps)) ≡ on_arc b (map (noted note) ps)
+          → map note (cond t (p.1 ∷ on_arc b (map numbered ps)) (on_arc b (map numbered ps))) ≡ cond t (note p.1 ∷ on_arc b (map (noted note) ps)) (on_arc b (map (noted note) ps))
+      by true r = ap (λ l. note p.1 ∷ l) r
+      by false r = r
+
+  -- what was put out is sent
+  pub all_sent : (v : View S W) (e : Delivery) (out : List (ArcId × M)) (next : List (Lane M)) → HasTaken k net v e (map (noted note) out) [] (view_over state note seats lanes)
+      → ((b : ℕ) → HasPassed (lane_in (slice_get lanes b)) (on_arc b (map numbered out)) [] (lane_in (slice_get next b)))
+      → HasTaken k net v e (map (noted note) out) (map (noted note) out) (view_over state note seats next)
+  all_sent v e out next x sent =
+      record {
+        number = x.number;
+        node = x.node;
+        message = x.message;
+        listens = x.listens;
+        was = x.was;
+        timed = x.timed;
+        out_is = x.out_is;
+        node_is = x.node_is;
+        clock_is = x.clock_is;
+        log_is = x.log_is;
+        lane_is = λ b.
+            let took = cond (e.arc.0 == b) (x.message ∷ []) [] in
+            let put = on_arc b (map (noted note) out) in
+            let old = noted_lane note (lane_in (slice_get lanes b)) in
+            let new = noted_lane note (lane_in (slice_get next b)) in
+            let passed : HasPassed old put [] new = subst (λ l. HasPassed old l [] new) (noted_on b out) (passed_noted note (lane_in (slice_get lanes b)) (lane_in (slice_get next b)) (on_arc b (map numbered out)) [] (sent b)) in
+            subst (λ l. HasPassed (v.lane b) put l new) (append-nil took) (passed_then (v.lane b) old new [] took put [] (x.lane_is b) passed);
+      }

@@ -2,3 +2,4 @@ mod Passing
 mod Places
 mod Hearing
 mod Runs
+mod Working

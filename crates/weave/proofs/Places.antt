@@ -65,5 +65,5 @@ module _ {M : Type 0} where
       → HasPassed old (on_arc b (map numbered (sent ++ p ∷ []))) [] new
   put_more b sent p old mid new first last =
       let joined : on_arc b (map numbered (sent ++ p ∷ [])) ≡ on_arc b (map numbered sent) ++ cond (p.0.0 == b) (p.1 ∷ []) [] =
-      ap (on_arc b) (map-append sent (p ∷ []) numbered) ∙ on_arc_join b (map numbered sent) (map numbered (p ∷ [])) in
+      ap (on_arc b) (map-append numbered sent (p ∷ [])) ∙ on_arc_join b (map numbered sent) (map numbered (p ∷ [])) in
       rw joined (passed_then old mid new (on_arc b (map numbered sent)) [] (cond (p.0.0 == b) (p.1 ∷ []) []) [] first last)

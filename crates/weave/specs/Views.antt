@@ -42,9 +42,9 @@ module _ {S M : Type 0} (k : Kind S M) (net : PureNet) where
     pub log_is : (j : ℕ) → w.log j ≡ changed_at v.log number (v.log number ++ e ∷ []) j
     pub lane_is : (b : ℕ) → HasPassed (v.lane b) (on_arc b sent) (cond (e.arc.0 == b) (message ∷ []) []) (w.lane b)
 
-  -- a message was taken on the arc, and all that its listener put out, so many messages, was sent
-  abbrev pub TakesOn : View S M → ℕ → ℕ → View S M → Type 0
-  TakesOn v a count w = (e : Delivery) × (out : List (ℕ × M)) × (e.arc.0 ≡ a) × (length out ≡ count) × HasTaken v e out out w
+  -- a message was taken, and all that its listener put out, so many messages, was sent
+  abbrev pub TakesOne : View S M → ℕ → View S M → Type 0
+  TakesOne v count w = (e : Delivery) × (out : List (ℕ × M)) × (length out ≡ count) × HasTaken v e out out w
 
   -- Each node took what its history says, one message after another, and sent what its steps put out.
   pub record HasRun (v : View S M) (history : ℕ → List (Taken M)) (w : View S M) : Type 0 where

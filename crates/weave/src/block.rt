@@ -1,9 +1,8 @@
 // The nodes that one worker runs, and what it has of each arc.
 ghost use Rattle.std.specs.Prelude.{◌≡◌, ◌<◌, [], length, map, IfOk, IfSome, IfNone};
-ghost use Rattle.net_graph.specs.Nets.{IsNet};
 ghost use Rattle.node_core.specs.Configs.{noted};
 ghost use Rattle.weave.specs.Blocks.{view_of, view_over};
-ghost use Rattle.weave.specs.Views.{AreSeated, HasTaken, IsSameView, TakesOn};
+ghost use Rattle.weave.specs.Views.{AreSeated, HasTaken, IsSameView, TakesOne};
 
 use crate::lane::Lane;
 use crate::seat::{Seat, take};
@@ -78,8 +77,8 @@ pub(crate) fn step<N: NodeCore, G: Gate>(
     requires seated { AreSeated N.kind net.now (view_of N.state N.note block.old) }
     ensures none { IfOk result (λ sent. IfNone sent
         (IsSameView (view_of N.state N.note block.old) (view_of N.state N.note block.new))) }
-    ensures some { IfOk result (λ sent. IfSome sent (λ count. TakesOn N.kind net.now
-        (view_of N.state N.note block.old) arc.0 count (view_of N.state N.note block.new))) }
+    ensures some { IfOk result (λ sent. IfSome sent (λ count. TakesOne N.kind net.now
+        (view_of N.state N.note block.old) count (view_of N.state N.note block.new))) }
 {
     let mut out = List::new(alloc);
     let Some(made) = hear(&mut block.seats, &mut block.lanes, net, arc, &mut out)? else {
@@ -87,11 +86,6 @@ pub(crate) fn step<N: NodeCore, G: Gate>(
     };
     gate.pass(worker, &made);
     let sent = out.as_slice().len() as u64;
-    send_all(
-        &mut block.lanes,
-        &mut block.ready,
-        &mut block.unsent,
-        out,
-    )?;
+    send_all(&mut block.lanes, &mut block.ready, &mut block.unsent, out)?;
     Ok(Some(sent))
 }

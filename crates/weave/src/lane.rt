@@ -32,10 +32,7 @@ fn next_clock(clock: u64, stamp: u64) -> Option<u64>
 }
 
 // Takes the message that waits in front, with the clock that it gives.
-fn take_inside<N: NodeCore>(
-    queue: &mut Local<N::Message>,
-    clock: u64,
-) -> Option<(N::Message, u64)>
+fn take_inside<N: NodeCore>(queue: &mut Local<N::Message>, clock: u64) -> Option<(N::Message, u64)>
     ensures none { IfNone result (lane_of (Lane.Inside queue.new) ≡ lane_of (Lane.Inside queue.old)) }
     ensures some { IfSome result (λ r. (r.1 ≡ max clock (N.kind.stamp (N.note r.0)) + 1) × (r.1 ≤ MAX_CLOCK)
         × HasPassed (lane_of (Lane.Inside queue.old)) [] (r.0 ∷ [])
@@ -48,10 +45,7 @@ fn take_inside<N: NodeCore>(
 
 // Takes the message in front of what came from another worker, with the clock that it gives. One whose clock would
 // pass the greatest is left where it is.
-fn take_coming<N: NodeCore>(
-    into: &mut InEnd<N::Message>,
-    clock: u64,
-) -> Option<(N::Message, u64)>
+fn take_coming<N: NodeCore>(into: &mut InEnd<N::Message>, clock: u64) -> Option<(N::Message, u64)>
     ensures none { IfNone result (lane_of (Lane.From into.new) ≡ lane_of (Lane.From into.old)) }
     ensures some { IfSome result (λ r. (r.1 ≡ max clock (N.kind.stamp (N.note r.0)) + 1) × (r.1 ≤ MAX_CLOCK)
         × HasPassed (lane_of (Lane.From into.old)) [] (r.0 ∷ []) (lane_of (Lane.From into.new))) }

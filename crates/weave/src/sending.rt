@@ -118,7 +118,10 @@ fn flush_one<M>(lanes: &mut Vec<Lane<M>>, arc: ArcId) -> bool
 
 /// Flushes once each arc on which something was sent to another worker and wasn't flushed. An arc whose ring has no
 /// room stays among these.
-pub(crate) fn flush_all<M>(lanes: &mut Vec<Lane<M>>, unsent: &mut VecDeque<ArcId>) -> Result<(), NoMemory>
+pub(crate) fn flush_all<M>(
+    lanes: &mut Vec<Lane<M>>,
+    unsent: &mut VecDeque<ArcId>,
+) -> Result<(), NoMemory>
     ensures { (b : ℕ) → lane_in (slice_get lanes.new.items b) ≡ lane_in (slice_get lanes.old.items b) }
 {
     for _ in 0..unsent.len() {

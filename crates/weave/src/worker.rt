@@ -109,10 +109,21 @@ fn stretch<N: NodeCore, G: Gate, R: Wait>(
     Ok(is_fruitful)
 }
 
-// Whether the book shows as many taken as sent.
-fn shows_quiet<R: Wait>(rt: &R, book: &Book) -> bool {
+// Whether a worker ends its part: its turns are used up, so many looks in a row found nothing, or the last one found
+// nothing and the book shows as many taken as sent. Else it lets others go on where it found nothing.
+fn ends<R: Wait>(rt: &R, book: &Book, turns: u64, looks: u32) -> bool {
+    if turns == 0 || looks >= LOOKS {
+        return true;
+    }
+    if looks == 0 {
+        return false;
+    }
     let sight = book.look(rt);
-    sight.sent == sight.taken
+    if sight.sent == sight.taken {
+        return true;
+    }
+    thread::yield_now();
+    false
 }
 
 // Stretches, until the turns are used up, the book shows that nothing is on its way, or so many looks in a row found
@@ -131,18 +142,16 @@ fn run<N: NodeCore, G: Gate, R: Wait>(
     ensures worked { OnOk result (HasWorked N.state N.note N.kind net.now part.old part.new) }
     ensures refused { part.new.refused ≡ part.old.refused }
 {
-    let mut looks = 0;
+    let mut looks: u32 = 0;
     for _ in rt.forever() {
-        if stretch(rt, alloc, part, net, book, worker, gate)? {
-            looks = 0;
-        } else if looks >= LOOKS || shows_quiet(rt, book) {
-            break;
+        let is_fruitful = stretch(rt, alloc, part, net, book, worker, gate)?;
+        looks = if is_fruitful {
+            0
         } else {
-            looks += 1;
-            thread::yield_now();
-        }
-        if part.turns == 0 {
-            break;
+            looks.saturating_add(1)
+        };
+        if ends(rt, book, part.turns, looks) {
+            return Ok(());
         }
     }
     Ok(())

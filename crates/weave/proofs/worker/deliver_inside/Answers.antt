@@ -1,0 +1,28 @@
+use Rattle.std.proofs.Common.{refl, ◌∙◌}
+use Rattle.weave.proofs.Hearing.{same_view}
+use Rattle.weave.proofs.Working.{worked_same, worked_then}
+use Rattle.weave.proofs.worker.deliver_inside.Goals as goal
+
+pub loop-init : goal.loop-init
+loop-init g c =
+    let k = g.N.NodeCore in
+    let part = c.args.part.now in
+    record {
+      worked = worked_same k.state k.note k.kind c.args.net.now part part (same_view k.state k.note k.kind c.args.net.now part.block.seats.items part.block.lanes.items) refl refl refl;
+      ready = c.requires.ready;
+      refused = refl;
+    }
+
+pub loop-preserved : goal.loop-preserved
+loop-preserved g c =
+    let k = g.N.NodeCore in
+    record {
+      worked = worked_then k.state k.note k.kind c.args.net.now c.args.part.now c.loop.part c.deliver_ready.new.part c.loop.invariant.worked c.in_ok-deliver_ready.ensures.worked;
+      ready = c.in_ok-deliver_ready.ensures.ready;
+      refused = c.deliver_ready.ensures.refused ∙ c.loop.invariant.refused;
+    }
+
+pub returns-then-not-branch-clause-worked : goal.returns-then-not-branch-clause-worked
+returns-then-not-branch-clause-worked g c =
+    let k = g.N.NodeCore in
+    worked_then k.state k.note k.kind c.args.net.now c.args.part.now c.loop.part c.deliver_ready.new.part c.loop.invariant.worked c.in_ok-deliver_ready.ensures.worked
