@@ -3,3 +3,4 @@ pub mod Lanes
 pub mod Views
 pub mod Blocks
 pub mod Gathered
+pub mod Rounds
