@@ -5,8 +5,10 @@
 
 mod block;
 mod lane;
+mod links;
 mod part;
 mod phase;
+mod rounds;
 mod seat;
 mod sending;
 mod worker;
