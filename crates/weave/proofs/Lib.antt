@@ -3,3 +3,4 @@ mod Places
 mod Hearing
 mod Runs
 mod Working
+mod Round
