@@ -4,3 +4,4 @@ mod Hearing
 mod Runs
 mod Working
 mod Round
+mod Returns
