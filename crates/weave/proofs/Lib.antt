@@ -5,3 +5,4 @@ mod Runs
 mod Working
 mod Round
 mod Returns
+mod Phase
