@@ -3,3 +3,5 @@ mod Places
 mod Hearing
 mod Runs
 mod Working
+mod Gathering
+mod Linking

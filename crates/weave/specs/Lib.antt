@@ -4,3 +4,4 @@ pub mod Views
 pub mod Blocks
 pub mod Gathered
 pub mod Rounds
+pub mod Arcs

@@ -5,8 +5,11 @@
 
 mod block;
 mod lane;
+mod links;
+mod order;
 mod part;
 mod phase;
+mod places;
 mod seat;
 mod sending;
 mod worker;
