@@ -14,19 +14,7 @@ use Rattle.weave.specs.Views.{View}
 use Rattle.weave.specs.Blocks.{view_of}
 use Rattle.weave.specs.Arcs.{IsReplaced}
 use Rattle.weave.specs.Gathered.{view_at, no_view}
-
-pub set_same : {X : Type 0} (xs : List X) (i : ℕ) (x y : X) → slice_get xs i ≡ Some y → slice_get (slice_set xs i x) i ≡ Some x
-set_same [] i x y e = absurd (cc)
-set_same (z ∷ xs) zero x y e = refl
-set_same (z ∷ xs) (suc i) x y e = set_same xs i x y e
-
-pub set_other : {X : Type 0} (xs : List X) (i j : ℕ) (x : X) → (j ≡ i → ⊥) → slice_get (slice_set xs i x) j ≡ slice_get xs j
-set_other [] zero j x ne = refl
-set_other [] (suc i) j x ne = refl
-set_other (z ∷ xs) zero zero x ne = absurd (ne refl)
-set_other (z ∷ xs) zero (suc j) x ne = refl
-set_other (z ∷ xs) (suc i) zero x ne = refl
-set_other (z ∷ xs) (suc i) (suc j) x ne = set_other xs i j x (λ e. ne (ap (λ n. suc n) e))
+use Rattle.weave.proofs.Places.{set_same, set_other}
 
 -- what two clauses say of an answer, put together
 pub if_both : {X E : Type 0} (r : Result X E) (P R : X → Type 0) (Q : Type 0) → IfOk r P → OnOk r Q → ((x : X) → P x → Q → R x) → IfOk r R

@@ -26,6 +26,10 @@ among net a i h = let from = option_from (λ (arc : PureArc). arc.tail) (slice_g
 pub apart_test : (m n : ℕ) → (m ≡ n → ⊥) → (m == n) ≡ false
 apart_test m n ne = false_from_ne_true (m == n) (λ e. ne (eqb-true m n e))
 
+-- the block of a node, where the number of blocks is told by another
+pub stands_at : (block len count node : ℕ) → block ≡ block_of len node → len ≡ count → block ≡ block_of count node
+stands_at block len count node e same = e ∙ ap (λ n. block_of n node) same
+
 -- what was received and what waits is what was sent, also by what it says
 pub noted_whole : {M W : Type 0} (note : M → W) (received waits rest sent : List M) → received ++ rest ≡ sent → waits ≡ rest → map note received ++ map note waits ≡ map note sent
 noted_whole note received waits rest sent whole same = ap (λ l. map note received ++ map note l) same ∙ (sym (map-append note received rest) ∙ ap (map note) whole)

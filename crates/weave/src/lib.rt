@@ -9,7 +9,7 @@ mod links;
 mod order;
 mod part;
 mod phase;
-mod places;
+mod replacing;
 mod seat;
 mod sending;
 mod worker;

@@ -11,7 +11,7 @@ ghost use Rattle.weave.specs.Lanes.{coming, elsewhere, going, inside};
 use crate::block::Block;
 use crate::lane::Lane;
 use crate::order::{forget_all, note_between, note_ready};
-use crate::places::replace_lane;
+use crate::replacing::replace_lane;
 use link_queues::{InEnd, Local, OutEnd, link, settle_pair};
 use meta_base::{ArcId, List, NoMemory, NodeId};
 use net_graph::Net;

@@ -3,7 +3,7 @@ use Rattle.std.specs.Prelude.{◌==◌}
 use Rattle.std.proofs.lemmas.Option.{slice_get_read}
 use Rattle.weave.specs.Lanes.{lane_in, lane_of}
 use Rattle.weave.proofs.Gathering.{found_set}
-use Rattle.weave.proofs.places.replace_in.Goals as goal
+use Rattle.weave.proofs.replacing.replace_in.Goals as goal
 
 pub returns-clause-now : goal.returns-clause-now
 returns-clause-now g c a =
