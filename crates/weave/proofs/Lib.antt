@@ -5,3 +5,4 @@ mod Runs
 mod Working
 mod Gathering
 mod Linking
+mod Deals

@@ -20,8 +20,8 @@ same_number m n e = subst (λ k. (m == k) ≡ true) e (same_test m)
 other_way : (m n : ℕ) → (m == n) ≡ false → (n == m) ≡ false
 other_way m n ne = false_from_ne_true (n == m) (λ e. eqb-false m n ne (sym (eqb-true n m e)))
 
-among : (net : PureNet) (a i : ℕ) → listener net a ≡ Some i → a < length net.arcs
-among net a i h = let from = option_from (λ (arc : PureArc). arc.tail) (slice_get net.arcs a) i h in slice_get_within net.arcs a from.0 from.1
+pub listens_below : (net : PureNet) (a i : ℕ) → listener net a ≡ Some i → a < length net.arcs
+listens_below net a i h = let from = option_from (λ (arc : PureArc). arc.tail) (slice_get net.arcs a) i h in slice_get_within net.arcs a from.0 from.1
 
 pub apart_test : (m n : ℕ) → (m ≡ n → ⊥) → (m == n) ≡ false
 apart_test m n ne = false_from_ne_true (m == n) (λ e. ne (eqb-true m n e))
@@ -180,16 +180,16 @@ module _ {S M : Type 0} where
   all_linked net count v w d =
       record {
         seats = seats_are net count v w d.seats;
-        within = λ a i j h s e. d.within a i j (among net a i h) h s e;
-        across = λ a i j h s e. let x = d.across a i j (among net a i h) h s e in record { link = x.0; into_is = x.1; out_is = x.2 };
+        within = λ a i j h s e. d.within a i j (listens_below net a i h) h s e;
+        across = λ a i j h s e. let x = d.across a i j (listens_below net a i h) h s e in record { link = x.0; into_is = x.1; out_is = x.2 };
       }
 
   pub all_settled : (net : PureNet) (count : ℕ) (v w : ℕ → View S M) → AreDoneBelow LosesLink net count (length net.arcs) v w → AreSettled net count v w
   all_settled net count v w d =
       record {
         seats = seats_are net count v w d.seats;
-        within = λ a i j h s e. d.within a i j (among net a i h) h s e;
-        across = λ a i j h s e received sent x. d.across a i j (among net a i h) h s e x.link received sent x.into_is x.out_is;
+        within = λ a i j h s e. d.within a i j (listens_below net a i h) h s e;
+        across = λ a i j h s e received sent x. d.across a i j (listens_below net a i h) h s e x.link received sent x.into_is x.out_is;
       }
 
   -- the next arc is as it was at the start

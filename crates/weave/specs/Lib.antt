@@ -5,3 +5,4 @@ pub mod Blocks
 pub mod Gathered
 pub mod Rounds
 pub mod Arcs
+pub mod Dealt

@@ -4,6 +4,7 @@
 #![tactic(auto)]
 
 mod block;
+mod dealing;
 mod lane;
 mod links;
 mod order;
@@ -11,6 +12,7 @@ mod part;
 mod phase;
 mod replacing;
 mod seat;
+mod seating;
 mod sending;
 mod worker;
 

@@ -21,8 +21,8 @@ use std::alloc::Global;
 // How many messages the ring of a link has room for.
 const RING: usize = 32;
 
-// The number of the node's block, among so many.
-fn block_at(node: NodeId, count: usize) -> usize
+/// The number of the node's block, among so many.
+pub(crate) fn block_at(node: NodeId, count: usize) -> usize
     requires count { 0 < count }
     ensures block { result ≡ block_of count node.0 }
     ensures among { result < count }
