@@ -4,3 +4,5 @@ pub mod Views
 pub mod Blocks
 pub mod Gathered
 pub mod Rounds
+pub mod Arcs
+pub mod Dealt
