@@ -3,9 +3,9 @@ mod Places
 mod Hearing
 mod Runs
 mod Working
-mod Gathering
+mod Changing
 mod Linking
 mod Deals
 mod Round
 mod Returns
-mod Phase
+mod Ending

@@ -1,5 +1,5 @@
 -- A phase, from its start to its end.
-use Rattle.std.proofs.Common.{◌≡◌, ◌⊎◌, ℕ, zero, suc, ◌+◌, ◌-◌, ◌*◌, ◌<◌, ◌≤◌, Bool, true, false, List, [], ◌∷◌, ◌++◌, Option, Some, None, slice_get, map, length, length-append, refl, sym, ap, subst, ◌∙◌, arith, inl, inr, cond}
+use Rattle.std.proofs.Common.{ltb, ◌≡◌, ◌⊎◌, ℕ, zero, suc, ◌+◌, ◌-◌, ◌*◌, ◌<◌, ◌≤◌, ◌^◌, Bool, true, false, List, [], ◌∷◌, ◌++◌, Option, Some, None, slice_get, map, length, length-append, refl, sym, ap, subst, ◌∙◌, arith, inl, inr, cond}
 use Rattle.std.specs.Prelude.{◌==◌}
 use Rattle.std.specs.Option.{option_map}
 use Rattle.std.specs.List.{AllByRecursion}
@@ -29,7 +29,17 @@ use Rattle.weave.specs.Rounds.{IsRound, HasCome, IsOver}
 use Rattle.weave.specs.Phases.{IsPhase, IsPhaseEnd}
 use Rattle.weave.proofs.Runs.{map_join, none_sent, none_taken}
 use Rattle.weave.proofs.Working.{few_sent}
-use Rattle.weave.proofs.Round.{total_below, woven_runs, none_waiting, drained_waits}
+use Rattle.weave.specs.Apart.{log_across, logs_across, AreThere, AreNodesOf}
+use Rattle.weave.specs.Dealt.{IsDealt}
+use Rattle.node_core.specs.Configs.{waits_on}
+use Rattle.node_core.specs.Kinds.{on_arc}
+use Rattle.node_core.specs.Machine.{begun_messages}
+use Rattle.std.specs.List.{range_with_len}
+use Rattle.std.specs.declared.collections.VecDeque.{VecDeque}
+use Rattle.std.specs.declared.alloc.Global.{Global}
+use Rattle.std.proofs.lemmas.List.{length-map}
+use Rattle.std.proofs.lemmas.Option.{slice_get_past, slice_get-map}
+use Rattle.weave.proofs.Round.{total_below, woven_runs, none_waiting, drained_waits, begun_link_few}
 
 module _ {S M : Type 0} (k : Kind S M) (lawful : IsLawful k) (net : PureNet) (is_net : IsNet net) (count turns : ℕ) where
   -- before any round
@@ -183,3 +193,94 @@ module _ {S M : Type 0} (k : Kind S M) (lawful : IsLawful k) (net : PureNet) (is
         spent : (d : Machine S M) → totals.sent ≡ totals.taken + waiting_on net d → totals.taken ≡ length journal → IsOver turns totals → (totals.sent == totals.taken) ≡ false → (¬ Drained d) × (length journal ≡ turns)
         spent d all taken (inl same) e = absurd (eqb-false totals.sent totals.taken e same)
         spent d all taken (inr used) e = ((λ drained. let none = drained_waits net d drained in eqb-false totals.sent totals.taken e (omega (arith, all, none))), omega (arith, taken, used))
+
+    -- what is taken apart at the end
+    pub logs_same : (count' : ℕ) → count' ≡ count → logs_across count' views (length net.nodes) ≡ logs_of a.history (length net.nodes)
+    logs_same count' same =
+        subst (λ n. logs_across n views (length net.nodes) ≡ logs_of a.history (length net.nodes)) (sym same)
+        (ap (λ f. map f (range_with_len 0 (length net.nodes))) (fun_ext (λ i. ap (λ l. record { node = record { 0 = i }; entries = l }) (a.log_is i))))
+
+  -- the nodes of a running machine, by blocks
+  pub all_there : (views : ℕ → View S M) → IsRunning k net (machine_across net count views) → (count' : ℕ) → count' ≡ count → AreThere count' views (length net.nodes)
+  all_there views running count' same = subst (λ n. AreThere n views (length net.nodes)) (sym same) running.there
+
+  module _ {N X : Type 0} (state : N → S) (note : X → M) where
+    pub nodes_all : (views : ℕ → View S M) → IsRunning k net (machine_across net count views) → (nodes : List N) (count' : ℕ) → count' ≡ count → AreNodesOf state count' views (length net.nodes) nodes → (i : ℕ) → (machine_across net count views).node i ≡ slice_get (map state nodes) i
+    nodes_all views running nodes count' same are i = by (ltb i (length net.nodes)) refl
+      where
+        by : (b : Bool) → ltb i (length net.nodes) ≡ b → (machine_across net count views).node i ≡ slice_get (map state nodes) i
+        by true t =
+            let within : i < length net.nodes = grind (arith, nat_tests) in
+            subst (λ n. (views (block_of n i)).node i ≡ slice_get (map state nodes) i) same (sym (are.node_is i within))
+        by false t =
+            let past : length net.nodes ≤ i = grind (arith, nat_tests) in
+            let len : length (map state nodes) ≡ length net.nodes = length-map nodes state ∙ are.count_is in
+            running.past i past ∙ sym (slice_get_past (map state nodes) i (subst (λ n. n ≤ i) (sym len) past))
+
+    there : {Y : Type 0} (xs : List Y) (i : ℕ) → i < length xs → slice_get xs i ≡ None → ⊥
+    there [] i h e = absurd (omega (arith, h))
+    there (x ∷ xs) zero h e = absurd (cc)
+    there (x ∷ xs) (suc i) h e = there xs i (omega (arith, h)) e
+
+    no_some : (o : Option N) (s : S) → option_map state o ≡ None → o ≡ None
+    no_some None s e = refl
+    no_some (Some n) s e = absurd (cc)
+
+    -- as many nodes were made as the network has
+    pub made_count : (c : Machine S M) → IsRunning k net c → (made : List N) → ((i : ℕ) → c.node i ≡ option_map state (slice_get made i)) → length made ≡ length net.nodes
+    made_count c running made are = order (length made) (length net.nodes) fewer more
+      where
+        order : (m n : ℕ) → (m < n → ⊥) → (n < m → ⊥) → m ≡ n
+        order m n p q = omega (arith, p, q)
+
+        fewer : length made < length net.nodes → ⊥
+        fewer h =
+            let one = running.there (length made) h in
+            let none : c.node (length made) ≡ None = are (length made) ∙ ap (option_map state) (slice_get_past made (length made) (omega arith)) in
+            let clash : Some one.0 ≡ None = sym one.1 ∙ none in
+            absurd (cc)
+
+        more : length net.nodes < length made → ⊥
+        more h = missing (slice_get made (length net.nodes)) refl
+          where
+            missing : (o : Option N) → slice_get made (length net.nodes) ≡ o → ⊥
+            missing None e = there made (length net.nodes) h e
+            missing (Some n) e =
+                let clash : Some (state n) ≡ None = sym (are (length net.nodes) ∙ ap (option_map state) e) ∙ running.past (length net.nodes) (omega arith) in
+                absurd (cc)
+
+    module _ (nodes : List S) (unbegun : AreUnbegun k net 0 nodes) (c : Machine S M) (start : c ≡ Start k nodes) (running : IsRunning k net c)
+        (made : List N) (links : List (VecDeque X Global)) (nodes_are : (i : ℕ) → c.node i ≡ option_map state (slice_get made i)) (links_are : (a : ℕ) → c.link a ≡ map note (waits_on links a)) where
+      begun_few : (a : ℕ) → length (c.link a) ≤ 64
+      begun_few a = subst (λ m. length (m.link a) ≤ 64) (sym start) (begun_link_few k net lawful is_net nodes unbegun a)
+
+      pub few_links : (a : ℕ) → length (waits_on links a) ≤ 2 ^ 16
+      few_links a =
+          let few = begun_few a in
+          let len : length (c.link a) ≡ length (waits_on links a) = ap length (links_are a) ∙ length-map (waits_on links a) note in
+          omega (arith, few, len)
+
+      most : (n : ℕ) (f : ℕ → ℕ) → ((i : ℕ) → f i ≤ 64) → total n f ≤ n * 64
+      most zero f h = omega arith
+      most (suc n) f h = let r = most n f h in let s = h n in omega (arith, r, s)
+
+      pub small_start : waiting_on net (Start k nodes) ≤ 2 ^ 20
+      small_start =
+          let sum = most (length net.arcs) (λ a. length ((Start k nodes).link a)) (λ a. begun_link_few k net lawful is_net nodes unbegun a) in
+          let room = is_net.arc_room in
+          omega (arith, sum, room)
+
+      pub start_runs : IsRunning k net (Start k nodes)
+      start_runs = subst (IsRunning k net) start running
+
+      pub first_come : length links ≡ length net.arcs → (views : ℕ → View S M) → IsDealt note net count state made links views → (sent : ℕ) → sent ≡ total (length links) (λ a. length (waits_on links a))
+          → HasCome k net count turns (Start k nodes) views (record { sent = sent; taken = 0 })
+      first_come len views dealt sent sent_is =
+          come_first (Start k nodes) views (record { sent = sent; taken = 0 }) start_runs dealt.gathered
+          (λ i. dealt.node_is i ∙ (sym (nodes_are i) ∙ ap (λ m. m.node i) start))
+          (λ i. dealt.clock_is i)
+          (λ b. dealt.link_is b ∙ (sym (links_are b) ∙ ap (λ m. m.link b) start))
+          dealt.log_is
+          (sent_is ∙ (ap (λ n. total n (λ b. length (waits_on links b))) len ∙ total_same (length net.arcs) (λ b. length (waits_on links b)) (λ b. length ((Start k nodes).link b))
+          (λ b lt. sym (length-map (waits_on links b) note) ∙ (sym (ap length (links_are b)) ∙ ap (λ m. length (m.link b)) start))))
+          refl
