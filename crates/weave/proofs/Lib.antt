@@ -3,6 +3,7 @@ mod Places
 mod Hearing
 mod Runs
 mod Working
-mod Gathering
+mod Changing
 mod Linking
 mod Deals
+mod Parting

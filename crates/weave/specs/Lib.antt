@@ -6,3 +6,4 @@ pub mod Gathered
 pub mod Rounds
 pub mod Arcs
 pub mod Dealt
+pub mod Apart

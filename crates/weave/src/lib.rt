@@ -5,6 +5,7 @@
 
 mod block;
 mod dealing;
+mod gathering;
 mod lane;
 mod links;
 mod order;

@@ -1,6 +1,6 @@
 use Rattle.std.proofs.Common.{◌∙◌, ◌+◌, ap}
 use Rattle.weave.specs.Dealt.{IsEmptyView}
-use Rattle.weave.proofs.Gathering.{views_pushed}
+use Rattle.weave.proofs.Changing.{views_pushed}
 use Rattle.weave.proofs.dealing.empty_blocks.Goals as goal
 
 pub loop-preserved : goal.loop-preserved

@@ -3,7 +3,7 @@ use Rattle.link_queues.specs.Links.{in_link, out_link, received_on, sent_on}
 use Rattle.link_queues.specs.Locals.{waiting_of}
 use Rattle.weave.specs.Arcs.{GetsLink, IsDoneBetween}
 use Rattle.weave.specs.Gathered.{view_at}
-use Rattle.weave.proofs.Gathering.{on_ok}
+use Rattle.weave.proofs.Changing.{on_ok}
 use Rattle.weave.proofs.Linking.{gets_link}
 use Rattle.weave.proofs.links.link_between.Goals as goal
 

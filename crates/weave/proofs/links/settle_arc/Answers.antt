@@ -3,7 +3,7 @@ use Rattle.net_graph.specs.Nets.{PureArc}
 use Rattle.net_graph.specs.Views.{pure_arc}
 use Rattle.weave.specs.Arcs.{IsDoneBetween, IsDoneOn, LosesLink}
 use Rattle.weave.specs.Gathered.{block_of, view_at}
-use Rattle.weave.proofs.Gathering.{on_ok}
+use Rattle.weave.proofs.Changing.{on_ok}
 use Rattle.weave.proofs.Linking.{apart_test, done_across, stands_at}
 use Rattle.weave.proofs.links.settle_arc.Goals as goal
 

@@ -1,6 +1,6 @@
 use Rattle.std.proofs.Common.{refl, vec_len}
 use Rattle.std.proofs.lemmas.Option.{slice_get_read}
-use Rattle.weave.proofs.Gathering.{same_views}
+use Rattle.weave.proofs.Changing.{same_views}
 use Rattle.weave.proofs.order.note_coming.Goals as goal
 
 pub returns-clause-same : goal.returns-clause-same

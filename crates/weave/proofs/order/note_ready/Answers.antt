@@ -1,6 +1,6 @@
 use Rattle.std.proofs.Common.{vec_len}
 use Rattle.std.proofs.lemmas.Option.{slice_get_read}
-use Rattle.weave.proofs.Gathering.{same_views}
+use Rattle.weave.proofs.Changing.{same_views}
 use Rattle.weave.proofs.order.note_ready.Goals as goal
 
 pub returns-clause-same : goal.returns-clause-same

@@ -2,7 +2,7 @@ use Rattle.std.proofs.Common.{◌∙◌, ap, cond, slice_get, vec_len}
 use Rattle.std.specs.Prelude.{◌==◌}
 use Rattle.std.proofs.lemmas.Option.{slice_get_read}
 use Rattle.weave.specs.Lanes.{lane_in, lane_of}
-use Rattle.weave.proofs.Gathering.{found_set}
+use Rattle.weave.proofs.Changing.{found_set}
 use Rattle.weave.proofs.replacing.replace_in.Goals as goal
 
 pub returns-clause-now : goal.returns-clause-now

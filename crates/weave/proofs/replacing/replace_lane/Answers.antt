@@ -1,6 +1,6 @@
 use Rattle.std.proofs.Common.{refl, vec_len}
 use Rattle.std.proofs.lemmas.Option.{slice_get_read}
-use Rattle.weave.proofs.Gathering.{if_both, replaced}
+use Rattle.weave.proofs.Changing.{if_both, replaced}
 use Rattle.weave.proofs.replacing.replace_lane.Goals as goal
 
 pub returns-clause-replaced : goal.returns-clause-replaced

@@ -1,6 +1,6 @@
 use Rattle.std.proofs.Common.{refl, vec_len}
 use Rattle.std.proofs.lemmas.Option.{slice_get_read}
-use Rattle.weave.proofs.Gathering.{on_ok, seated}
+use Rattle.weave.proofs.Changing.{on_ok, seated}
 use Rattle.weave.proofs.seating.put_seat.Goals as goal
 
 pub returns-clause-put : goal.returns-clause-put
