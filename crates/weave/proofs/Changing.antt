@@ -1,4 +1,4 @@
--- Blocks of which one gets another lane or another seat.
+-- Blocks of which one gets another lane or another seat, or loses one.
 use Rattle.std.proofs.Common.{◌≡◌, ℕ, zero, suc, Bool, true, false, cond, List, [], ◌∷◌, ◌++◌, Option, Some, option_map, slice_get, slice_set, refl, sym, ap, subst, ◌∙◌}
 use Rattle.std.specs.Prelude.{◌==◌, IfOk, OnOk, Ok, Err}
 use Rattle.std.specs.Option.{option_map_or}
@@ -13,6 +13,7 @@ use Rattle.weave.specs.Lanes.{lane_in, lane_of, noted_lane}
 use Rattle.weave.specs.Views.{View}
 use Rattle.weave.specs.Blocks.{view_of, flat, clock_in, log_in}
 use Rattle.weave.specs.Arcs.{IsReplaced}
+use Rattle.weave.specs.Apart.{IsSeatTaken}
 use Rattle.weave.specs.Dealt.{IsSeatPut}
 use Rattle.weave.specs.Gathered.{view_at, no_view}
 use Rattle.weave.proofs.Places.{set_same, set_other}
@@ -89,6 +90,18 @@ module _ {N M S W : Type 0} (state : N → S) (note : M → W) where
         clock_is = λ c n. found_at (λ v. v.clock n) (λ v. changed_at v.clock i seat.clock n) blocks b x y e (ap clock_in (put n) ∙ changed_by clock_in stood i (Some seat) n) c;
         log_is = λ c n. found_at (λ v. v.log n) (λ v. changed_at v.log i seat.log n) blocks b x y e (ap log_in (put n) ∙ changed_by log_in stood i (Some seat) n) c;
         lane_is = λ c a. found_same (λ o. (view_in o).lane a) blocks b y x e (ap (λ ls. (view_of state note (record y { lanes = ls })).lane a) lanes) c;
+      }
+
+  pub taken : (blocks : List (Block N M)) (b i : ℕ) (x y : Block N M) (seat : Seat N M) → slice_get blocks b ≡ Some x → flat (slice_get x.seats.items i) ≡ Some seat
+      → ((n : ℕ) → (n == i) ≡ false → flat (slice_get y.seats.items n) ≡ flat (slice_get x.seats.items n))
+      → IsSeatTaken (view_at state note blocks) (view_at state note (slice_set blocks b y)) b i (state seat.node) seat.log
+  taken blocks b i x y seat e was others =
+      let of_state : Option (Seat N M) → Option S = option_map (λ (s : Seat N M). state s.node) in
+      record {
+        node_was = ap (λ o. (view_in o).node i) e ∙ ap of_state was;
+        log_was = ap (λ o. (view_in o).log i) e ∙ ap log_in was;
+        node_is = λ c n ne. found_same (λ o. (view_in o).node n) blocks b y x e (ap of_state (others n ne)) c;
+        log_is = λ c n ne. found_same (λ o. (view_in o).log n) blocks b y x e (ap log_in (others n ne)) c;
       }
 
   -- what holds of each block's view, and of one block more

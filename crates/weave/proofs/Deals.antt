@@ -16,13 +16,13 @@ use Rattle.weave.specs.Arcs.{IsReplaced}
 use Rattle.weave.specs.Dealt.{IsEmptyView, IsSeatPut, AreSeatedFresh, AreLaid, IsDealt}
 use Rattle.weave.specs.Gathered.{block_of, lane_across}
 
-got_before : {X : Type 0} (xs : List X) (x : X) (i : ℕ) → (i ≡ length xs → ⊥) → slice_get (xs ++ x ∷ []) i ≡ slice_get xs i
+pub got_before : {X : Type 0} (xs : List X) (x : X) (i : ℕ) → (i ≡ length xs → ⊥) → slice_get (xs ++ x ∷ []) i ≡ slice_get xs i
 got_before [] x zero ne = absurd (ne refl)
 got_before [] x (suc i) ne = refl
 got_before (y ∷ xs) x zero ne = refl
 got_before (y ∷ xs) x (suc i) ne = got_before xs x i (λ e. ne (ap (λ n. suc n) e))
 
-got_last : {X : Type 0} (xs : List X) (x : X) → slice_get (xs ++ x ∷ []) (length xs) ≡ Some x
+pub got_last : {X : Type 0} (xs : List X) (x : X) → slice_get (xs ++ x ∷ []) (length xs) ≡ Some x
 got_last [] x = refl
 got_last (y ∷ xs) x = got_last xs x
 

@@ -141,6 +141,12 @@ module _ {S M : Type 0} (k : Kind S M) (lawful : IsLawful k) (net : PureNet) (is
   no_history : (c : Machine S M) (views : ℕ → View S M) (totals : Totals) → IsRunning k net c → (a : HasCome k net count turns c views totals) → (i : ℕ) → length net.nodes ≤ i → a.history i ≡ []
   no_history c views totals running a i past = a.woven.none_takes i (running.past i past)
 
+  -- the logs that are taken out of the blocks at the end are those of the histories
+  pub logs_same : (c : Machine S M) (views : ℕ → View S M) (totals : Totals) (a : HasCome k net count turns c views totals) (count' : ℕ) → count' ≡ count → logs_across count' views (length net.nodes) ≡ logs_of a.history (length net.nodes)
+  logs_same c views totals a count' same =
+      subst (λ n. logs_across n views (length net.nodes) ≡ logs_of a.history (length net.nodes)) (sym same)
+      (ap (λ f. map f (range_with_len 0 (length net.nodes))) (fun_ext (λ i. ap (λ l. record { node = record { 0 = i }; entries = l }) (a.log_is i))))
+
   -- the logs of a phase, merged, are its journal
   module _ (nodes : List S) (unbegun : AreUnbegun k net 0 nodes) (views : ℕ → View S M) (totals : Totals) (running : IsRunning k net (Start k nodes)) (a : HasCome k net count turns (Start k nodes) views totals)
       (logs : List NodeLog) (logs_are : logs ≡ logs_of a.history (length net.nodes)) where
@@ -193,12 +199,6 @@ module _ {S M : Type 0} (k : Kind S M) (lawful : IsLawful k) (net : PureNet) (is
         spent : (d : Machine S M) → totals.sent ≡ totals.taken + waiting_on net d → totals.taken ≡ length journal → IsOver turns totals → (totals.sent == totals.taken) ≡ false → (¬ Drained d) × (length journal ≡ turns)
         spent d all taken (inl same) e = absurd (eqb-false totals.sent totals.taken e same)
         spent d all taken (inr used) e = ((λ drained. let none = drained_waits net d drained in eqb-false totals.sent totals.taken e (omega (arith, all, none))), omega (arith, taken, used))
-
-    -- what is taken apart at the end
-    pub logs_same : (count' : ℕ) → count' ≡ count → logs_across count' views (length net.nodes) ≡ logs_of a.history (length net.nodes)
-    logs_same count' same =
-        subst (λ n. logs_across n views (length net.nodes) ≡ logs_of a.history (length net.nodes)) (sym same)
-        (ap (λ f. map f (range_with_len 0 (length net.nodes))) (fun_ext (λ i. ap (λ l. record { node = record { 0 = i }; entries = l }) (a.log_is i))))
 
   -- the nodes of a running machine, by blocks
   pub all_there : (views : ℕ → View S M) → IsRunning k net (machine_across net count views) → (count' : ℕ) → count' ≡ count → AreThere count' views (length net.nodes)

@@ -6,6 +6,7 @@ mod Working
 mod Changing
 mod Linking
 mod Deals
+mod Parting
 mod Round
 mod Returns
 mod Ending

@@ -27,6 +27,7 @@ module _ {S M : Type 0} where
   AreThere count views n = (i : ℕ) → i < n → (s : S) × ((views (block_of count i)).node i ≡ Some s)
 
   -- the first n nodes, in order
-  pub record AreNodesOf {N : Type 0} (state : N → S) (count : ℕ) (views : ℕ → View S M) (n : ℕ) (nodes : List N) : Type 0 where
+  pub record AreNodesOf {N : Type 0} (state : N → S) (count : ℕ) (views : ℕ → View S M) (n : ℕ)
+      (nodes : List N) : Type 0 where
     pub count_is : length nodes ≡ n
     pub node_is : (i : ℕ) → i < n → slice_get (map state nodes) i ≡ (views (block_of count i)).node i

@@ -21,7 +21,8 @@ module _ {M : Type 0} where
 
   -- two blocks have the two ends of a link
   abbrev pub HaveEnds : PureLane M → PureLane M → Type 0
-  HaveEnds into out = (link : LinkId) × (received sent : List M) × (into ≡ coming link received) × (out ≡ going link sent)
+  HaveEnds into out = (link : LinkId) × (received sent : List M)
+      × (into ≡ coming link received) × (out ≡ going link sent)
 
 -- What the listener's and the speaker's block have of an arc, before and after: it gets a link on which what waited
 -- with the listener was sent.
@@ -30,7 +31,8 @@ GetsLink heard spoken into out = (link : LinkId) × (into ≡ coming link []) ×
 
 -- or what was sent on its link and not received waits with the listener
 abbrev pub LosesLink : {M : Type 0} → PureLane M → PureLane M → PureLane M → PureLane M → Type 0
-LosesLink {M} into out heard spoken = (link : LinkId) (received sent : List M) → into ≡ coming link received → out ≡ going link sent
+LosesLink {M} into out heard spoken = (link : LinkId) (received sent : List M)
+    → into ≡ coming link received → out ≡ going link sent
     → (waits : List M) × (heard ≡ inside waits) × (received ++ waits ≡ sent)
 
 module _ {S M : Type 0} where
@@ -58,16 +60,22 @@ module _ {S M : Type 0} where
       pub record IsDoneOn (a : ℕ) (old new : ℕ → View S M) : Type 0 where
         pub seats : KeepsSeats old new
         pub others : (b n : ℕ) → (n == a) ≡ false → (new b).lane n ≡ (old b).lane n
-        pub within : (i j : ℕ) → listener net a ≡ Some i → speaker net a ≡ Some j → block_of count i ≡ block_of count j
+        pub within : (i j : ℕ) → listener net a ≡ Some i → speaker net a ≡ Some j
+            → block_of count i ≡ block_of count j
             → (new (block_of count i)).lane a ≡ (old (block_of count i)).lane a
-        pub across : (i j : ℕ) → listener net a ≡ Some i → speaker net a ≡ Some j → (block_of count i == block_of count j) ≡ false
-            → Becomes ((old (block_of count i)).lane a) ((old (block_of count j)).lane a) ((new (block_of count i)).lane a) ((new (block_of count j)).lane a)
+        pub across : (i j : ℕ) → listener net a ≡ Some i → speaker net a ≡ Some j
+            → (block_of count i == block_of count j) ≡ false
+            → Becomes ((old (block_of count i)).lane a) ((old (block_of count j)).lane a)
+            ((new (block_of count i)).lane a) ((new (block_of count j)).lane a)
 
       -- the arcs below the number are done, and the others are as before
       pub record AreDoneBelow (n : ℕ) (old new : ℕ → View S M) : Type 0 where
         pub seats : KeepsSeats old new
         pub later : (b a : ℕ) → n ≤ a → (new b).lane a ≡ (old b).lane a
-        pub within : (a i j : ℕ) → a < n → listener net a ≡ Some i → speaker net a ≡ Some j → block_of count i ≡ block_of count j
+        pub within : (a i j : ℕ) → a < n → listener net a ≡ Some i → speaker net a ≡ Some j
+            → block_of count i ≡ block_of count j
             → (new (block_of count i)).lane a ≡ (old (block_of count i)).lane a
-        pub across : (a i j : ℕ) → a < n → listener net a ≡ Some i → speaker net a ≡ Some j → (block_of count i == block_of count j) ≡ false
-            → Becomes ((old (block_of count i)).lane a) ((old (block_of count j)).lane a) ((new (block_of count i)).lane a) ((new (block_of count j)).lane a)
+        pub across : (a i j : ℕ) → a < n → listener net a ≡ Some i → speaker net a ≡ Some j
+            → (block_of count i == block_of count j) ≡ false
+            → Becomes ((old (block_of count i)).lane a) ((old (block_of count j)).lane a)
+            ((new (block_of count i)).lane a) ((new (block_of count j)).lane a)

@@ -23,14 +23,16 @@ module _ {S W : Type 0} where
   -- the block has another node at the number, with its clock and log, and all else stays
   pub record IsSeatPut (old new : ℕ → View S W) (block i : ℕ) (s : S) (clock : ℕ) (log : List Delivery) : Type 0 where
     pub node_is : (b n : ℕ) → (new b).node n ≡ cond (b == block) (changed_at (old b).node i (Some s) n) ((old b).node n)
-    pub clock_is : (b n : ℕ) → (new b).clock n ≡ cond (b == block) (changed_at (old b).clock i clock n) ((old b).clock n)
+    pub clock_is : (b n : ℕ) → (new b).clock n
+        ≡ cond (b == block) (changed_at (old b).clock i clock n) ((old b).clock n)
     pub log_is : (b n : ℕ) → (new b).log n ≡ cond (b == block) (changed_at (old b).log i log n) ((old b).log n)
     pub lane_is : (b a : ℕ) → (new b).lane a ≡ (old b).lane a
 
   module _ {N : Type 0} (state : N → S) (count : ℕ) where
     -- the nodes stand in their blocks, with clocks of 0 and empty logs, and nothing else is there
     pub record AreSeatedFresh (nodes : List N) (views : ℕ → View S W) : Type 0 where
-      pub node_is : (b i : ℕ) → (views b).node i ≡ cond (b == block_of count i) (option_map state (slice_get nodes i)) None
+      pub node_is : (b i : ℕ) → (views b).node i
+          ≡ cond (b == block_of count i) (option_map state (slice_get nodes i)) None
       pub clock_is : (b i : ℕ) → (views b).clock i ≡ 0
       pub log_is : (b i : ℕ) → (views b).log i ≡ []
       pub lane_is : (b a : ℕ) → (views b).lane a ≡ elsewhere
@@ -39,10 +41,12 @@ module _ {S W : Type 0} where
     -- what waits on the arcs stands with their listeners, and the nodes are as they were
     pub record AreLaid (links : List (VecDeque M Global)) (old new : ℕ → View S W) : Type 0 where
       pub seats : KeepsSeats old new
-      pub lane_is : (a i : ℕ) → listener net a ≡ Some i → (new (block_of count i)).lane a ≡ inside (map note (waits_on links a))
+      pub lane_is : (a i : ℕ) → listener net a ≡ Some i
+          → (new (block_of count i)).lane a ≡ inside (map note (waits_on links a))
 
     -- the blocks are those of these nodes, with clocks of 0 and empty logs, and of these links
-    pub record IsDealt {N : Type 0} (state : N → S) (nodes : List N) (links : List (VecDeque M Global)) (views : ℕ → View S W) : Type 0 where
+    pub record IsDealt {N : Type 0} (state : N → S) (nodes : List N) (links : List (VecDeque M Global))
+        (views : ℕ → View S W) : Type 0 where
       pub gathered : AreGathered net count views
       pub node_is : (i : ℕ) → (machine_across net count views).node i ≡ option_map state (slice_get nodes i)
       pub clock_is : (i : ℕ) → (machine_across net count views).clock i ≡ 0

@@ -22,8 +22,8 @@ pub(crate) fn forget_all<N: NodeCore>(blocks: &mut Vec<Block<N>>)
     ensures count { vec_len blocks.new ≡ vec_len blocks.old }
     ensures same { (b : ℕ) → view_at N.state N.note blocks.new.items b ≡ view_at N.state N.note blocks.old.items b }
 {
-    for at in 0..blocks.len() {
-        forget(&mut blocks[at]);
+    for block in blocks.iter_mut() {
+        forget(block);
     }
 }
 

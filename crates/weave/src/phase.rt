@@ -1,6 +1,7 @@
 ghost use Rattle.std.specs.Prelude.{◌≡◌, ◌<◌, ◌≤◌, ◌^◌, map, length, vec_len, IfOk};
 ghost use Rattle.net_graph.specs.Nets.{IsNet};
 ghost use Rattle.node_core.specs.declared.node.TheConstants.{MAX_CLOCK};
+ghost use Rattle.node_core.specs.Kinds.{IsLawful};
 ghost use Rattle.node_core.specs.Machine.{AreUnbegun, Machine};
 ghost use Rattle.node_core.specs.Running.{IsRunning};
 ghost use Rattle.quiet_ledger.specs.declared.book.TheConstants.{MAX_WORKERS};
@@ -62,6 +63,7 @@ where
         end.journal (map N.state end.nodes) end.totals end.quiet) }
 {
     keeps_rules(net);
+    keeps_laws::<N>();
     histories_replay::<N>();
     histories_count::<N>();
     replays_count::<N>();
@@ -88,6 +90,11 @@ fn keeps_rules(net: &Net)
 {
     let _edition = net.edition();
 }
+
+// What holds of every kind of node. Where threads are started, the bound itself doesn't say it.
+fn keeps_laws<N: NodeCore>()
+    ensures { IsLawful N.kind }
+{}
 
 // How many blocks the nodes are dealt to: no more than there are nodes, so that no worker has none, and one at least.
 // A node's block is the same as among so many blocks as workers.
@@ -123,6 +130,7 @@ where
         → HasCome N.kind net.now (vec_len blocks) turns c (view_at N.state N.note r.0.items) r.1) }
     ensures over { IfOk result (λ r. IsOver turns r.1) }
 {
+    keeps_laws::<N>();
     let mut blocks = blocks;
     let mut totals = totals;
     let mut is_later = false;

@@ -112,14 +112,7 @@ fn deliver_first<N: NodeCore, G: Gate>(
     ensures fresh { OnOk result (All (λ part. part.refused ≡ false) parts.new.items) }
 {
     if plan.is_later {
-        turn(
-            alloc,
-            &mut parts[extra],
-            net,
-            plan.arc,
-            plan.workers,
-            gate,
-        )?;
+        turn(alloc, &mut parts[extra], net, plan.arc, plan.workers, gate)?;
     }
     Ok(())
 }

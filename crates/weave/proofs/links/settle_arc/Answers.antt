@@ -1,7 +1,7 @@
-use Rattle.std.proofs.Common.{◌≡◌, ap, option_map, vec_len, refl}
+use Rattle.std.proofs.Common.{◌≡◌, ap, option_map, vec_len}
 use Rattle.net_graph.specs.Nets.{PureArc}
 use Rattle.net_graph.specs.Views.{pure_arc}
-use Rattle.weave.specs.Arcs.{IsDoneBetween, IsDoneOn, LosesLink}
+use Rattle.weave.specs.Arcs.{IsDoneOn, LosesLink}
 use Rattle.weave.specs.Gathered.{block_of, view_at}
 use Rattle.weave.proofs.Changing.{on_ok}
 use Rattle.weave.proofs.Linking.{apart_test, done_across, stands_at}

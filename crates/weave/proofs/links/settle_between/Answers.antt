@@ -3,7 +3,7 @@ use Rattle.link_queues.specs.Links.{in_link, out_link, received_on, sent_on}
 use Rattle.link_queues.specs.Locals.{waiting_of}
 use Rattle.weave.specs.Gathered.{view_at}
 use Rattle.weave.specs.Lanes.{lane_of, noted_lane}
-use Rattle.weave.proofs.Linking.{apart_test, loses_link, noted_whole}
+use Rattle.weave.proofs.Linking.{loses_link, noted_whole}
 use Rattle.weave.proofs.links.settle_between.Goals as goal
 
 pub returns-clause-settled : goal.returns-clause-settled

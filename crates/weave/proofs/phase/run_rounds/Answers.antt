@@ -4,24 +4,12 @@ use Rattle.weave.specs.Rounds.{HasCome, IsRound}
 use Rattle.weave.proofs.Ending.{come_on, sent_small}
 use Rattle.weave.proofs.phase.run_rounds.Goals as goal
 
-pub run_round-requires-clause-gathered : goal.run_round-requires-clause-gathered
-run_round-requires-clause-gathered g c =
-    let began = c.requires.begun in
-    let now = c.loop.invariant.come began.0 began.1 began.2 began.3 in
-    rw c.loop.invariant.count now.gathered
-
-pub run_round-requires-clause-running : goal.run_round-requires-clause-running
-run_round-requires-clause-running g c =
-    let began = c.requires.begun in
-    let now = c.loop.invariant.come began.0 began.1 began.2 began.3 in
-    rw c.loop.invariant.count now.running
-
 pub run_round-requires-clause-base : goal.run_round-requires-clause-base
-run_round-requires-clause-base g c =
+run_round-requires-clause-base g c _ _ =
     let k = g.N.NodeCore in
     let began = c.requires.begun in
     let now = c.loop.invariant.come began.0 began.1 began.2 began.3 in
-    sent_small k.kind g.met.N.NodeCore.lawful c.args.net.now c.requires.net (vec_len c.args.blocks) c.args.turns began.0 (view_at k.state k.note c.loop.blocks.items) c.loop.totals began.1 now c.requires.turns began.2
+    sent_small k.kind c.keeps_laws.ensures c.args.net.now c.requires.net (vec_len c.args.blocks) c.args.turns began.0 (view_at k.state k.note c.loop.blocks.items) c.loop.totals began.1 now c.requires.turns began.2
 
 pub loop-preserved : goal.loop-preserved
 loop-preserved g c =
@@ -34,6 +22,6 @@ loop-preserved g c =
       come = λ machine running few first.
           let now = c.loop.invariant.come machine running few first in
           let most = now.few in
-          come_on k.kind g.met.N.NodeCore.lawful c.args.net.now c.requires.net n c.args.turns machine (view_at k.state k.note c.loop.blocks.items) (view_at k.state k.note c.in_ok-blocks.field-0-0.items) c.loop.totals c.in_ok-blocks.field-0-1
+          come_on k.kind c.keeps_laws.ensures c.args.net.now c.requires.net n c.args.turns machine (view_at k.state k.note c.loop.blocks.items) (view_at k.state k.note c.in_ok-blocks.field-0-0.items) c.loop.totals c.in_ok-blocks.field-0-1
           (c.args.turns - c.loop.totals.taken) now (omega (arith, most)) round;
     }

@@ -20,7 +20,7 @@ loop-block-preserved g c =
     let count = before.count in
     let len = c.in_ok-push.ensures.len in
     let turns : part.turns ≡ share_of c.args.turns c.len-count.result c.args.extra (length old.items) =
-        c.part_of.ensures.turns ∙ (c.turns_of-turns.ensures ∙ ap (share_of c.args.turns c.len-count.result c.args.extra) (c.len-in-loop-block.ensures ∙ old.ok.0)) in
+    c.part_of.ensures.turns ∙ (c.turns_of-turns.ensures ∙ ap (share_of c.args.turns c.len-count.result c.args.extra) (c.len-in-loop-block.ensures ∙ old.ok.0)) in
     record {
       blocks = ap (map block_of) pushed ∙ (map-append block_of old.items (part ∷ []) ∙ (ap (λ l. l ++ part.block ∷ []) before.blocks ∙ ap (λ b. c.loop-block.yielded ++ b ∷ []) c.part_of.ensures.block));
       count = omega (arith, len, count, more);

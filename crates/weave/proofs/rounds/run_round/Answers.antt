@@ -41,9 +41,9 @@ settle_blocks-requires-clause-ended g c =
     let len : length last.items ≡ n = sym last.ok.0 ∙ (kept ∙ (c.in_ok-parts.ensures.count ∙ c.link_blocks.ensures.count)) in
     let count_is : vec_len c.in_ok-blocks.blocks ≡ n = c.in_ok-blocks.blocks.ok.0 ∙ (ap length c.in_ok-blocks.ensures.blocks ∙ (length-map last.items (λ (x : Part g.row.N.Denot g.row.N-Message.Denot). x.block) ∙ len)) in
     let worked = chained k.state k.note k.kind c.args.net.now (vec_len first) first.items mid.items last.items (sym first.ok.0) (sym last.ok.0 ∙ kept)
-        c.in_ok-deliver_first.ensures.worked (rw c.deliver_first.ensures.count at c.run_workers.ensures.worked) c.in_ok-blocks.ensures.worked in
+    c.in_ok-deliver_first.ensures.worked (rw c.deliver_first.ensures.count at c.run_workers.ensures.worked) c.in_ok-blocks.ensures.worked in
     let ended = round_ended k.kind c.args.net.now n (view_at k.state k.note old) (view_at k.state k.note linked) (view_at k.state k.note back) c.requires.gathered c.in_ok-link_blocks.ensures.linked
-        (ran k.state k.note k.kind c.args.net.now n c.args.plan.turns c.block_with-extra.result first.items last.items linked back lent (sym c.in_ok-blocks.ensures.blocks) same worked) in
+    (ran k.state k.note k.kind c.args.net.now n c.args.plan.turns c.block_with-extra.result first.items last.items linked back lent (sym c.in_ok-blocks.ensures.blocks) same worked) in
     subst (λ m. AreEnded c.args.net.now m (view_at k.state k.note back)) (sym count_is) ended
 
 pub returns-clause-round : goal.returns-clause-round
@@ -62,7 +62,7 @@ returns-clause-round g c =
     let len : length last.items ≡ n = sym last.ok.0 ∙ (kept ∙ (c.in_ok-parts.ensures.count ∙ c.link_blocks.ensures.count)) in
     let count_is : vec_len c.in_ok-blocks.blocks ≡ n = c.in_ok-blocks.blocks.ok.0 ∙ (ap length c.in_ok-blocks.ensures.blocks ∙ (length-map last.items (λ (x : Part g.row.N.Denot g.row.N-Message.Denot). x.block) ∙ len)) in
     let worked = chained k.state k.note k.kind c.args.net.now (vec_len first) first.items mid.items last.items (sym first.ok.0) (sym last.ok.0 ∙ kept)
-        c.in_ok-deliver_first.ensures.worked (rw c.deliver_first.ensures.count at c.run_workers.ensures.worked) c.in_ok-blocks.ensures.worked in
+    c.in_ok-deliver_first.ensures.worked (rw c.deliver_first.ensures.count at c.run_workers.ensures.worked) c.in_ok-blocks.ensures.worked in
     let settled = subst (λ m. AreSettled c.args.net.now m (view_at k.state k.note back) (view_at k.state k.note c.settle_blocks.new.blocks.items)) count_is c.in_ok-settle_blocks.ensures.settled in
     let base = c.in_ok-book.ensures.base in
     round_done k.state k.note k.kind c.args.net.now n c.args.plan.turns c.block_with-extra.result first.items last.items linked back lent (sym c.in_ok-blocks.ensures.blocks) same worked
