@@ -1,7 +1,7 @@
 //! The tests of the machine that nodes run on, of path-vector nodes and of the checks of finished tables, by single
-//! calls: `node_core`, `phase_runs`, `path_vector` and `stable_check`. They show what no clause says: that calls
-//! succeed, and that what they answer is what the rules of routing say of rows that are told by hand. It stands on
-//! every library that it tests.
+//! calls: `node_core`, `path_vector` and `stable_check`. They show what no clause says: that calls succeed, and that
+//! what they answer is what the rules of routing say of rows that are told by hand. It stands on every library that it
+//! tests.
 #![tactic(auto)]
 
 #[cfg(test)]
@@ -9,8 +9,4 @@ mod machines;
 #[cfg(test)]
 mod nodes;
 #[cfg(test)]
-mod phases;
-#[cfg(test)]
 mod tables;
-#[cfg(test)]
-mod texts;
