@@ -1,2 +1,1 @@
-mod Starts
-mod Steps
+-- The tests have no lemmas of their own.

@@ -10,5 +10,3 @@ mod machines;
 mod nodes;
 #[cfg(test)]
 mod tables;
-#[cfg(test)]
-mod texts;

@@ -1,49 +1,17 @@
 // Tests of the machine of one thread by single deliveries, on path-vector nodes.
-ghost use Rattle.std.specs.Prelude.{◌≡◌, ◌+◌, ◌<◌, ◌≤◌, ℕ, IfOk, OnOk, length, map};
+ghost use Rattle.std.specs.Prelude.{◌≡◌, ◌+◌, ◌<◌, OnOk};
 ghost use Rattle.node_core.specs.declared.node.TheConstants.{MAX_CLOCK};
-ghost use Rattle.node_core.specs.Machine.{AreUnbegun};
 ghost use Rattle.node_core.specs.MachineOf.{machine_of, net_of};
 ghost use Rattle.node_core.specs.Running.{AreUpTo, IsRunning};
-ghost use Rattle.path_vector.specs.Node.{path_vector};
-ghost use Rattle.path_vector.specs.Nodes.{state_of};
-ghost use Rattle.path_vector.specs.Updates.{pure_update};
 
-use crate::texts::are_rows;
 use alg_model::{Algebra, TreeAlgebra};
-use meta_base::{ArcId, List, NoMemory, NodeId};
-use net_graph::{Net, RouteRow};
-use node_core::{Config, Delivered, MAX_CLOCK, NodeCore};
-use path_vector::{PvNode, rows_of};
+use meta_base::ArcId;
+use net_graph::Net;
+use node_core::{Config, MAX_CLOCK, NodeCore};
 use std::alloc::Global;
 use std::test::Fail;
+use test_nodes::{are_rows, make_delivery, new_nodes, rows_now};
 use test_readers::network;
-
-// The new nodes of a network, in order.
-pub(crate) fn new_nodes<'a, A: Algebra>(
-    alloc: Global,
-    algebra: &'a A,
-    net: &'a Net,
-) -> Result<List<PvNode<'a, A>>, NoMemory>
-    requires { A.expression algebra.now ≡ net.now.alg.expression }
-    ensures { IfOk result (λ nodes. AreUnbegun path_vector net.now 0 (map state_of nodes)) }
-{
-    let count = net.node_count();
-    let mut nodes = Vec::with_capacity(alloc, count)?;
-    for number in 0..count {
-        nodes.push(PvNode::new(alloc, algebra, net, NodeId(number as u32))?)?;
-    }
-    Ok(List::from_vec(nodes))
-}
-
-// The rows of the nodes as they are now.
-pub(crate) fn rows_now<A: Algebra>(
-    alloc: Global,
-    config: &Config<'_, PvNode<'_, A>>,
-) -> Result<List<RouteRow>, NoMemory>
-    requires { IsRunning path_vector (net_of config.now) (machine_of state_of pure_update config.now) }
-{
-    rows_of(alloc, config.nodes())
-}
 
 // Whether so many messages wait on the arcs.
 fn waits_so<N: NodeCore>(config: &Config<'_, N>, counts: &[usize]) -> bool {
@@ -96,18 +64,6 @@ fn steps_of(alloc: Global, text: &str) -> Result<Vec<Step>, Fail> {
     Ok(steps)
 }
 
-// Whether a delivery with that clock and answer was as the step says.
-fn is_step<N: NodeCore>(
-    config: &Config<'_, N>,
-    front: Option<u64>,
-    answer: Delivered,
-    step: &Step,
-) -> bool {
-    front == step.clock
-        && (answer == Delivered::Taken) == step.clock.is_some()
-        && waits_so(config, &step.counts)
-}
-
 // Makes the delivery, behind so many others. Whether it is as the step says.
 fn makes_step<N: NodeCore>(config: &mut Config<'_, N>, step: &Step, made: u64) -> Result<bool, Fail>
     requires running { IsRunning N.kind (net_of config.old) (machine_of N.state N.note config.old) }
@@ -116,13 +72,8 @@ fn makes_step<N: NodeCore>(config: &mut Config<'_, N>, step: &Step, made: u64) -
     ensures running { OnOk result (IsRunning N.kind (net_of config.new) (machine_of N.state N.note config.new)) }
     ensures begun { OnOk result (AreUpTo N.kind (machine_of N.state N.note config.new) (made + 1)) }
 {
-    let arc = step.arc;
-    if arc.0 as usize >= config.net().arc_count() {
-        return Err("there is no such arc".into());
-    }
-    let front = config.front_clock(arc);
-    let answer = config.deliver(arc)?;
-    Ok(is_step(config, front, answer, step))
+    let clock = make_delivery(config, step.arc, made)?;
+    Ok(clock == step.clock && waits_so(config, &step.counts))
 }
 
 // Makes deliveries one after another. Whether each is as its step says.
@@ -194,12 +145,12 @@ fn delivers_over(
     answer
 }
 
-pub(crate) const HOPS: &str = "add(1..9)";
+const HOPS: &str = "add(1..9)";
 
-pub(crate) const PAIR: &[u8] = b"node a b\nboth a b : 3\norigin x at b : 0\n";
+const PAIR: &[u8] = b"node a b\nboth a b : 3\norigin x at b : 0\n";
 
 // Two ways from a to d that are equally good.
-pub(crate) const DIAMOND: &[u8] =
+const DIAMOND: &[u8] =
     b"node a b c d\nlink a b : 1\nlink a c : 1\nlink b d : 1\nlink c d : 1\norigin x at d : 0\n";
 
 // c has values for two destinations.

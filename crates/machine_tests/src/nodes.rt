@@ -1,7 +1,6 @@
 // Tests of path-vector nodes by single messages, also such as no node sends.
 ghost use Rattle.std.specs.Prelude.{◌≡◌, false};
 
-use crate::texts::{NOTHING, dest_of, is_route, node_of, route_of};
 use alg_model::{Algebra, TreeAlgebra};
 use meta_base::{ArcId, List, NodeId};
 use net_graph::{Net, RouteRow};
@@ -9,6 +8,7 @@ use node_core::{MAX_CLOCK, NodeCore, Outgoing};
 use path_vector::{PvNode, Update, rows_of};
 use std::alloc::Global;
 use std::test::Fail;
+use test_nodes::{NOTHING, dest_of, is_route, node_of, route_of};
 use test_readers::network;
 
 // Begins the node and hands it the messages one after another, each with the next clock. What it sent last.

@@ -1,10 +1,10 @@
 // Tests of `stable_check`: what walks weigh, which tables are relaxed, and which are stable.
-use crate::texts::{is_value, path_of, table_of};
 use meta_base::DestId;
 use net_graph::Net;
 use stable_check::{MAX_WALK_NODES, are_nodes_of, is_relaxed, is_stable, is_table_of, weight_of};
 use std::alloc::Global;
 use std::test::Fail;
+use test_nodes::{is_value, path_of, table_of};
 use test_readers::network;
 
 const WIDE_THEN_SHORT: &str = "lex(width(100; 0..100), add(1..10))";

@@ -1,5 +1,5 @@
 -- A phase, from its start to its end.
-use Rattle.std.proofs.Common.{ltb, ◌≡◌, ◌⊎◌, ℕ, zero, suc, ◌+◌, ◌-◌, ◌*◌, ◌<◌, ◌≤◌, ◌^◌, Bool, true, false, List, [], ◌∷◌, ◌++◌, Option, Some, None, slice_get, map, length, length-append, refl, sym, ap, subst, ◌∙◌, arith, inl, inr, cond}
+use Rattle.std.proofs.Common.{ltb, ◌≡◌, ℕ, zero, suc, ◌+◌, ◌*◌, ◌<◌, ◌≤◌, ◌^◌, Bool, true, false, List, [], ◌∷◌, ◌++◌, Option, Some, None, slice_get, map, length, length-append, refl, sym, ap, subst, ◌∙◌, arith, inl, inr}
 use Rattle.std.specs.Prelude.{◌==◌}
 use Rattle.std.specs.Option.{option_map}
 use Rattle.std.specs.List.{AllByRecursion}
@@ -10,7 +10,7 @@ use Rattle.meta_base.specs.declared.ids.Delivery.{Delivery}
 use Rattle.net_graph.specs.Nets.{PureNet, IsNet}
 use Rattle.net_graph.specs.declared.limits.TheConstants.{MAX_ARCS}
 use Rattle.node_core.specs.declared.node.TheConstants.{MAX_CLOCK}
-use Rattle.node_core.specs.Kinds.{Kind, IsLawful, listener}
+use Rattle.node_core.specs.Kinds.{Kind, IsLawful}
 use Rattle.node_core.specs.Machine.{Machine, AreUnbegun, Start, Drained, Ordered, Replay, SentIn, replay_from}
 use Rattle.node_core.specs.Running.{IsRunning}
 use Rattle.quiet_ledger.specs.declared.book.TheConstants.{MAX_BASE}
@@ -18,27 +18,25 @@ use Rattle.quiet_ledger.specs.declared.totals.Totals.{Totals}
 use Rattle.journal_merge.specs.declared.log.NodeLog.{NodeLog}
 use Rattle.journal_merge.specs.Merging.{AreOfDifferentNodes, ClocksAscend, IsMerged}
 use Rattle.woven_laws.specs.Histories.{Taken, entry_of, put_out, option_out, option_behind}
-use Rattle.woven_laws.specs.HistoryLaws.{option_out_join, woven_same, woven_then, out_none}
+use Rattle.woven_laws.specs.HistoryLaws.{option_out_join, woven_same, woven_then}
 use Rattle.woven_laws.specs.Woven.{Woven, IsMergeOf}
 use Rattle.woven_laws.specs.Counts.{total, sent_by_all, taken_by_all, waiting_on}
-use Rattle.woven_laws.specs.CountLaws.{total_same, total_plus, total_zero}
+use Rattle.woven_laws.specs.CountLaws.{total_same, total_plus}
 use Rattle.woven_laws.specs.MergedLogs.{logs_of, logs_mergeable, timed_ascends, merged_is, merged_count}
 use Rattle.weave.specs.Views.{View}
 use Rattle.weave.specs.Gathered.{block_of, machine_across, AreGathered}
 use Rattle.weave.specs.Rounds.{IsRound, HasCome, IsOver}
-use Rattle.weave.specs.Phases.{IsPhase, IsPhaseEnd}
+use Rattle.weave.specs.Phases.{IsPhaseEnd}
 use Rattle.weave.proofs.Runs.{map_join, none_sent, none_taken}
 use Rattle.weave.proofs.Working.{few_sent}
-use Rattle.weave.specs.Apart.{log_across, logs_across, AreThere, AreNodesOf}
+use Rattle.weave.specs.Apart.{logs_across, AreThere, AreNodesOf}
 use Rattle.weave.specs.Dealt.{IsDealt}
 use Rattle.node_core.specs.Configs.{waits_on}
-use Rattle.node_core.specs.Kinds.{on_arc}
-use Rattle.node_core.specs.Machine.{begun_messages}
 use Rattle.std.specs.List.{range_with_len}
 use Rattle.std.specs.declared.collections.VecDeque.{VecDeque}
 use Rattle.std.specs.declared.alloc.Global.{Global}
 use Rattle.std.proofs.lemmas.List.{length-map}
-use Rattle.std.proofs.lemmas.Option.{slice_get_past, slice_get-map}
+use Rattle.std.proofs.lemmas.Option.{slice_get_past}
 use Rattle.weave.proofs.Round.{total_below, woven_runs, none_waiting, drained_waits, begun_link_few}
 
 module _ {S M : Type 0} (k : Kind S M) (lawful : IsLawful k) (net : PureNet) (is_net : IsNet net) (count turns : ℕ) where

@@ -1,5 +1,5 @@
 -- What stands at a place of a list, before and after something was put there.
-use Rattle.std.proofs.Common.{◌≡◌, ◌≢◌, ℕ, zero, suc, ◌<◌, ◌≤◌, ◌==◌, Bool, true, false, cond, List, [], ◌∷◌, ◌++◌, Option, Some, None, map, slice_get, slice_set, length, refl, sym, ap, subst, ◌∙◌}
+use Rattle.std.proofs.Common.{◌≡◌, ◌≢◌, ℕ, zero, suc, ◌≤◌, ◌==◌, false, cond, List, [], ◌∷◌, ◌++◌, Some, map, slice_get, slice_set, length, refl, sym, ap, subst, ◌∙◌}
 use Rattle.std.proofs.lemmas.Bool.{eqb-true, eqb-false, false_from_ne_true}
 use Rattle.std.proofs.lemmas.Option.{slice_get_past, same_Some}
 use Rattle.node_core.specs.MachineLaws.{same_test, at_each, on_arc_join}

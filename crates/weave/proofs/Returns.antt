@@ -2,32 +2,28 @@
 use Rattle.std.proofs.Common.{◌≡◌, ℕ, zero, suc, ◌+◌, ◌*◌, ◌/◌, ◌%◌, ◌<◌, ◌≤◌, List, [], ◌∷◌, Option, Some, None, All, slice_get, slice_index_or, map, length, refl, sym, ap, subst, subst₂, ◌∙◌, arith}
 use Rattle.std.specs.Prelude.{◌==◌, false, true, Bool, cond, sum_by}
 use Rattle.std.specs.Option.{option_map}
-use Rattle.std.proofs.lemmas.Bool.{eqb-true, false_from_ne_true}
+use Rattle.std.proofs.lemmas.Bool.{eqb-true}
 use Rattle.std.proofs.lemmas.List.{length-map}
 use Rattle.std.proofs.Math.Nat.{div-add-mod}
-use Rattle.std.proofs.lemmas.Option.{same_Some, slice_get-map, slice_get_past, slice_get_within, get_or_from_slice_get}
-use Rattle.net_graph.specs.Nets.{PureNet, IsNet}
-use Rattle.net_graph.specs.declared.limits.TheConstants.{MAX_ARCS}
+use Rattle.std.proofs.lemmas.Option.{same_Some, slice_get-map, slice_get_within, get_or_from_slice_get}
+use Rattle.net_graph.specs.Nets.{PureNet}
 use Rattle.node_core.specs.declared.node.TheConstants.{MAX_CLOCK}
 use Rattle.node_core.specs.Kinds.{Kind}
-use Rattle.node_core.specs.Machine.{Machine}
 use Rattle.node_core.specs.MachineLaws.{option_from}
 use Rattle.node_core.specs.Running.{IsRunning}
 use Rattle.quiet_ledger.specs.Ledger.{sent_by, taken_by}
-use Rattle.quiet_ledger.specs.declared.book.TheConstants.{MAX_SHARE}
 use Rattle.quiet_ledger.specs.declared.book.Share.{Share}
 use Rattle.quiet_ledger.specs.declared.totals.Totals.{Totals}
-use Rattle.woven_laws.specs.Histories.{Taken}
 use Rattle.woven_laws.specs.Counts.{total, sent_by_all, taken_by_all}
 use Rattle.weave.specs.declared.block.Block.{Block}
 use Rattle.weave.specs.declared.part.Part.{Part}
-use Rattle.weave.specs.Views.{View, IsSeated, AreSeated, HasRun, IsSameView}
-use Rattle.weave.specs.Blocks.{view_of, sent_in, taken_in, IsEntered, IsFresh, IsReady, HasWorked}
-use Rattle.weave.specs.Gathered.{block_of, no_view, view_at, machine_across, AreGathered, AreLinked, AreSettled, AreEnded}
+use Rattle.weave.specs.Views.{View, IsSeated, HasRun, IsSameView}
+use Rattle.weave.specs.Blocks.{view_of, IsEntered, IsReady, HasWorked}
+use Rattle.weave.specs.Gathered.{block_of, no_view, view_at, machine_across, AreGathered, AreLinked, AreSettled}
 use Rattle.weave.specs.Rounds.{share_of, AreLent, IsRound, HasRunIn}
 use Rattle.weave.proofs.Runs.{run_same}
 use Rattle.weave.proofs.Working.{worked_then}
-use Rattle.weave.proofs.Round.{round_ended, round_sent, round_taken, round_is, round_gathered, round_logs, shares_add_up, sum_total, total_below}
+use Rattle.weave.proofs.Round.{round_sent, round_taken, round_is, round_gathered, round_logs, shares_add_up, sum_total, total_below}
 
 -- a share of the turns is no more than all of them
 whole_shares : (q r count : ℕ) → 0 < count → q + r ≤ count * q + r

@@ -1,5 +1,5 @@
 -- What a worker does with its part adds up, counts and all.
-use Rattle.std.proofs.Common.{◌≡◌, ℕ, zero, suc, ◌+◌, ◌-◌, ◌*◌, ◌<◌, ◌≤◌, List, [], ◌++◌, Some, None, length, refl, sym, ap, subst, subst₂, ◌∙◌, arith, All, slice_get, slice_set, slice_index_or}
+use Rattle.std.proofs.Common.{◌≡◌, ℕ, zero, suc, ◌+◌, ◌*◌, ◌<◌, ◌≤◌, List, [], ◌++◌, Some, length, refl, sym, ap, subst, subst₂, arith, All, slice_get, slice_set, slice_index_or}
 use Rattle.std.specs.Prelude.{◌==◌, Bool, true, false}
 use Rattle.std.proofs.lemmas.Bool.{eqb-true, eqb-false}
 use Rattle.std.proofs.lemmas.List.{get_or-set_same, get_or-set_other, length-set}
@@ -9,12 +9,10 @@ use Rattle.net_graph.specs.declared.limits.TheConstants.{MAX_ARCS}
 use Rattle.quiet_ledger.specs.declared.book.TheConstants.{MAX_SHARE}
 use Rattle.node_core.specs.Kinds.{Kind, IsLawful, on_arc, speaker}
 use Rattle.node_core.specs.MachineLaws.{at_each, speaks_within, all_mapped}
-use Rattle.std.specs.List.{AllByRecursion}
-use Rattle.woven_laws.specs.Histories.{Taken}
-use Rattle.woven_laws.specs.Counts.{total, sent_by_all, taken_by_all}
+use Rattle.woven_laws.specs.Counts.{total}
 use Rattle.woven_laws.specs.CountLaws.{on_arc_total}
 use Rattle.weave.specs.declared.part.Part.{Part}
-use Rattle.weave.specs.Views.{View, IsSeated, AreSeated, HasTaken, TakesOne, HasRun, IsSameView}
+use Rattle.weave.specs.Views.{View, AreSeated, TakesOne, IsSameView}
 use Rattle.weave.specs.Blocks.{view_of, sent_in, taken_in, IsReady, HasWorked}
 use Rattle.weave.proofs.Hearing.{same_view}
 use Rattle.weave.proofs.Runs.{run_same, run_then, sent_then, taken_then, none_sent, none_taken, one, run_taken, sent_taken, one_taken, seated_run}

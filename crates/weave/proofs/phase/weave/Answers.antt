@@ -1,5 +1,4 @@
 use Rattle.std.proofs.Common.{◌≡◌, ◌∙◌, ap, sym, subst, map, length, vec_len, refl}
-use Rattle.node_core.specs.Configs.{waits_on}
 use Rattle.node_core.specs.Machine.{Start}
 use Rattle.node_core.specs.MachineOf.{machine_of}
 use Rattle.weave.specs.Dealt.{IsDealt}

@@ -1,4 +1,4 @@
-use Rattle.std.proofs.Common.{◌≡◌, ◌+◌, ◌++◌, ◌∷◌, [], ◌∙◌, ap, sym, subst, refl, map, length, length-append, arith, slice_get, Some}
+use Rattle.std.proofs.Common.{◌≡◌, ◌++◌, ◌∷◌, [], ◌∙◌, ap, sym, subst, map, length, length-append, arith, slice_get, Some}
 use Rattle.std.proofs.lemmas.List.{map-append}
 use Rattle.weave.specs.Blocks.{IsFresh}
 use Rattle.weave.specs.Rounds.{share_of}

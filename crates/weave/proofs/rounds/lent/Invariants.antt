@@ -1,4 +1,4 @@
-use Rattle.std.proofs.Common.{◌≡◌, ◌+◌, ℕ, false, map, length, slice_get, Some, vec_len}
+use Rattle.std.proofs.Common.{◌≡◌, ◌+◌, ℕ, map, length, slice_get, Some, vec_len}
 use Rattle.std.specs.List.{AllByRecursion}
 use Rattle.quiet_ledger.specs.Ledger.{sent_by, taken_by}
 use Rattle.weave.specs.Blocks.{IsFresh}

@@ -1,12 +1,8 @@
-use Rattle.std.proofs.Common.{◌≡◌, ◌+◌, ◌<◌, ℕ, ◌∙◌, ap, sym, subst, map, length, vec_len, slice_index_or, slice_get, Some}
-use Rattle.std.specs.Prelude.{sum_by}
+use Rattle.std.proofs.Common.{◌≡◌, ◌∙◌, ap, sym, subst, length, vec_len, slice_index_or}
 use Rattle.std.proofs.lemmas.List.{length-map}
 use Rattle.std.proofs.lemmas.Option.{slice_get-get_or}
-use Rattle.quiet_ledger.specs.Ledger.{sent_by, taken_by}
 use Rattle.weave.specs.declared.part.Part.{Part}
-use Rattle.weave.specs.Blocks.{HasWorked, IsEntered}
 use Rattle.weave.specs.Gathered.{view_at, AreEnded, AreSettled}
-use Rattle.weave.specs.Rounds.{AreLent}
 use Rattle.weave.proofs.Returns.{chained, lent_ready, ran, round_done}
 use Rattle.weave.proofs.Round.{round_ended}
 use Rattle.weave.proofs.rounds.run_round.Goals as goal

@@ -1,8 +1,8 @@
 use Rattle.node_core.specs.MachineOf.{machine_of, net_of}
 use Rattle.path_vector.specs.Nodes.{state_of}
 use Rattle.path_vector.specs.Updates.{pure_update}
-use Rattle.machine_tests.proofs.Starts.{nets_are}
-use Rattle.machine_tests.proofs.machines.rows_now.Goals as goal
+use Rattle.test_nodes.specs.Starts.{nets_are}
+use Rattle.test_nodes.proofs.nodes.rows_now.Goals as goal
 
 pub rows_of-requires : goal.rows_of-requires
 rows_of-requires g c =

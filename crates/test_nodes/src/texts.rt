@@ -8,8 +8,8 @@ use std::alloc::Global;
 use std::test::Fail;
 use test_readers::value;
 
-// What stands for a list of nothing.
-pub(crate) const NOTHING: &str = "-";
+/// What stands for a list of nothing.
+pub const NOTHING: &str = "-";
 
 // The number, which the carrier needn't have, or else the value of the algebra that the text spells.
 fn value_of(alloc: Global, net: &Net, text: &str) -> Result<Value, Fail> {
@@ -19,13 +19,8 @@ fn value_of(alloc: Global, net: &Net, text: &str) -> Result<Value, Fail> {
     }
 }
 
-// Whether the value is the one that the text spells, or is none where the text is `none`.
-pub(crate) fn is_value(
-    alloc: Global,
-    net: &Net,
-    value: Option<&Value>,
-    text: &str,
-) -> Result<bool, Fail> {
+/// Whether the value is the one that the text spells, or is none where the text is `none`.
+pub fn is_value(alloc: Global, net: &Net, value: Option<&Value>, text: &str) -> Result<bool, Fail> {
     match value {
         Some(value) if text != "none" => Ok(same_value(value, &value_of(alloc, net, text)?)),
         Some(_) => Ok(false),
@@ -33,24 +28,24 @@ pub(crate) fn is_value(
     }
 }
 
-// The destination of that name, or of that number where there is no such name.
-pub(crate) fn dest_of(net: &Net, word: &str) -> Result<DestId, Fail> {
+/// The destination of that name, or of that number where there is no such name.
+pub fn dest_of(net: &Net, word: &str) -> Result<DestId, Fail> {
     match net.dest_named(word.as_bytes()) {
         Some(dest) => Ok(dest),
         None => Ok(DestId(word.parse()?)),
     }
 }
 
-// The node of that name, or of that number where there is no such name.
-pub(crate) fn node_of(net: &Net, word: &str) -> Result<NodeId, Fail> {
+/// The node of that name, or of that number where there is no such name.
+pub fn node_of(net: &Net, word: &str) -> Result<NodeId, Fail> {
     match net.node_named(word.as_bytes()) {
         Some(node) => Ok(node),
         None => Ok(NodeId(word.parse()?)),
     }
 }
 
-// The nodes of a path.
-pub(crate) fn path_of(alloc: Global, net: &Net, words: &str) -> Result<List<NodeId>, Fail> {
+/// The nodes of a path.
+pub fn path_of(alloc: Global, net: &Net, words: &str) -> Result<List<NodeId>, Fail> {
     let mut path = List::new(alloc);
     if words == NOTHING {
         return Ok(path);
@@ -61,8 +56,8 @@ pub(crate) fn path_of(alloc: Global, net: &Net, words: &str) -> Result<List<Node
     Ok(path)
 }
 
-// The route of a row.
-pub(crate) fn route_of(alloc: Global, net: &Net, row: &str) -> Result<Option<Route>, Fail> {
+/// The route of a row.
+pub fn route_of(alloc: Global, net: &Net, row: &str) -> Result<Option<Route>, Fail> {
     if row == "none" {
         return Ok(None);
     }
@@ -72,8 +67,8 @@ pub(crate) fn route_of(alloc: Global, net: &Net, row: &str) -> Result<Option<Rou
     Ok(Some(Route { value, path }))
 }
 
-// The table of the first destination with these rows.
-pub(crate) fn table_of(alloc: Global, net: &Net, rows: &str) -> Result<DestTable, Fail> {
+/// The table of the first destination with these rows.
+pub fn table_of(alloc: Global, net: &Net, rows: &str) -> Result<DestTable, Fail> {
     let dest = DestId(0);
     let mut table = List::new(alloc);
     let mut node = NodeId(0);
@@ -96,13 +91,14 @@ fn is_same_route(first: Option<&Route>, second: Option<&Route>) -> bool {
     }
 }
 
-// Whether the route is the one of the row.
-pub(crate) fn is_route(
-    alloc: Global,
-    net: &Net,
-    route: Option<&Route>,
-    row: &str,
-) -> Result<bool, Fail> {
+fn is_same_row(first: &RouteRow, second: &RouteRow) -> bool {
+    first.node == second.node
+        && first.dest == second.dest
+        && is_same_route(first.route.as_ref(), second.route.as_ref())
+}
+
+/// Whether the route is the one of the row.
+pub fn is_route(alloc: Global, net: &Net, route: Option<&Route>, row: &str) -> Result<bool, Fail> {
     let expected = route_of(alloc, net, row)?;
     Ok(is_same_route(route, expected.as_ref()))
 }
@@ -113,13 +109,18 @@ fn stands_at(row: &RouteRow, net: &Net, place: usize) -> bool {
     count > 0 && row.node.0 as usize == place % count && row.dest.0 as usize == place / count
 }
 
-// Whether the rows are all those of the text.
-pub(crate) fn are_rows(
-    alloc: Global,
-    net: &Net,
-    found: &[RouteRow],
-    rows: &str,
-) -> Result<bool, Fail> {
+/// Whether the rows are the same, in the same order.
+pub fn are_same_rows(first: &[RouteRow], second: &[RouteRow]) -> bool {
+    for place in 0..first.len() {
+        if place >= second.len() || !is_same_row(&first[place], &second[place]) {
+            return false;
+        }
+    }
+    first.len() == second.len()
+}
+
+/// Whether the rows are all those of the text.
+pub fn are_rows(alloc: Global, net: &Net, found: &[RouteRow], rows: &str) -> Result<bool, Fail> {
     let mut place = 0;
     for row in rows.split(" / ") {
         if place >= found.len() {

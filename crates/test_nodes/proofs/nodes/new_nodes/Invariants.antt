@@ -2,7 +2,7 @@ use Rattle.std.proofs.Common.{◌≡◌, map}
 use Rattle.std.specs.List.{range_with_len}
 use Rattle.path_vector.specs.Node.{new_node}
 use Rattle.path_vector.specs.Nodes.{state_of}
-use Rattle.machine_tests.proofs.machines.new_nodes.Given as goal
+use Rattle.test_nodes.proofs.nodes.new_nodes.Given as goal
 
 -- the nodes so far are new
 abbrev pub invariant-loop-number : goal.invariant-loop-number

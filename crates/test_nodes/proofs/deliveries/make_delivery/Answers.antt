@@ -1,11 +1,11 @@
 use Rattle.std.proofs.Common.{ap, Ok, ◌∙◌}
 use Rattle.node_core.specs.MachineOf.{machine_of, net_of}
-use Rattle.machine_tests.proofs.Steps.{answered_up_to}
-use Rattle.machine_tests.proofs.machines.makes_step.Goals as goal
+use Rattle.test_nodes.proofs.Steps.{answered_up_to}
+use Rattle.test_nodes.proofs.deliveries.make_delivery.Goals as goal
 
 pub returns-clause-begun : goal.returns-clause-begun
 returns-clause-begun g c =
     let then = c.args.config.now in
     let machine = machine_of g.N.NodeCore.state g.N.NodeCore.note in
-    answered_up_to g.N.NodeCore.kind g.met.N.NodeCore.lawful (net_of then) (machine then) (machine c.deliver.new.self) c.args.step.now.arc.0 c.args.made c.in_ok-answer.answer c.requires.begun
+    answered_up_to g.N.NodeCore.kind g.met.N.NodeCore.lawful (net_of then) (machine then) (machine c.deliver.new.self) c.args.arc.0 c.args.made c.in_ok-answer.answer c.requires.begun
     (λ e. c.deliver.ensures.taken (c.in_ok-answer.was ∙ ap Ok e)) (λ e. c.deliver.ensures.unchanged (c.in_ok-answer.was ∙ ap Ok e))

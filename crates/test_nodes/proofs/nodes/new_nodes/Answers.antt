@@ -5,8 +5,8 @@ use Rattle.std.proofs.lemmas.List.FromFn.{map-range_with_len_more}
 use Rattle.node_core.specs.Machine.{AreUnbegun}
 use Rattle.path_vector.specs.Node.{new_node, path_vector}
 use Rattle.path_vector.specs.Nodes.{state_of}
-use Rattle.machine_tests.proofs.Starts.{new_are_unbegun}
-use Rattle.machine_tests.proofs.machines.new_nodes.Goals as goal
+use Rattle.test_nodes.specs.Starts.{new_are_unbegun}
+use Rattle.test_nodes.proofs.nodes.new_nodes.Goals as goal
 
 pub loop-number-preserved : goal.loop-number-preserved
 loop-number-preserved g c =

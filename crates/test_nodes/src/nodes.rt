@@ -1,0 +1,41 @@
+ghost use Rattle.std.specs.Prelude.{◌≡◌, IfOk, map};
+ghost use Rattle.node_core.specs.Machine.{AreUnbegun};
+ghost use Rattle.node_core.specs.MachineOf.{machine_of, net_of};
+ghost use Rattle.node_core.specs.Running.{IsRunning};
+ghost use Rattle.path_vector.specs.Node.{path_vector};
+ghost use Rattle.path_vector.specs.Nodes.{state_of};
+ghost use Rattle.path_vector.specs.Updates.{pure_update};
+
+use alg_model::Algebra;
+use meta_base::{List, NoMemory, NodeId};
+use net_graph::{Net, RouteRow};
+use node_core::Config;
+use path_vector::{PvNode, rows_of};
+use std::alloc::Global;
+
+/// The new path-vector nodes of a network, in order. The algebra is the network's.
+pub fn new_nodes<'a, A: Algebra>(
+    alloc: Global,
+    algebra: &'a A,
+    net: &'a Net,
+) -> Result<List<PvNode<'a, A>>, NoMemory>
+    requires { A.expression algebra.now ≡ net.now.alg.expression }
+    ensures { IfOk result (λ nodes. AreUnbegun path_vector net.now 0 (map state_of nodes)) }
+{
+    let count = net.node_count();
+    let mut nodes = Vec::with_capacity(alloc, count)?;
+    for number in 0..count {
+        nodes.push(PvNode::new(alloc, algebra, net, NodeId(number as u32))?)?;
+    }
+    Ok(List::from_vec(nodes))
+}
+
+/// The rows of the machine's nodes as they are now.
+pub fn rows_now<A: Algebra>(
+    alloc: Global,
+    config: &Config<'_, PvNode<'_, A>>,
+) -> Result<List<RouteRow>, NoMemory>
+    requires { IsRunning path_vector (net_of config.now) (machine_of state_of pure_update config.now) }
+{
+    rows_of(alloc, config.nodes())
+}

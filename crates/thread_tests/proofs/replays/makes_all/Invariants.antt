@@ -1,0 +1,12 @@
+use Rattle.node_core.specs.MachineOf.{machine_of, net_of}
+use Rattle.node_core.specs.Running.{AreUpTo, IsRunning}
+use Rattle.thread_tests.proofs.replays.makes_all.Given as goal
+
+-- the machine still runs, behind so many deliveries
+abbrev pub invariant-loop-delivery : goal.invariant-loop-delivery
+invariant-loop-delivery g l =
+    let machine = machine_of g.N.NodeCore.state g.N.NodeCore.note l.config in
+    record {
+      running : IsRunning g.N.NodeCore.kind (net_of l.config) machine;
+      begun : AreUpTo g.N.NodeCore.kind machine l.made;
+    }
