@@ -10,6 +10,7 @@ use meta_base::{NoMemory, OpenGate, Text, put_all};
 use metacli::{run_meta, status};
 use std::process::ExitCode;
 use std::rt::{Env, Files};
+use std::sync::Wait;
 use std::thread::Threads;
 use std::{env, io};
 
@@ -43,7 +44,7 @@ fn read_args<R: AllocGlobal + Env>(rt: &R) -> Result<Vec<Text>, WordsError> {
 }
 
 // Carries the words out over the system's files, and answers the status.
-fn carry_out<R: AllocGlobal + Files + Print + Threads + Sync>(
+fn carry_out<R: AllocGlobal + Files + Print + Threads + Wait + Sync>(
     rt: &R,
     words: &[Text],
     out: &mut OutSink<'_, R>,
@@ -65,7 +66,7 @@ fn refuse_words<R: Print>(out: &mut OutSink<'_, R>) -> u8 {
 }
 
 // What the program does, and the status that it ends with.
-fn run<R: AllocGlobal + Env + Files + Print + Threads + Sync>(rt: &R) -> u8 {
+fn run<R: AllocGlobal + Env + Files + Print + Threads + Wait + Sync>(rt: &R) -> u8 {
     let mut out = OutSink::new(rt);
     match read_args(rt) {
         Ok(words) => carry_out(rt, &words, &mut out),

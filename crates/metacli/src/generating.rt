@@ -16,20 +16,30 @@ use net_gen::{
     generated_texts_are_networks, generated_texts_are_never_refused, generated_texts_are_short,
     network_text,
 };
-use std::alloc::Global;
+use std::alloc::{AllocGlobal, Global};
+use std::sync::Wait;
+use std::thread::Threads;
 use topology_file::{NetError, NetFile, read_net};
 use vector_runs::Phase;
 
 // How many deliveries the nodes of a generated network may make.
 const DEMO_TURNS: u64 = 100_000;
 
+// By how many workers they are run.
+const DEMO_WORKERS: u32 = 4;
+
 /// What `demo` comes to with this seed and so many nodes.
-pub fn demo<G: Gate>(alloc: Global, seed: u64, nodes: u32, gate: &G) -> Outcome
+pub fn demo<R: AllocGlobal + Threads + Wait + Sync, G: Gate>(
+    rt: &R,
+    seed: u64,
+    nodes: u32,
+    gate: &G,
+) -> Outcome
     requires { AreDemoNodes nodes }
     ensures shown { IsShownAs seed nodes (pure_outcome result) }
     ensures printable { CanBeWritten result }
 {
-    match run_generated(alloc, seed, nodes, gate) {
+    match run_generated(rt, seed, nodes, gate) {
         Ok((alg, file, last, is_quiet)) => Outcome::Shown {
             alg,
             file,
@@ -41,8 +51,8 @@ pub fn demo<G: Gate>(alloc: Global, seed: u64, nodes: u32, gate: &G) -> Outcome
 }
 
 // The generated network, and the phase that its nodes run, with whether it is quiet.
-fn run_generated<G: Gate>(
-    alloc: Global,
+fn run_generated<R: AllocGlobal + Threads + Wait + Sync, G: Gate>(
+    rt: &R,
     seed: u64,
     nodes: u32,
     gate: &G,
@@ -53,8 +63,8 @@ fn run_generated<G: Gate>(
     ensures run { IfOk result (λ made. IsRunAlone made.1.net (pure_phase made.2) made.3) }
 {
     let alg = demo_algebra();
-    let file = generated(alloc, demo_algebra(), seed, nodes)?;
-    let (changed, run) = run_through(alloc, &file, DEMO_TURNS, gate)?;
+    let file = generated(rt.alloc(), demo_algebra(), seed, nodes)?;
+    let (changed, run) = run_through(rt, &file, DEMO_WORKERS, DEMO_TURNS, gate)?;
     drop(changed);
     Ok((alg, file, run.last, run.is_quiet))
 }

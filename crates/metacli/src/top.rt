@@ -15,6 +15,7 @@ use crate::{Command, Ended, read_words};
 use meta_base::{Gate, Shelf, Sink, Text};
 use raml_syntax::{no_fault_beside_an_algebra, one_text_one_algebra, one_text_one_fault};
 use std::alloc::{AllocGlobal, Global};
+use std::sync::Wait;
 use std::thread::Threads;
 use topology_file::one_text_one_network;
 
@@ -27,7 +28,7 @@ const SETTLE_WORKERS: u32 = 1;
 /// What comes back says all that was read, decided and answered, and the bytes written are the text of
 /// that. Each refusal has its cause, and where the words mean a command, the file is in the grammar
 /// and no fault came, the command is carried out unless memory is refused.
-pub fn run_meta<R: AllocGlobal + Threads + Sync, S: Shelf, K: Sink, G: Gate>(
+pub fn run_meta<R: AllocGlobal + Threads + Wait + Sync, S: Shelf, K: Sink, G: Gate>(
     rt: &R,
     words: &[Text],
     shelf: &mut S,
@@ -48,7 +49,7 @@ pub fn run_meta<R: AllocGlobal + Threads + Sync, S: Shelf, K: Sink, G: Gate>(
 }
 
 // The command of the words, and what it comes to.
-fn decide<R: AllocGlobal + Threads + Sync, S: Shelf, G: Gate>(
+fn decide<R: AllocGlobal + Threads + Wait + Sync, S: Shelf, G: Gate>(
     rt: &R,
     words: &[Text],
     shelf: &mut S,
@@ -87,13 +88,14 @@ fn decide<R: AllocGlobal + Threads + Sync, S: Shelf, G: Gate>(
         Command::Run {
             file,
             net,
+            workers,
             turns,
-            ..
         } => run_files(
-            alloc,
+            rt,
             shelf,
             name_at(words, file),
             name_at(words, net),
+            workers,
             turns,
             false,
             gate,
@@ -101,18 +103,19 @@ fn decide<R: AllocGlobal + Threads + Sync, S: Shelf, G: Gate>(
         Command::Trace {
             file,
             net,
+            workers,
             turns,
-            ..
         } => run_files(
-            alloc,
+            rt,
             shelf,
             name_at(words, file),
             name_at(words, net),
+            workers,
             turns,
             true,
             gate,
         ),
-        Command::Demo { seed, nodes } => demo(alloc, seed, nodes, gate),
+        Command::Demo { seed, nodes } => demo(rt, seed, nodes, gate),
     };
     (Some(command), outcome)
 }
@@ -184,27 +187,30 @@ fn route_files<R: AllocGlobal + Threads + Sync, S: Shelf>(
     }
 }
 
-// What `run` or `trace` comes to on the files of these names, with so many turns.
-fn run_files<S: Shelf, G: Gate>(
-    alloc: Global,
+// What `run` or `trace` comes to on the files of these names, with so many workers and turns.
+fn run_files<R: AllocGlobal + Threads + Wait + Sync, S: Shelf, G: Gate>(
+    rt: &R,
     shelf: &mut S,
     file: &str,
     net: &str,
+    workers: u32,
     turns: u64,
     is_traced: bool,
     gate: &G,
 ) -> Outcome
-    requires { AreTurns turns }
+    requires workers { AreWorkers workers }
+    requires turns { AreTurns turns }
     ensures ran { IsRunOn is_traced turns file.now net.now (S.now_is shelf.old) (S.now_is shelf.new)
         (pure_outcome result) }
     ensures printable { CanBeWritten result }
 {
+    let alloc = rt.alloc();
     let alg = match read_expression(alloc, shelf, file) {
         Ok(alg) => alg,
         Err(stop) => return Outcome::refused(stop),
     };
     match read_network(alloc, shelf, &alg, net) {
-        Ok(file) => run(alloc, alg, file, turns, is_traced, gate),
+        Ok(file) => run(rt, alg, file, workers, turns, is_traced, gate),
         Err(stop) => Outcome::Stopped {
             alg: Some(alg),
             file: None,

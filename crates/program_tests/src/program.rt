@@ -5,6 +5,7 @@ use meta_base::{
 use metacli::{Command, read_words, run_meta, status};
 use std::alloc::Global;
 use std::str;
+use std::sync::Wait;
 use std::test::Fail;
 use std::thread::Threads;
 
@@ -43,7 +44,7 @@ fn list_of<T: Copy>(alloc: Global, items: &[T]) -> Result<List<T>, NoMemory> {
 
 // The status of a run. It promises nothing of what was taken, so tests are quick to prove.
 fn status_of_run<S: Shelf, K: Sink>(
-    rt: &(impl AllocGlobal + Threads + Sync),
+    rt: &(impl AllocGlobal + Threads + Wait + Sync),
     words: &[Text],
     shelf: &mut S,
     out: &mut K,
@@ -56,7 +57,7 @@ fn status_of_run<S: Shelf, K: Sink>(
 
 // A run of these words.
 fn run_around(
-    rt: &(impl AllocGlobal + Threads + Sync),
+    rt: &(impl AllocGlobal + Threads + Wait + Sync),
     words: &[&str],
     around: Around,
 ) -> Result<Outcome, Fail> {
@@ -86,7 +87,7 @@ fn run_around(
 
 // A run of these words without a fault.
 fn run(
-    rt: &(impl AllocGlobal + Threads + Sync),
+    rt: &(impl AllocGlobal + Threads + Wait + Sync),
     words: &[&str],
     file: &[u8],
 ) -> Result<Outcome, Fail> {
@@ -95,7 +96,7 @@ fn run(
 
 /// The same with a network.
 pub fn run_on(
-    rt: &(impl AllocGlobal + Threads + Sync),
+    rt: &(impl AllocGlobal + Threads + Wait + Sync),
     words: &[&str],
     file: &[u8],
     net: &[u8],
@@ -400,7 +401,7 @@ fn long_files(rt: HostRuntime) -> Result<(), Fail> {
 
 // A run of `check` on the file of this name, where that call of the shelf fails.
 fn run_failing(
-    rt: &(impl AllocGlobal + Threads + Sync),
+    rt: &(impl AllocGlobal + Threads + Wait + Sync),
     name: &str,
     call: u64,
 ) -> Result<Outcome, Fail> {

@@ -5,6 +5,7 @@ use meta_base::NoMemory;
 use std::alloc::{AllocGlobal, Global};
 use std::fmt::Write;
 use std::str;
+use std::sync::Wait;
 use std::test::Fail;
 use std::thread::Threads;
 
@@ -306,7 +307,7 @@ fn line_of(
 
 // Whether the program's routes on the drawn network have the values of the plain program.
 fn agrees(
-    rt: &(impl AllocGlobal + Threads + Sync),
+    rt: &(impl AllocGlobal + Threads + Wait + Sync),
     policy: Policy,
     draw: &mut Draw,
 ) -> Result<bool, Fail> {

@@ -1,10 +1,62 @@
-// Tests of `run` and `trace`: rows, deliveries and ends that are told by hand.
-use crate::program::{BAD_GADGET, ended_with, run_on};
+// Tests of `run` and `trace`: rows, deliveries and ends that are told by hand, and that hold whatever is delivered
+// first, so for any number of workers.
+use crate::program::{BAD_GADGET, CUSTOMERS, Outcome, ended_with, run_on};
+use crate::settled::{DIAMOND, PROVIDERS, SHORTEST, UNHEARD, WIDE_THEN_SHORT};
+use std::str;
 use std::test::Fail;
 
-const SHORTEST: &[u8] = b"main add(1..10);";
+const WORKERS: [&str; 4] = ["1", "2", "4", "16"];
+
+const HOPS: &[u8] = b"main add(1..1);";
 
 const PAIR: &[u8] = b"node a b\nlink a b : 3\norigin x at b : 0\n";
+
+const PAIR_RUN: &[u8] = b"a x 3 a b\nb x 0 b\nquiet 1\n";
+
+// What a tells b is b's own way, which b refuses.
+const BOTH_WAYS: &[u8] = b"node a b\nboth a b : 3\norigin x at b : 0\n";
+
+const BOTH_WAYS_RUN: &[u8] = b"a x 3 a b\nb x 0 b\nquiet 2\n";
+
+const BOTH_WAYS_TRACE: &[u8] = b"1 a b\n2 b a\na x 3 a b\nb x 0 b\nquiet 2\n";
+
+const BOTH_WAYS_SPENT: &[u8] = b"a x 3 a b\nb x 0 b\nspent 1\n";
+
+const BOTH_WAYS_UNHEARD: &[u8] = b"a x none\nb x 0 b\nspent 0\n";
+
+const PROVIDERS_RUN: &[u8] = b"u x (p,2) u v w\nv x (c,1) v w\nw x (c,0) w\nquiet 2\n";
+
+// Where b hears of c first, it tells a twice.
+const UNHEARD_RUN: &[u8] =
+    b"a x (5,8) a b d\nb x (10,7) b d\nc x (6,1) c d\nd x (100,0) d\nquiet 4\n";
+
+const UNHEARD_LONGER: &[u8] =
+    b"a x (5,8) a b d\nb x (10,7) b d\nc x (6,1) c d\nd x (100,0) d\nquiet 5\n";
+
+const DIAMOND_RUN: &[u8] = b"a x 2 a b d\nb x 1 b d\nc x 1 c d\nd x 0 d\nquiet 4\n";
+
+// Which of its neighbours a hears first is free.
+const DIAMOND_BY_B: &[u8] = b"1 b d
+1 c d
+2 a b
+3 a c
+a x 2 a b d
+b x 1 b d
+c x 1 c d
+d x 0 d
+quiet 4
+";
+
+const DIAMOND_BY_C: &[u8] = b"1 b d
+1 c d
+2 a c
+3 a b
+a x 2 a b d
+b x 1 b d
+c x 1 c d
+d x 0 d
+quiet 4
+";
 
 const TRIANGLE: &[u8] = b"node a b c
 link a b : 1
@@ -52,7 +104,24 @@ b y 4 b a
 quiet 3
 ";
 
-// What is left of two turns are not enough for the second phase.
+const BACK_TRACE: &[u8] = b"1 a b
+a x 3 a b
+b x 0 b
+a y 0 a
+b y none
+quiet 1
+phase 1
+1 b a
+2 b a
+3 a b
+a x 3 a b
+b x 0 b
+a y 0 a
+b y 4 b a
+quiet 3
+";
+
+// What are left of two turns are not enough for the second phase.
 const BACK_SPENT: &[u8] = b"a x 3 a b
 b x 0 b
 a y 0 a
@@ -92,49 +161,90 @@ c x 0 c
 quiet 4
 ";
 
+// A command and its turns, an expression and a network, what is printed, what else may be where another delivery
+// comes first (or nothing), and the status.
+type Case = (
+    &'static str,
+    &'static str,
+    &'static [u8],
+    &'static [u8],
+    &'static [u8],
+    &'static [u8],
+    u8,
+);
+
+const CASES: &[Case] = &[
+    ("run", "9", SHORTEST, PAIR, PAIR_RUN, b"", 0),
+    ("run", "9", SHORTEST, BOTH_WAYS, BOTH_WAYS_RUN, b"", 0),
+    ("trace", "9", SHORTEST, BOTH_WAYS, BOTH_WAYS_TRACE, b"", 0),
+    ("run", "1", SHORTEST, BOTH_WAYS, BOTH_WAYS_SPENT, b"", 4),
+    ("run", "0", SHORTEST, BOTH_WAYS, BOTH_WAYS_UNHEARD, b"", 4),
+    ("run", "9", CUSTOMERS, PROVIDERS, PROVIDERS_RUN, b"", 0),
+    (
+        "run",
+        "9",
+        WIDE_THEN_SHORT,
+        UNHEARD,
+        UNHEARD_RUN,
+        UNHEARD_LONGER,
+        0,
+    ),
+    ("run", "9", HOPS, DIAMOND, DIAMOND_RUN, b"", 0),
+    ("trace", "9", HOPS, DIAMOND, DIAMOND_BY_B, DIAMOND_BY_C, 0),
+    ("run", "9", HOPS, b"", b"quiet 0\n", b"", 0),
+    ("run", "9", HOPS, b"node a\n", b"quiet 0\n", b"", 0),
+    (
+        "run",
+        "9",
+        HOPS,
+        b"node a\norigin x at a : 0\n",
+        b"a x 0 a\nquiet 0\n",
+        b"",
+        0,
+    ),
+    ("run", "9", SHORTEST, TRIANGLE, TRIANGLE_RUN, b"", 0),
+    ("run", "9", SHORTEST, BACK, BACK_RUN, b"", 0),
+    ("trace", "9", SHORTEST, BACK, BACK_TRACE, b"", 0),
+    // Just enough turns, and too few.
+    ("run", "4", SHORTEST, BACK, BACK_RUN, b"", 0),
+    ("run", "2", SHORTEST, BACK, BACK_SPENT, b"", 4),
+    ("run", "19", SHORTEST, CUT, CUT_RUN, b"", 0),
+];
+
+// Whether the run wrote the one text or the other, if there is another, and ended with this status.
+fn ended_by(outcome: Outcome, text: &[u8], other: &[u8], status: u8) -> bool {
+    let taken = outcome.taken.as_slice();
+    let is_other = !other.is_empty() && taken == other;
+    (taken == text || is_other) && outcome.status == status
+}
+
 #[test]
-fn runs_end_quiet(rt: HostRuntime) -> Result<(), Fail> {
-    let cases: &[(&[u8], &[u8])] = &[
-        (b"", b"quiet 0\n"),
-        (b"node a\n", b"quiet 0\n"),
-        (PAIR, b"a x 3 a b\nb x 0 b\nquiet 1\n"),
-        (TRIANGLE, TRIANGLE_RUN),
-        (BACK, BACK_RUN),
-        (CUT, CUT_RUN),
-    ];
-    for (net, text) in cases {
-        for workers in ["1", "4"] {
-            let words = ["run", "f", "n", "--workers", workers];
-            assert!(rt; ended_with(run_on(&rt, &words, SHORTEST, *net)?, *text, 0));
+fn any_workers_come_to_these_ends(rt: HostRuntime) -> Result<(), Fail> {
+    for (command, turns, file, net, text, other, status) in CASES {
+        for workers in WORKERS {
+            let words = [*command, "f", "n", "--turns", *turns, "--workers", workers];
+            let outcome = run_on(&rt, &words, *file, *net)?;
+            assert!(rt;
+                ended_by(outcome, *text, *other, *status),
+                "{command} with {turns} turns by {workers}: {text:?}"
+            );
         }
     }
     Ok(())
 }
 
+// Where no flag is given, there are workers and turns enough.
 #[test]
-fn turns_are_used_up(rt: HostRuntime) -> Result<(), Fail> {
-    let cases: &[(&[u8], &str, &[u8])] = &[
-        (PAIR, "0", b"a x none\nb x 0 b\nspent 0\n"),
-        (BACK, "2", BACK_SPENT),
+fn flags_may_be_left_out(rt: HostRuntime) -> Result<(), Fail> {
+    let cases: &[(&str, &[u8], &[u8])] = &[
+        ("run", BOTH_WAYS, BOTH_WAYS_RUN),
+        ("trace", BOTH_WAYS, BOTH_WAYS_TRACE),
+        ("run", CUT, CUT_RUN),
     ];
-    for (net, turns, text) in cases {
-        let words = ["run", "--turns", turns, "f", "n"];
-        assert!(rt; ended_with(run_on(&rt, &words, SHORTEST, *net)?, *text, 4));
+    for (command, net, text) in cases {
+        let outcome = run_on(&rt, &[*command, "f", "n"], SHORTEST, *net)?;
+        assert!(rt; ended_with(outcome, *text, 0));
     }
-    Ok(())
-}
-
-#[test]
-fn just_enough_turns_are_enough(rt: HostRuntime) -> Result<(), Fail> {
-    let words = ["run", "f", "n", "--turns", "4"];
-    assert!(rt; ended_with(run_on(&rt, &words, SHORTEST, BACK)?, BACK_RUN, 0));
-    Ok(())
-}
-
-#[test]
-fn deliveries_are_traced(rt: HostRuntime) -> Result<(), Fail> {
-    let text = b"1 a b\na x 3 a b\nb x 0 b\nquiet 1\n";
-    assert!(rt; ended_with(run_on(&rt, &["trace", "f", "n"], SHORTEST, PAIR)?, text, 0));
     Ok(())
 }
 
@@ -151,8 +261,50 @@ origin x at z : o
 
 #[test]
 fn bad_gadgets_use_all_turns(rt: HostRuntime) -> Result<(), Fail> {
-    let outcome = run_on(&rt, &["run", "f", "n", "--turns", "50"], BAD_GADGET, GADGET)?;
-    assert!(rt; outcome.taken.as_slice().ends_with(b"spent 50\n"));
-    assert!(rt; outcome.status == 4);
+    for workers in ["1", "2", "3", "4", "16"] {
+        let words = ["run", "f", "n", "--turns", "50", "--workers", workers];
+        let outcome = run_on(&rt, &words, BAD_GADGET, GADGET)?;
+        assert!(rt;
+            outcome.taken.as_slice().ends_with(b"spent 50\n"),
+            "by {workers}"
+        );
+        assert!(rt; outcome.status == 4, "by {workers}");
+    }
+    Ok(())
+}
+
+// Each of p and q likes the way by the other one best. So there are two stable tables, and the nodes may never come
+// to either.
+const DISAGREE: &[u8] = b"node z p q
+link p z : D
+link q z : D
+link p q : N
+link q p : N
+origin x at z : o
+";
+
+// Whether the text is one of the stable tables, and how many deliveries led there.
+fn is_agreement(text: &str) -> bool {
+    for rows in [
+        "z x o z\np x a p q z\nq x d q z\nquiet ",
+        "z x o z\np x d p z\nq x a q p z\nquiet ",
+    ] {
+        if text.starts_with(rows) {
+            return text.lines().count() == 4;
+        }
+    }
+    false
+}
+
+#[test]
+fn disagreements_end_in_a_stable_table_if_at_all(rt: HostRuntime) -> Result<(), Fail> {
+    for workers in WORKERS {
+        let words = ["run", "f", "n", "--turns", "1000", "--workers", workers];
+        let outcome = run_on(&rt, &words, BAD_GADGET, DISAGREE)?;
+        let text = str::from_utf8(&outcome.taken)?;
+        let is_spent = outcome.status == 4 && text.ends_with("spent 1000\n");
+        let is_quiet = outcome.status == 0 && is_agreement(text);
+        assert!(rt; is_spent || is_quiet, "by {workers}: {text}");
+    }
     Ok(())
 }

@@ -5,14 +5,19 @@ use Rattle.std.specs.List.{AllByRecursion, range_with_len}
 use Rattle.std.proofs.lemmas.Bool.Decides.{nat_tests}
 use Rattle.std.proofs.lemmas.List.{append_assoc, append-nil, map-append}
 use Rattle.std.proofs.lemmas.Option.{slice_get_past}
-use Rattle.net_graph.specs.Nets.{PureNet}
-use Rattle.node_core.specs.Machine.{Machine, AreUnbegun}
+use Rattle.meta_base.specs.declared.ids.Delivery.{Delivery}
+use Rattle.net_graph.specs.Nets.{PureNet, IsNet}
+use Rattle.node_core.specs.Machine.{Machine, AreUnbegun, Start}
+use Rattle.node_core.specs.MachineLaws.{replay_runs, start_runs}
 use Rattle.node_core.specs.Running.{IsRunning}
 use Rattle.path_vector.specs.Coherent.{AreNodesOf}
 use Rattle.path_vector.specs.Items.{item_there}
+use Rattle.path_vector.specs.Lawful.{path_vector_is_lawful}
 use Rattle.path_vector.specs.Laws.{nodes_in_order}
-use Rattle.path_vector.specs.Node.{PvState, PureUpdate, carried, new_node, path_vector}
+use Rattle.path_vector.specs.Node.{PvState, PureUpdate, carried, new_node, node_rows, path_vector}
 use Rattle.path_vector.specs.Nodes.{PureNode, state_of}
+use Rattle.quiet_ledger.specs.declared.totals.Totals.{Totals}
+use Rattle.weave.specs.Phases.{IsPhase, IsPhaseEnd}
 use Rattle.vector_runs.specs.Runs.{AreBegun, AreLater, IsPhaseOf, IsRun, PurePhase, RunsFrom, new_nodes}
 
 -- ---- the nodes of a machine that runs
@@ -58,6 +63,30 @@ module _ (net : PureNet) (c : Machine PvState PureUpdate) (states : List PvState
 pub begun_nets : (net : PureNet) (i : ℕ) (nodes : List PureNode) → AreBegun net i (map state_of nodes) → AllByRecursion (λ (n : PureNode). n.net ≡ net) nodes
 begun_nets net i [] are = tt
 begun_nets net i (n ∷ nodes) are = (are.0, begun_nets net (i + 1) nodes are.3)
+
+-- ---- the nodes that a phase of the workers ends with
+
+module _ (net : PureNet) (is_net : IsNet net) (nodes : List PvState) (unbegun : AreUnbegun path_vector net 0 nodes) (turns : ℕ) (journal : List Delivery) (ended : List PvState) (totals : Totals) (quiet : Bool)
+    (is : IsPhaseEnd path_vector net nodes turns journal ended totals quiet) where
+  running : IsRunning path_vector net is.end
+  running =
+      replay_runs path_vector path_vector_is_lawful net is_net journal (Start path_vector nodes) is.end
+      (start_runs path_vector path_vector_is_lawful net is_net nodes unbegun) is.phase.replayed
+
+  -- they are the network's, and begun
+  pub ended_begun : AreBegun net 0 ended
+  ended_begun = states_begun net is.end ended running is.nodes_are
+
+  -- and with their rows it is a phase of a run
+  pub ended_phase : (p : PurePhase) → p.journal ≡ journal → p.rows ≡ node_rows net ended → IsPhaseOf net nodes turns p quiet ended
+  ended_phase p same rows =
+      record {
+        end = is.end;
+        phase = subst (λ es. IsPhase path_vector net nodes turns es is.end quiet) (sym same) is.phase;
+        states_are = states_are net is.end ended running is.nodes_are;
+        count = states_count net is.end ended running is.nodes_are;
+        rows_are = rows;
+      }
 
 -- ---- nodes that aren't begun
 

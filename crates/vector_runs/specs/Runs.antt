@@ -11,7 +11,7 @@ use Rattle.net_graph.specs.Views.{pure_row}
 use Rattle.node_core.specs.Machine.{Machine}
 use Rattle.path_vector.specs.Coherent.{AreNodesOf}
 use Rattle.path_vector.specs.Node.{PvState, PureUpdate, carried, new_node, node_rows, path_vector}
-use Rattle.phase_runs.specs.Phases.{IsPhase}
+use Rattle.weave.specs.Phases.{IsPhase}
 use Rattle.vector_runs.specs.declared.run.Phase.{Phase}
 
 -- the rows of a phase, by destination, then node, and its deliveries

@@ -1,5 +1,5 @@
-//! Runs of path-vector nodes through the networks of a file, phase by phase, over any algebra. It stands on
-//! `path_vector` and `phase_runs`; it reads no words and prints nothing.
+//! Runs of path-vector nodes through the networks of a file, phase by phase, on several workers, over any algebra. It
+//! stands on `path_vector` and `weave`; it reads no words and prints nothing.
 #![tactic(auto)]
 
 mod laws;

@@ -1,5 +1,5 @@
 -- One message that a node of a block takes.
-use Rattle.std.proofs.Common.{◌≡◌, ℕ, ◌+◌, max, Bool, true, false, cond, List, [], ◌∷◌, ◌++◌, Option, Some, None, map, slice_get, slice_set, option_map, refl, sym, ap, subst, ◌∙◌, append-nil}
+use Rattle.std.proofs.Common.{◌≡◌, ℕ, ◌+◌, max, Bool, true, false, cond, List, [], ◌∷◌, ◌++◌, Option, Some, map, slice_get, slice_set, option_map, refl, sym, ap, subst, ◌∙◌, append-nil}
 use Rattle.std.specs.Prelude.{◌==◌}
 use Rattle.std.proofs.lemmas.Bool.{eqb-false}
 use Rattle.meta_base.specs.declared.ids.ArcId.{ArcId}
@@ -11,7 +11,7 @@ use Rattle.node_core.specs.Machine.{changed_at}
 use Rattle.node_core.specs.MachineLaws.{same_test, at_each}
 use Rattle.weave.specs.declared.lane.Lane.{Lane}
 use Rattle.weave.specs.declared.seat.Seat.{Seat}
-use Rattle.weave.specs.Lanes.{PureLane, HasPassed, lane_of, lane_in, noted_lane}
+use Rattle.weave.specs.Lanes.{HasPassed, lane_of, lane_in, noted_lane}
 use Rattle.weave.specs.Views.{View, IsSeated, AreSeated, HasTaken, IsSameView}
 use Rattle.weave.specs.Blocks.{flat, clock_in, log_in, view_over}
 use Rattle.weave.proofs.Passing.{passed_by, passed_then, passed_noted}

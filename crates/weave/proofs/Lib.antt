@@ -3,3 +3,10 @@ mod Places
 mod Hearing
 mod Runs
 mod Working
+mod Changing
+mod Linking
+mod Deals
+mod Parting
+mod Round
+mod Returns
+mod Ending

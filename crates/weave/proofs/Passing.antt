@@ -1,5 +1,5 @@
 -- What passes on an arc, one stretch after another.
-use Rattle.std.proofs.Common.{◌≡◌, ℕ, List, [], ◌∷◌, ◌++◌, refl, sym, ap, subst, ◌∙◌, map, append_assoc, append-nil}
+use Rattle.std.proofs.Common.{◌≡◌, List, [], ◌∷◌, ◌++◌, refl, sym, ap, subst, ◌∙◌, map, append_assoc, append-nil}
 use Rattle.weave.specs.Lanes.{PureLane, elsewhere, inside, coming, going, HasPassed, noted_lane}
 
 module _ {M : Type 0} where

@@ -1,7 +1,7 @@
 -- What stands at a place of a list, before and after something was put there.
-use Rattle.std.proofs.Common.{◌≡◌, ◌≢◌, ℕ, zero, suc, ◌<◌, ◌≤◌, ◌==◌, Bool, true, false, cond, List, [], ◌∷◌, ◌++◌, Option, Some, None, map, slice_get, slice_set, length, refl, sym, ap, subst, ◌∙◌}
+use Rattle.std.proofs.Common.{◌≡◌, ◌≢◌, ℕ, zero, suc, ◌≤◌, ◌==◌, false, cond, List, [], ◌∷◌, ◌++◌, Some, map, slice_get, slice_set, length, refl, sym, ap, subst, ◌∙◌}
 use Rattle.std.proofs.lemmas.Bool.{eqb-true, eqb-false, false_from_ne_true}
-use Rattle.std.proofs.lemmas.Option.{slice_get_past}
+use Rattle.std.proofs.lemmas.Option.{slice_get_past, same_Some}
 use Rattle.node_core.specs.MachineLaws.{same_test, at_each, on_arc_join}
 use Rattle.weave.specs.declared.lane.Lane.{Lane}
 use Rattle.weave.specs.Lanes.{PureLane, HasPassed, lane_of, lane_in}
@@ -67,3 +67,10 @@ module _ {M : Type 0} where
       let joined : on_arc b (map numbered (sent ++ p ∷ [])) ≡ on_arc b (map numbered sent) ++ cond (p.0.0 == b) (p.1 ∷ []) [] =
       ap (on_arc b) (map-append numbered sent (p ∷ [])) ∙ on_arc_join b (map numbered sent) (map numbered (p ∷ [])) in
       rw joined (passed_then old mid new (on_arc b (map numbered sent)) [] (cond (p.0.0 == b) (p.1 ∷ []) []) [] first last)
+
+-- what holds of each item with its place holds of one more behind them
+pub each_pushed : {X : Type 0} (P : ℕ → X → Type 0) (xs : List X) (x : X) → ((w : ℕ) (y : X) → slice_get xs w ≡ Some y → P w y) → P (length xs) x → (w : ℕ) (y : X) → slice_get (xs ++ x ∷ []) w ≡ Some y → P w y
+each_pushed P [] x before last zero y e = subst (P 0) (same_Some _ _ e) last
+each_pushed P [] x before last (suc w) y e = absurd (cc)
+each_pushed P (z ∷ xs) x before last zero y e = before 0 y e
+each_pushed P (z ∷ xs) x before last (suc w) y e = each_pushed (λ n. P (suc n)) xs x (λ n. before (suc n)) last w y e

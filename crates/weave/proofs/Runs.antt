@@ -1,5 +1,5 @@
 -- What a worker does with its block adds up.
-use Rattle.std.proofs.Common.{◌≡◌, ℕ, zero, suc, ◌+◌, ◌<◌, ◌≤◌, Bool, true, false, cond, max, length-append, List, [], ◌∷◌, ◌++◌, Option, Some, None, map, length, refl, sym, ap, subst, ◌∙◌, append_assoc, append-nil, arith, slice_get, option_map}
+use Rattle.std.proofs.Common.{◌≡◌, ℕ, zero, suc, ◌+◌, ◌<◌, Bool, true, false, cond, length-append, List, [], ◌∷◌, ◌++◌, Option, Some, None, map, length, refl, sym, ap, subst, ◌∙◌, append_assoc, append-nil, slice_get}
 use Rattle.std.specs.Prelude.{◌==◌}
 use Rattle.std.specs.List.{AllByRecursion}
 use Rattle.std.proofs.lemmas.Bool.{eqb-true, eqb-false, false_from_ne_true}
@@ -8,12 +8,11 @@ use Rattle.meta_base.specs.declared.ids.Delivery.{Delivery}
 use Rattle.net_graph.specs.Nets.{PureArc, PureNet, IsNet, IsArcOf}
 use Rattle.node_core.specs.Kinds.{Kind, IsLawful, listener, speaker, on_arc}
 use Rattle.node_core.specs.Machine.{changed_at}
-use Rattle.node_core.specs.MachineLaws.{same_test, at_each, all_join, all_mapped, on_arc_join, on_arc_none, option_from, speaks_within}
-use Rattle.woven_laws.specs.Histories.{Taken, entry_of, taken_on, clock_behind, node_behind, put_out, IsTimed, option_behind, option_out}
+use Rattle.node_core.specs.MachineLaws.{same_test, at_each, all_join, on_arc_join, on_arc_none, option_from}
+use Rattle.woven_laws.specs.Histories.{Taken, entry_of, taken_on, clock_behind, node_behind, IsTimed, option_behind, option_out}
 use Rattle.woven_laws.specs.HistoryLaws.{taken_on_join, clock_behind_join, timed_join, option_behind_join, option_out_join, behind_none, out_none}
-use Rattle.woven_laws.specs.Counts.{total, sent_by_all, taken_by_all}
+use Rattle.woven_laws.specs.Counts.{sent_by_all, taken_by_all}
 use Rattle.woven_laws.specs.CountLaws.{total_same, total_plus, total_zero, total_at}
-use Rattle.weave.specs.Lanes.{PureLane, HasPassed}
 use Rattle.weave.specs.Views.{View, IsSeated, AreSeated, HasTaken, HasRun, IsSameView}
 use Rattle.weave.proofs.Passing.{passed_then}
 

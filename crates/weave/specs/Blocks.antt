@@ -1,5 +1,5 @@
 -- A block and a worker's part, as contracts see them.
-use Rattle.std.specs.Prelude.{◌≡◌, ℕ, ◌+◌, ◌*◌, ◌≤◌, List, [], Option, Some, None, option_map, slice_get}
+use Rattle.std.specs.Prelude.{◌≡◌, false, ℕ, ◌+◌, ◌*◌, ◌≤◌, List, [], Option, Some, None, option_map, slice_get}
 use Rattle.meta_base.specs.declared.ids.Delivery.{Delivery}
 use Rattle.net_graph.specs.Nets.{PureNet}
 use Rattle.node_core.specs.Kinds.{Kind}
@@ -50,6 +50,16 @@ module _ {N M : Type 0} where
 
   abbrev pub taken_in : Part N M → ℕ
   taken_in part = taken_by part.share + part.taken
+
+  -- all that was counted is in the share
+  abbrev pub IsEntered : Part N M → Type 0
+  IsEntered part = (part.sent ≡ 0) × (part.taken ≡ 0)
+
+  -- nothing was counted yet
+  pub record IsFresh (part : Part N M) : Type 0 where
+    pub sent : sent_in part ≡ 0
+    pub taken : taken_in part ≡ 0
+    pub refused : part.refused ≡ false
 
   module _ {S W : Type 0} (state : N → S) (note : M → W) (k : Kind S W) (net : PureNet) where
     -- a worker may take the part up: its nodes are seated, and what it may come to count fits its share

@@ -1,10 +1,9 @@
 -- All blocks as they stand between the rounds of workers, and what is done with them before and after a round.
-use Rattle.std.specs.Prelude.{◌≡◌, ℕ, ◌%◌, ◌==◌, false, List, [], ◌++◌, Option, Some, None, slice_get}
+use Rattle.std.specs.Prelude.{◌≡◌, ℕ, ◌%◌, ◌==◌, false, List, [], ◌++◌, Some, None, slice_get}
 use Rattle.std.specs.Option.{option_map_or}
-use Rattle.meta_base.specs.declared.ids.Delivery.{Delivery}
 use Rattle.link_queues.specs.Links.{LinkId}
 use Rattle.net_graph.specs.Nets.{PureNet}
-use Rattle.node_core.specs.Kinds.{Kind, listener, speaker}
+use Rattle.node_core.specs.Kinds.{listener, speaker}
 use Rattle.node_core.specs.Machine.{Machine}
 use Rattle.weave.specs.declared.block.Block.{Block}
 use Rattle.weave.specs.Lanes.{PureLane, elsewhere, inside, coming, going, waits_inside}

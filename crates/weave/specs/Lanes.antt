@@ -1,5 +1,5 @@
 -- What a worker has of an arc, as contracts see it.
-use Rattle.std.specs.Prelude.{◌≡◌, ℕ, List, [], ◌++◌, Option, Some, None, map}
+use Rattle.std.specs.Prelude.{◌≡◌, List, [], ◌++◌, Option, Some, None, map}
 use Rattle.link_queues.specs.Links.{LinkId, in_link, out_link, received_on, sent_on}
 use Rattle.link_queues.specs.Locals.{waiting_of}
 use Rattle.weave.specs.declared.lane.Lane.{Lane}

@@ -3,3 +3,7 @@ pub mod Lanes
 pub mod Views
 pub mod Blocks
 pub mod Gathered
+pub mod Rounds
+pub mod Arcs
+pub mod Dealt
+pub mod Apart

@@ -1,5 +1,5 @@
 -- What a block has, as contracts see it, and what its worker makes of it.
-use Rattle.std.specs.Prelude.{◌≡◌, ℕ, ◌+◌, ◌*◌, ◌≤◌, ◌^◌, ◌==◌, max, true, List, [], ◌∷◌, ◌++◌, Option, Some, None, cond, map, option_map, slice_get, length}
+use Rattle.std.specs.Prelude.{◌≡◌, ℕ, ◌+◌, ◌==◌, max, true, List, [], ◌∷◌, ◌++◌, Option, Some, None, cond, map, length}
 use Rattle.std.specs.List.{AllByRecursion}
 use Rattle.meta_base.specs.declared.ids.Delivery.{Delivery}
 use Rattle.net_graph.specs.Nets.{PureNet}

@@ -4,10 +4,17 @@
 #![tactic(auto)]
 
 mod block;
+mod dealing;
+mod gathering;
 mod lane;
+mod links;
+mod order;
 mod part;
 mod phase;
+mod replacing;
+mod rounds;
 mod seat;
+mod seating;
 mod sending;
 mod worker;
 

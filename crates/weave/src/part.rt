@@ -1,7 +1,7 @@
 // What a worker is lent for a round, and how it counts.
 ghost use Rattle.std.specs.Prelude.{◌≡◌, OnOk};
 ghost use Rattle.net_graph.specs.Nets.{IsNet};
-ghost use Rattle.weave.specs.Blocks.{HasWorked, IsReady};
+ghost use Rattle.weave.specs.Blocks.{HasWorked, IsEntered, IsReady};
 
 use crate::block::{Block, step};
 use crate::sending::flush_all;
@@ -56,6 +56,7 @@ pub(crate) fn commit<N: NodeCore, R: Wait>(rt: &R, part: &mut Part<N>, net: &Net
     requires ready { IsReady N.state N.note N.kind net.now part.old }
     ensures worked { HasWorked N.state N.note N.kind net.now part.old part.new }
     ensures ready { IsReady N.state N.note N.kind net.now part.new }
+    ensures entered { IsEntered part.new }
     ensures refused { part.new.refused ≡ part.old.refused }
 {
     let _net = net;
@@ -69,6 +70,7 @@ pub(crate) fn flush<N: NodeCore>(part: &mut Part<N>, net: &Net) -> Result<(), No
     requires ready { IsReady N.state N.note N.kind net.now part.old }
     ensures worked { HasWorked N.state N.note N.kind net.now part.old part.new }
     ensures ready { IsReady N.state N.note N.kind net.now part.new }
+    ensures entered { IsEntered part.old → IsEntered part.new }
     ensures refused { part.new.refused ≡ part.old.refused }
 {
     let _net = net;

@@ -1,16 +1,29 @@
-ghost use Rattle.std.specs.Prelude.{◌≡◌, ◌<◌, ◌≤◌, map, IfOk};
+ghost use Rattle.std.specs.Prelude.{◌≡◌, ◌<◌, ◌≤◌, ◌^◌, map, length, vec_len, IfOk};
+ghost use Rattle.net_graph.specs.Nets.{IsNet};
 ghost use Rattle.node_core.specs.declared.node.TheConstants.{MAX_CLOCK};
-ghost use Rattle.node_core.specs.Machine.{AreUnbegun};
+ghost use Rattle.node_core.specs.Kinds.{IsLawful};
+ghost use Rattle.node_core.specs.Machine.{AreUnbegun, Machine};
+ghost use Rattle.node_core.specs.Running.{IsRunning};
 ghost use Rattle.quiet_ledger.specs.declared.book.TheConstants.{MAX_WORKERS};
+ghost use Rattle.woven_laws.specs.Counts.{waiting_on};
+ghost use Rattle.weave.specs.Gathered.{view_at};
 ghost use Rattle.weave.specs.Phases.{IsPhaseEnd};
+ghost use Rattle.weave.specs.Rounds.{HasCome, IsOver};
 
-use meta_base::{Delivery, Gate, List, NoMemory};
+use crate::block::Block;
+use crate::dealing::{blocks_of, waiting_in};
+use crate::gathering::take_apart;
+use crate::lane::Lane;
+use crate::rounds::{Plan, run_round};
+use journal_merge::merge;
+use meta_base::{ArcId, Delivery, Gate, List, NoMemory};
 use net_graph::Net;
-use node_core::NodeCore;
+use node_core::{Config, NodeCore};
 use quiet_ledger::Totals;
 use std::alloc::Global;
 use std::sync::Wait;
 use std::thread::Threads;
+use woven_laws::{histories_count, histories_replay, replays_count};
 
 /// What a phase came to.
 #[derive(Drop)]
@@ -49,6 +62,113 @@ where
     ensures { IfOk result (λ end. IsPhaseEnd N.kind net.now (map N.state nodes) turns
         end.journal (map N.state end.nodes) end.totals end.quiet) }
 {
-    drop(nodes);
-    Err(NoMemory)
+    keeps_rules(net);
+    keeps_laws::<N>();
+    histories_replay::<N>();
+    histories_count::<N>();
+    replays_count::<N>();
+    let (nodes, links) = Config::start(alloc, net, nodes)?.into_parts();
+    let totals = Totals {
+        sent: waiting_in(&links),
+        taken: 0,
+    };
+    let blocks = blocks_of(alloc, net, nodes, links, block_count(net, workers))?;
+    let (blocks, totals) = run_rounds(rt, alloc, net, blocks, totals, workers, turns, gate)?;
+    let (nodes, logs) = take_apart(alloc, net, blocks)?;
+    let journal = merge(alloc, logs)?;
+    Ok(WeaveEnd {
+        nodes,
+        journal,
+        totals,
+        quiet: totals.sent == totals.taken,
+    })
+}
+
+// A network keeps its rules, which the caller doesn't say.
+fn keeps_rules(net: &Net)
+    ensures { IsNet net.now }
+{
+    let _edition = net.edition();
+}
+
+// What holds of every kind of node. Where threads are started, the bound itself doesn't say it.
+fn keeps_laws<N: NodeCore>()
+    ensures { IsLawful N.kind }
+{}
+
+// How many blocks the nodes are dealt to: no more than there are nodes, so that no worker has none, and one at least.
+// A node's block is the same as among so many blocks as workers.
+fn block_count(net: &Net, workers: u32) -> usize
+    requires { (0 < workers) × (workers ≤ MAX_WORKERS) }
+    ensures { (0 < result) × (result ≤ MAX_WORKERS) }
+{
+    net.node_count().clamp(1, workers as usize)
+}
+
+// Rounds, until nothing is on its way or all turns are used up.
+fn run_rounds<N: NodeCore + Send, G: Gate, R: Threads + Wait + Sync>(
+    rt: &R,
+    alloc: Global,
+    net: &Net,
+    blocks: Vec<Block<N>>,
+    totals: Totals,
+    workers: u32,
+    turns: u64,
+    gate: &G,
+) -> Result<(Vec<Block<N>>, Totals), NoMemory>
+where
+    N::Message: Send,
+    requires net { IsNet net.now }
+    requires count { (0 < vec_len blocks) × (vec_len blocks ≤ MAX_WORKERS) }
+    requires turns { turns ≤ MAX_CLOCK }
+    requires begun { (c : Machine N.State N.Note) × IsRunning N.kind net.now c × (waiting_on net.now c ≤ 2 ^ 20)
+        × HasCome N.kind net.now (vec_len blocks) turns c (view_at N.state N.note blocks.items) totals }
+    ensures count { IfOk result (λ r. vec_len r.0 ≡ vec_len blocks) }
+    ensures come { IfOk result (λ r. (c : Machine N.State N.Note)
+        → IsRunning N.kind net.now c → waiting_on net.now c ≤ 2 ^ 20
+        → HasCome N.kind net.now (vec_len blocks) turns c (view_at N.state N.note blocks.items) totals
+        → HasCome N.kind net.now (vec_len blocks) turns c (view_at N.state N.note r.0.items) r.1) }
+    ensures over { IfOk result (λ r. IsOver turns r.1) }
+{
+    keeps_laws::<N>();
+    let mut blocks = blocks;
+    let mut totals = totals;
+    let mut is_later = false;
+    for _ in rt.forever() {
+        if totals.sent == totals.taken || totals.taken == turns {
+            return Ok((blocks, totals));
+        }
+        let plan = Plan {
+            totals,
+            turns: turns - totals.taken,
+            arc: first_waiting(net, &blocks),
+            is_later,
+            workers,
+        };
+        (blocks, totals) = run_round(rt, alloc, net, blocks, plan, gate)?;
+        is_later = true;
+    }
+    Ok((blocks, totals))
+}
+
+// The first arc on which a message waits.
+fn first_waiting<N: NodeCore>(net: &Net, blocks: &[Block<N>]) -> ArcId
+    requires { 0 < length blocks.now }
+{
+    for id in 0..net.arc_count() {
+        let arc = ArcId(id as u32);
+        let block = net.arc(arc).tail.0 as usize % blocks.len();
+        if waits_on(&blocks[block].lanes, id) {
+            return arc;
+        }
+    }
+    ArcId(0)
+}
+
+// Whether a message waits on the arc of that number, inside a block.
+fn waits_on<M>(lanes: &[Lane<M>], id: usize) -> bool {
+    match lanes.get(id) {
+        Some(Lane::Inside(queue)) => queue.waiting() > 0,
+        Some(Lane::Elsewhere | Lane::From(_) | Lane::To(_)) | None => false,
+    }
 }

@@ -1,7 +1,7 @@
 // A worker's part of a round.
 ghost use Rattle.std.specs.Prelude.{◌≡◌, false, OnOk};
 ghost use Rattle.net_graph.specs.Nets.{IsNet};
-ghost use Rattle.weave.specs.Blocks.{HasWorked, IsReady};
+ghost use Rattle.weave.specs.Blocks.{HasWorked, IsEntered, IsReady};
 
 use crate::part::{Part, commit, flush, turn};
 use meta_base::{Gate, NoMemory};
@@ -98,6 +98,7 @@ fn stretch<N: NodeCore, G: Gate, R: Wait>(
     requires ready { IsReady N.state N.note N.kind net.now part.old }
     ensures worked { OnOk result (HasWorked N.state N.note N.kind net.now part.old part.new) }
     ensures ready { OnOk result (IsReady N.state N.note N.kind net.now part.new) }
+    ensures entered { OnOk result (IsEntered part.new) }
     ensures refused { part.new.refused ≡ part.old.refused }
 {
     let turns = part.turns;
@@ -140,6 +141,7 @@ fn run<N: NodeCore, G: Gate, R: Wait>(
     requires net { IsNet net.now }
     requires ready { IsReady N.state N.note N.kind net.now part.old }
     ensures worked { OnOk result (HasWorked N.state N.note N.kind net.now part.old part.new) }
+    ensures entered { OnOk result (IsEntered part.new) }
     ensures refused { part.new.refused ≡ part.old.refused }
 {
     let mut looks: u32 = 0;
@@ -170,7 +172,8 @@ pub(crate) fn work<N: NodeCore, G: Gate, R: Wait>(
     requires net { IsNet net.now }
     requires ready { IsReady N.state N.note N.kind net.now part.old }
     requires fresh { part.old.refused ≡ false }
-    ensures { part.new.refused ≡ false → HasWorked N.state N.note N.kind net.now part.old part.new }
+    ensures worked { part.new.refused ≡ false → HasWorked N.state N.note N.kind net.now part.old part.new }
+    ensures entered { part.new.refused ≡ false → IsEntered part.new }
 {
     if run(rt, alloc, part, net, book, worker, gate).is_err() {
         part.refused = true;

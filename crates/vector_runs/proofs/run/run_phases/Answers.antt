@@ -10,7 +10,7 @@ use Rattle.vector_runs.proofs.run.run_phases.Goals as goal
 use Rattle.vector_runs.proofs.run.run_phases.Goals.{else-loop-next-test, then-loop-next-test+in_default}
 
 pub run_nodes-requires-clause-nodes : goal.run_nodes-requires-clause-nodes
-run_nodes-requires-clause-nodes g c _ _ = subst (AreUnbegun path_vector c.args.net.now 0) (sym c.in_ok-new_nodes.ensures) (new_are_unbegun c.args.net.now)
+run_nodes-requires-clause-nodes g c _ _ = subst (AreUnbegun path_vector c.args.net.now 0) (sym c.in_ok-nodes.ensures) (new_are_unbegun c.args.net.now)
 
 pub run_nodes-requires-in-loop-next-clause-nodes : goal.run_nodes-requires-in-loop-next-clause-nodes
 run_nodes-requires-in-loop-next-clause-nodes g c _ _ =
@@ -21,7 +21,7 @@ run_nodes-requires-in-loop-next-clause-nodes g c _ _ =
     let there : slice_get nets k ≡ Some m = slice_get-get_or nets k m c.loop-next-test.true ∙ ap (λ z. Some z) (sym c.next-item.is) in
     let is : IsSoFar c.args.net.now nets c.args.turns (map pure_phase c.loop-next.past) (m ∷ drop (k + 1) nets) c.loop-next.left (pure_phase now.phase) now.is_quiet (map state_of now.nodes) =
     subst (λ z. IsSoFar c.args.net.now nets c.args.turns (map pure_phase c.loop-next.past) z c.loop-next.left (pure_phase now.phase) now.is_quiet (map state_of now.nodes)) (drop_next nets k m there) c.loop-next.invariant.so_far in
-    subst (AreUnbegun path_vector m 0) (sym c.in_ok-carried_nodes.ensures) (carried_are_unbegun is.net m is.later.0 0 (map state_of now.nodes) is.begun)
+    subst (AreUnbegun path_vector m 0) (sym c.in_ok-nodes-2.ensures) (carried_are_unbegun is.net m is.later.0 0 (map state_of now.nodes) is.begun)
 
 pub loop-next-preserved : goal.loop-next-preserved
 loop-next-preserved g c =
@@ -39,7 +39,7 @@ loop-next-preserved g c =
     let quiet : now.is_quiet ≡ true = (let f = c.in-true in cc) in
     let is : IsSoFar c.args.net.now nets c.args.turns past (m ∷ drop (k + 1) nets) left (pure_phase now.phase) true states =
     subst (λ q. IsSoFar c.args.net.now nets c.args.turns past (m ∷ drop (k + 1) nets) left (pure_phase now.phase) q states) quiet at in
-    let ran = next_so_far c.args.net.now nets c.args.turns past m (drop (k + 1) nets) left (pure_phase now.phase) states is (map state_of c.in_ok-carried_nodes.field-0) c.in_ok-carried_nodes.ensures
+    let ran = next_so_far c.args.net.now nets c.args.turns past m (drop (k + 1) nets) left (pure_phase now.phase) states is (map state_of c.in_ok-nodes-2.nodes) c.in_ok-nodes-2.ensures
     (pure_phase next.phase) next.is_quiet (map state_of next.nodes) (rw c.as_slice.ensures at c.in_ok-now-2.ensures.phase) c.in_ok-now-2.ensures.begun in
     record {
       few = let few = c.loop-next.invariant.few in omega arith;

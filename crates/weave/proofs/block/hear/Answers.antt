@@ -1,9 +1,8 @@
-use Rattle.std.proofs.Common.{rules, ◌≡◌, ◌∙◌, Some, refl, ap, sym, map, slice_get}
+use Rattle.std.proofs.Common.{Some, refl, ap, map}
 use Rattle.std.specs.Option.{option_map}
 use Rattle.std.proofs.lemmas.Option.{slice_get_read}
 use Rattle.net_graph.specs.Nets.{PureArc}
 use Rattle.node_core.specs.Configs.{noted}
-use Rattle.node_core.specs.Kinds.{listener}
 use Rattle.weave.proofs.Hearing.{heard, unheard, seated_at}
 use Rattle.weave.proofs.block.hear.Goals as goal
 

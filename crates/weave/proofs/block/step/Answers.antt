@@ -1,4 +1,4 @@
-use Rattle.std.proofs.Common.{◌≡◌, ◌∙◌, map, ap, sym, length}
+use Rattle.std.proofs.Common.{◌∙◌, map, ap, sym, length}
 use Rattle.std.proofs.lemmas.List.{length-map}
 use Rattle.node_core.specs.Configs.{noted}
 use Rattle.weave.specs.Blocks.{view_of}

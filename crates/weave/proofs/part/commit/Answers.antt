@@ -1,4 +1,4 @@
-use Rattle.std.proofs.Common.{◌≡◌, ◌+◌, refl, sym, arith}
+use Rattle.std.proofs.Common.{refl, arith}
 use Rattle.weave.proofs.Hearing.{same_view}
 use Rattle.weave.proofs.Working.{worked_same}
 use Rattle.weave.proofs.part.commit.Goals as goal

@@ -1,6 +1,6 @@
-use Rattle.std.proofs.Common.{◌≡◌, ◌+◌, ◌≤◌, refl, arith}
+use Rattle.std.proofs.Common.{◌+◌, ◌≤◌, refl, arith}
 use Rattle.quiet_ledger.specs.declared.book.TheConstants.{MAX_SHARE}
-use Rattle.weave.specs.Blocks.{view_of, sent_in, HasWorked}
+use Rattle.weave.specs.Blocks.{view_of, sent_in}
 use Rattle.weave.proofs.Hearing.{same_view}
 use Rattle.weave.proofs.Working.{worked_same, worked_taken, ready_still, takes_few, counted_room}
 use Rattle.weave.proofs.part.turn.Goals as goal

@@ -1,4 +1,4 @@
-use Rattle.std.proofs.Common.{◌≡◌, ℕ, [], map, slice_get}
+use Rattle.std.proofs.Common.{ℕ, [], map, slice_get}
 use Rattle.node_core.specs.Kinds.{on_arc}
 use Rattle.node_core.specs.Configs.{numbered}
 use Rattle.weave.specs.Lanes.{HasPassed, lane_in}

@@ -1,4 +1,3 @@
-use Rattle.std.proofs.Common.{rules, ◌≡◌}
 use Rattle.std.proofs.lemmas.Option.{slice_get_read}
 use Rattle.weave.proofs.Places.{put_at, put_past}
 use Rattle.weave.proofs.sending.send_one.Goals as goal
