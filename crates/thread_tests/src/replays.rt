@@ -18,7 +18,7 @@ use test_nodes::{are_same_rows, make_delivery, new_nodes, rows_now};
 use test_readers::network;
 
 // How many networks of each kind are drawn.
-const NETWORKS: u32 = 150;
+const NETWORKS: u32 = 60;
 
 // Counts the deliveries, adds up their clocks, and notes whether one was told by a worker that hasn't its listener.
 #[derive(Drop)]
