@@ -1,0 +1,24 @@
+-- What a row in place holds, and what a run tells of a row.
+use Rattle.std.specs.Prelude.{◌≡◌, ℕ, ◌≤◌, List, take, length, Option, Some, None}
+use Rattle.std.specs.declared.cmp.Ordering.{Ordering}
+use Rattle.label_code.specs.declared.operations.Run.{Run}
+use Rattle.label_code.specs.declared.operations.Run.TheVariants.{Made, Prohibited}
+use Rattle.label_code.specs.declared.words.Store.{Store}
+use Rattle.label_code.specs.declared.words.Store.TheVariants.{Here, There}
+use Rattle.label_code.specs.declared.words.TheConstants.{HERE}
+use Rattle.label_code.specs.Machine.{Outcome, made, prohibited}
+
+-- the words of a row
+abbrev pub words_of : Store → List ℕ
+words_of (Here short) = take short.len short.words
+words_of (There words) = words.items
+
+-- the words in place have room there
+abbrev pub has_room : Store → Type 0
+has_room (Here short) = short.len ≤ HERE
+has_room (There words) = Unit {0}
+
+-- the run tells what the outcome is: a new row, or that the value is prohibited
+abbrev pub Tells : Run → List ℕ → Outcome → Type 0
+Tells Made row o = o ≡ made row
+Tells Prohibited row o = o ≡ prohibited

@@ -1,0 +1,287 @@
+ghost use Rattle.std.specs.Prelude.{◌≡◌, ◌≢◌, ◌+◌, ◌<◌, ◌≤◌, ◌==◌, [], ◌∷◌, ◌++◌, length, take, drop, slice_get, if◌then◌else◌, IfOk, OnErr};
+ghost use Rattle.std.specs.List.{list_any};
+ghost use Rattle.std.specs.Int.{bit_at};
+ghost use Rattle.label_code.specs.Effects.{effect, goes_on, writes, looks, turns, denies, lacks};
+ghost use Rattle.label_code.specs.Machine.{RunCode, Fits, behind};
+ghost use Rattle.label_code.specs.Rows.{Tells};
+ghost use Rattle.label_code.specs.Steps.{Does};
+
+use crate::pieces::{behind, item, sequence};
+use crate::{LabelCode, Op, Output, Row, Run, Word};
+use meta_base::{List, NoMemory};
+use std::alloc::Global;
+
+/// What the code makes of the row, which it fits: `Made` where the new row stands in `out`, and `Prohibited` where the
+/// label prohibits the value. What stood in `out` is gone, and its room is used again. It is refused for want of
+/// memory alone; after that, and after `Prohibited`, `out` is empty.
+pub fn run(alloc: Global, code: &LabelCode, row: &Row, out: &mut Row) -> Result<Run, NoMemory>
+    requires { Fits code.now row.now }
+    ensures ok { IfOk result (λ run. Tells run out.new (RunCode code.now row.now)) }
+    ensures prohibited { IfOk result (λ run. run ≡ Run.Prohibited → out.new ≡ []) }
+    ensures err { OnErr result (out.new ≡ []) }
+{
+    let mut words = std::mem::replace(out, List::new(alloc)).into_vec();
+    words.clear();
+    let run = execute(alloc, code.as_slice(), row.as_slice(), &mut words)?;
+    if run == Run::Prohibited {
+        words.clear();
+    }
+    *out = List::from_vec(words);
+    Ok(run)
+}
+
+/// What the code makes of the row, which it fits: `Made` where the new row stands in `out`, behind what stood there
+/// before, and `Prohibited` where the label prohibits the value. Nothing is said of `out` where it isn't `Made`. It is
+/// refused for want of memory alone.
+pub fn execute<W: Output>(
+    alloc: Global,
+    code: &[Op],
+    row: &[Word],
+    out: &mut W,
+) -> Result<Run, NoMemory>
+    requires { Fits code.now row.now }
+    ensures { IfOk result (λ run.
+        Tells run (W.written out.new) (behind (W.written out.old) (RunCode code.now row.now))) }
+{
+    let mut code = code;
+    let mut row = row;
+    loop {
+        let Some((op, rest)) = code.split_first() else {
+            return Ok(Run::Made);
+        };
+        let Some(next) = step(alloc, op, row, out)? else {
+            return Ok(Run::Prohibited);
+        };
+        row = next.row;
+        code = behind(rest, next.jump);
+    }
+}
+
+// What an operation leaves of the row that is read, and over how many operations it jumps.
+#[derive(Clone, Copy)]
+struct Next<'a> {
+    row: &'a [Word],
+    jump: usize,
+}
+
+// What the operation leaves, or `None` where it prohibits.
+fn step<'a, W: Output>(
+    alloc: Global,
+    op: &Op,
+    row: &'a [Word],
+    out: &mut W,
+) -> Result<Option<Next<'a>>, NoMemory>
+    requires { effect op.now row.now ≢ lacks }
+    ensures { IfOk result (λ next. Does next (W.written out.old) (W.written out.new) (effect op.now row.now)) }
+{
+    match row {
+        [word, rest @ ..] => step_in_row(alloc, op, *word, rest, row, out),
+        [] => step_at_end(alloc, op, row, out),
+    }
+}
+
+// The same where a word is left to be read: the row is that word and the rest.
+fn step_in_row<'a, W: Output>(
+    alloc: Global,
+    op: &Op,
+    word: Word,
+    rest: &'a [Word],
+    row: &'a [Word],
+    out: &mut W,
+) -> Result<Option<Next<'a>>, NoMemory>
+    requires row { row.now ≡ word ∷ rest.now }
+    requires fits { effect op.now (word ∷ rest.now) ≢ lacks }
+    ensures { IfOk result (λ next.
+        Does next (W.written out.old) (W.written out.new) (effect op.now (word ∷ rest.now))) }
+{
+    match op {
+        Op::Add(n) => write(alloc, word + n, rest, out),
+        Op::Cap(n, top) => write_where(alloc, word + n <= *top, word + n, rest, out),
+        Op::Max(n) => write(alloc, word.max(*n), rest, out),
+        Op::Min(n) => write(alloc, word.min(*n), rest, out),
+        Op::Copy => write(alloc, word, rest, out),
+        Op::Drop => Ok(Some(Next::behind(rest))),
+        Op::CopySeq => copy_sequence(alloc, word, rest, out),
+        Op::DropSeq => Ok(Some(Next::behind(sequence(word, rest).1))),
+        Op::Emit(word) => write(alloc, *word, row, out),
+        Op::Append(symbol) => append(alloc, word, rest, *symbol, out),
+        Op::Fresh(symbol) => append_fresh(alloc, word, rest, *symbol, out),
+        Op::SetBit(k) => write(alloc, word | 1 << *k, rest, out),
+        Op::ClearBit(k) => write(alloc, word & (Word::MAX - (1 << *k)), rest, out),
+        Op::NeedBit(k) => write_where(alloc, is_set(word, *k), word, rest, out),
+        Op::BarBit(k) => write_where(alloc, !is_set(word, *k), word, rest, out),
+        Op::Look(entries) => look(alloc, entries.as_slice(), word, rest, out),
+        Op::Deny => Ok(None),
+        Op::Fork(jump) => fork(alloc, word, rest, *jump, out),
+        Op::Test(jump) => Ok(Some(Next::behind_side(word, rest, *jump))),
+        Op::Skip(jump) => Ok(Some(Next { row, jump: *jump })),
+    }
+}
+
+// The same where no word is left: the row is empty.
+fn step_at_end<'a, W: Output>(
+    alloc: Global,
+    op: &Op,
+    row: &'a [Word],
+    out: &mut W,
+) -> Result<Option<Next<'a>>, NoMemory>
+    requires row { row.now ≡ [] }
+    requires fits { effect op.now [] ≢ lacks }
+    ensures { IfOk result (λ next. Does next (W.written out.old) (W.written out.new) (effect op.now [])) }
+{
+    match op {
+        Op::Emit(word) => write(alloc, *word, row, out),
+        Op::Skip(jump) => Ok(Some(Next { row, jump: *jump })),
+        _ => Ok(None),
+    }
+}
+
+// Writes the word, and leaves the row.
+fn write<'a, W: Output>(
+    alloc: Global,
+    word: Word,
+    row: &'a [Word],
+    out: &mut W,
+) -> Result<Option<Next<'a>>, NoMemory>
+    ensures { IfOk result (λ next. Does next (W.written out.old) (W.written out.new) (writes word row.now)) }
+{
+    out.push(alloc, word)?;
+    Ok(Some(Next::behind(row)))
+}
+
+// Writes the word and leaves the row where that is allowed, and else prohibits.
+fn write_where<'a, W: Output>(
+    alloc: Global,
+    allowed: bool,
+    word: Word,
+    row: &'a [Word],
+    out: &mut W,
+) -> Result<Option<Next<'a>>, NoMemory>
+    ensures { IfOk result (λ next. Does next (W.written out.old) (W.written out.new)
+        (if allowed then writes word row.now else denies)) }
+{
+    if !allowed {
+        return Ok(None);
+    }
+    write(alloc, word, row, out)
+}
+
+// Writes the entry at that place and leaves the row, or prohibits where it is none.
+fn look<'a, W: Output>(
+    alloc: Global,
+    entries: &[Option<Word>],
+    place: Word,
+    row: &'a [Word],
+    out: &mut W,
+) -> Result<Option<Next<'a>>, NoMemory>
+    requires { place < length entries.now }
+    ensures { IfOk result (λ next. Does next (W.written out.old) (W.written out.new)
+        (looks (slice_get entries.now place) row.now)) }
+{
+    match item(entries, place) {
+        Some(entry) => write(alloc, entry, row, out),
+        None => Ok(None),
+    }
+}
+
+// Writes the side and leaves the row, with this jump behind the second side.
+fn fork<'a, W: Output>(
+    alloc: Global,
+    side: Word,
+    row: &'a [Word],
+    jump: usize,
+    out: &mut W,
+) -> Result<Option<Next<'a>>, NoMemory>
+    requires { side < 2 }
+    ensures { IfOk result (λ next. Does next (W.written out.old) (W.written out.new)
+        (turns side (side ∷ []) row.now jump)) }
+{
+    out.push(alloc, side)?;
+    Ok(Some(Next::behind_side(side, row, jump)))
+}
+
+// Writes the length and so many words from the front of the row, and leaves what is behind them.
+fn copy_sequence<'a, W: Output>(
+    alloc: Global,
+    count: Word,
+    row: &'a [Word],
+    out: &mut W,
+) -> Result<Option<Next<'a>>, NoMemory>
+    requires { count ≤ length row.now }
+    ensures { IfOk result (λ next. Does next (W.written out.old) (W.written out.new)
+        (goes_on (count ∷ take count row.now) (drop count row.now) 0)) }
+{
+    let (words, rest) = sequence(count, row);
+    out.push(alloc, count)?;
+    out.extend(alloc, words)?;
+    Ok(Some(Next::behind(rest)))
+}
+
+// Writes the length and one, so many words from the front of the row, and the symbol, and leaves what is behind them.
+fn append<'a, W: Output>(
+    alloc: Global,
+    count: Word,
+    row: &'a [Word],
+    symbol: Word,
+    out: &mut W,
+) -> Result<Option<Next<'a>>, NoMemory>
+    requires { count ≤ length row.now }
+    ensures { IfOk result (λ next. Does next (W.written out.old) (W.written out.new)
+        (goes_on ((count + 1) ∷ take count row.now ++ symbol ∷ []) (drop count row.now) 0)) }
+{
+    let (words, rest) = sequence(count, row);
+    out.push(alloc, count + 1)?;
+    out.extend(alloc, words)?;
+    out.push(alloc, symbol)?;
+    Ok(Some(Next::behind(rest)))
+}
+
+// The same, or prohibits where the symbol is among the words.
+fn append_fresh<'a, W: Output>(
+    alloc: Global,
+    count: Word,
+    row: &'a [Word],
+    symbol: Word,
+    out: &mut W,
+) -> Result<Option<Next<'a>>, NoMemory>
+    requires { count ≤ length row.now }
+    ensures { IfOk result (λ next. Does next (W.written out.old) (W.written out.new)
+        (if list_any (λ m. m == symbol) (take count row.now) then denies
+        else goes_on ((count + 1) ∷ take count row.now ++ symbol ∷ []) (drop count row.now) 0)) }
+{
+    if sequence(count, row).0.contains(&symbol) {
+        return Ok(None);
+    }
+    append(alloc, count, row, symbol, out)
+}
+
+impl<'a> Next<'a> {
+    // This row, with no jump.
+    fn behind(row: &'a [Word]) -> Next<'a>
+        ensures row { result.row.now ≡ row.now }
+        ensures jump { result.jump ≡ 0 }
+    {
+        Next { row, jump: 0 }
+    }
+
+    // This row, with this jump behind the second side.
+    fn behind_side(side: Word, row: &'a [Word], jump: usize) -> Next<'a>
+        requires { side < 2 }
+        ensures row { result.row.now ≡ row.now }
+        ensures first { side ≡ 0 → result.jump ≡ 0 }
+        ensures second { side ≡ 1 → result.jump ≡ jump }
+    {
+        Next {
+            row,
+            jump: if side == 0 { 0 } else { jump },
+        }
+    }
+}
+
+// Whether the bit is set.
+fn is_set(word: Word, k: u8) -> bool
+    requires { k < 64 }
+    ensures { result ≡ (bit_at word k == 1) }
+{
+    (word >> k) & 1 == 1
+}

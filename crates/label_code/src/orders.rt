@@ -1,0 +1,99 @@
+ghost use Rattle.std.specs.Prelude.{◌≡◌, ◌≢◌, Some};
+ghost use Rattle.label_code.specs.Orders.{RunOrder, FitsBoth, finding, by_words, by_sides, lacks};
+ghost use Rattle.label_code.specs.Findings.{finding_of};
+
+use crate::pieces::{behind, item, sequence};
+use crate::{OrdOp, OrderCode, Row, Word};
+use std::cmp::Ordering;
+
+/// Which of two rows the code prefers, both of which it fits: `Less` is the first. It takes no memory.
+pub fn compare(code: &OrderCode, a: &Row, b: &Row) -> Ordering
+    requires { FitsBoth code.now a.now b.now }
+    ensures { RunOrder code.now a.now b.now ≡ Some result }
+{
+    compare_words(code.as_slice(), a.as_slice(), b.as_slice())
+}
+
+/// What [`compare`] tells, of rows that are slices.
+pub fn compare_words(code: &[OrdOp], first: &[Word], second: &[Word]) -> Ordering
+    requires { FitsBoth code.now first.now second.now }
+    ensures { RunOrder code.now first.now second.now ≡ Some result }
+{
+    let mut code = code;
+    let mut first = first;
+    let mut second = second;
+    loop {
+        let Some((op, rest)) = code.split_first() else {
+            return Ordering::Equal;
+        };
+        match find(op, first, second) {
+            Found::Decided(ordering) => return ordering,
+            Found::Tied(left, right, jump) => {
+                first = left;
+                second = right;
+                code = behind(rest, jump);
+            }
+        }
+    }
+}
+
+// What an operation finds: which row is preferred, or what is left of two that are equal so far, and over how many
+// operations it jumps.
+#[derive(Clone, Copy)]
+enum Found<'a> {
+    Decided(Ordering),
+    Tied(&'a [Word], &'a [Word], usize),
+}
+
+// What the operation finds.
+fn find<'a>(op: &OrdOp, first: &'a [Word], second: &'a [Word]) -> Found<'a>
+    requires { finding op.now first.now second.now ≢ lacks }
+    ensures { finding_of result ≡ finding op.now first.now second.now }
+{
+    if let OrdOp::Leap(jump) = op {
+        return Found::Tied(first, second, *jump);
+    }
+    let ([m, first @ ..], [n, second @ ..]) = (first, second) else {
+        unreachable!()
+    };
+    match op {
+        OrdOp::Less => by(m.cmp(n), first, second),
+        OrdOp::More => by(n.cmp(m), first, second),
+        OrdOp::Length => { by(m.cmp(n), sequence(*m, first).1, sequence(*n, second).1) }
+        OrdOp::Pass => Found::Tied(first, second, 0),
+        OrdOp::Rank(ranks) => {
+            let ranks = ranks.as_slice();
+            by(item(ranks, *m).cmp(&item(ranks, *n)), first, second)
+        }
+        OrdOp::Sides(jump) => told_by_sides(*m, *n, first, second, *jump),
+        OrdOp::Leap(_) => unreachable!(),
+    }
+}
+
+// Decided, unless the words were equal.
+fn by<'a>(ordering: Ordering, first: &'a [Word], second: &'a [Word]) -> Found<'a>
+    ensures { finding_of result ≡ by_words ordering first.now second.now }
+{
+    match ordering {
+        Ordering::Equal => Found::Tied(first, second, 0),
+        unequal => Found::Decided(unequal),
+    }
+}
+
+// What two sides tell.
+fn told_by_sides<'a>(
+    m: Word,
+    n: Word,
+    first: &'a [Word],
+    second: &'a [Word],
+    jump: usize,
+) -> Found<'a>
+    requires { by_sides m n first.now second.now jump ≢ lacks }
+    ensures { finding_of result ≡ by_sides m n first.now second.now jump }
+{
+    match m.cmp(&n) {
+        Ordering::Equal if m == 0 => Found::Tied(first, second, 0),
+        Ordering::Equal => Found::Tied(first, second, jump),
+        unequal => Found::Decided(unequal),
+    }
+}
