@@ -1,0 +1,4 @@
+pub mod Encoding
+pub mod Compilation
+pub mod Listings
+pub mod Meaning
