@@ -7,5 +7,5 @@ use Rattle.code_gen.specs.Compilation.{CompileLabel, CompileOrder}
 
 -- the listing is the code of the algebra's order and of these labels
 pub record IsListing (a : Expression) (labels : List PureLabel) (listing : Listing) : Type 0 where
-  pub order : listing.order ≡ CompileOrder (carrier_of a)
-  pub labels : listing.labels ≡ map (CompileLabel a) labels
+  pub the_order : listing.order ≡ CompileOrder (carrier_of a)
+  pub the_labels : listing.labels ≡ map (CompileLabel a) labels
