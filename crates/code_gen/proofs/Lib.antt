@@ -1,0 +1,4 @@
+mod Labels
+mod Orders
+mod Running
+mod Sets

@@ -1,10 +1,10 @@
 -- A step of the machine, and what is left to run.
 use Rattle.std.proofs.Common.{◌≡◌, ◌≢◌, ℕ, zero, suc, ◌≤◌, List, [], ◌∷◌, ◌++◌, length, drop, Option, Some, None, refl, sym, ap, ◌∙◌, arith}
-use Rattle.std.proofs.lemmas.List.{append_assoc}
 use Rattle.label_code.specs.declared.operations.Op.{Op}
 use Rattle.label_code.specs.Effects.{Effect, goes_on, denies, lacks, effect}
 use Rattle.label_code.specs.Machine.{Outcome, made, prohibited, stuck, behind, outcome, run_over, RunCode, Fits}
 use Rattle.label_code.specs.Steps.{left_by}
+use Rattle.label_code.specs.CodeLaws.{behind_both}
 
 -- a jump that passes the end is stuck
 pub jump_within : (n : ℕ) (code : List Op) (row : List ℕ) → run_over n code row ≢ stuck → n ≤ length code
@@ -17,12 +17,6 @@ pub jumped : (n : ℕ) (code : List Op) (row : List ℕ) → n ≤ length code �
 jumped zero code row i = refl
 jumped (suc n) [] row i = absurd (omega arith)
 jumped (suc n) (op ∷ code) row i = jumped n code row (omega arith)
-
--- words behind words
-pub behind_both : (v w : List ℕ) (o : Outcome) → behind v (behind w o) ≡ behind (v ++ w) o
-behind_both v w (made row) = ap made (sym (append_assoc v w row))
-behind_both v w prohibited = refl
-behind_both v w stuck = refl
 
 -- what is stuck is stuck behind words
 pub not_stuck : (w : List ℕ) (o : Outcome) → behind w o ≢ stuck → o ≢ stuck

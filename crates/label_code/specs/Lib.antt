@@ -4,3 +4,4 @@ pub mod Machine
 pub mod Orders
 pub mod Rows
 pub mod Steps
+pub mod CodeLaws
