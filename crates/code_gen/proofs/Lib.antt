@@ -1,3 +1,4 @@
+mod Decoding
 mod Labels
 mod Orders
 mod Running

@@ -23,5 +23,5 @@ cleared m k h i =
     let r = and_le_l m narrow in
     same_from_bits_below 64 (bit_and m wide) (bit_and m narrow) (omega arith) (omega arith)
     (λ j within. bit_at_and m wide j
-        ∙ ap (λ b. min (bit_at m j) b) (ap (λ x. bit_at x j) (wide_mask k i) ∙ bit_at_cat_low (2 ^ 64 - 1) 64 narrow j within)
-        ∙ sym (bit_at_and m narrow j))
+    ∙ ap (λ b. min (bit_at m j) b) (ap (λ x. bit_at x j) (wide_mask k i) ∙ bit_at_cat_low (2 ^ 64 - 1) 64 narrow j within)
+    ∙ sym (bit_at_and m narrow j))

@@ -1,5 +1,6 @@
 -- Values as words.
-use Rattle.std.specs.Prelude.{◌≡◌, ℕ, zero, suc, List, [], ◌∷◌, ◌++◌, length, take, drop, Option, Some, None, option_map, option_and_then, if◌then◌else◌, nat_le}
+use Rattle.std.specs.Prelude.{◌≡◌, ℕ, ◌^◌, zero, suc, List, [], ◌∷◌, ◌++◌, ◌&&◌, length, take, drop, Option, Some, None, option_map, option_and_then, if◌then◌else◌, nat_le, nat_lt}
+use Rattle.std.specs.List.{list_all}
 use Rattle.alg_model.specs.Expressions.{PureCarrier, whole, up_to, down_from, seqs, simseqs, sets, one, named, pairs, sides}
 use Rattle.alg_model.specs.Expressions.{PureValue, number, symbols, marks, unit, name, pair, first, second}
 use Rattle.alg_model.specs.Carriers.{In}
@@ -25,10 +26,15 @@ abbrev pub word_front : (ℕ → PureValue) → List ℕ → Front
 word_front make [] = None
 word_front make (w ∷ row) = Some (make w, row)
 
--- a length in front of a row, and so many symbols behind it
-abbrev pub symbols_front : List ℕ → Front
-symbols_front [] = None
-symbols_front (n ∷ row) = if nat_le n (length row) then Some (symbols (take n row), drop n row) else None
+-- a word in front of a row that is below this number, as this kind of value
+abbrev pub small_front : ℕ → (ℕ → PureValue) → List ℕ → Front
+small_front count make [] = None
+small_front count make (w ∷ row) = if nat_lt w count then Some (make w, row) else None
+
+-- a length in front of a row, and so many symbols below this number behind it
+abbrev pub symbols_front : ℕ → List ℕ → Front
+symbols_front count [] = None
+symbols_front count (n ∷ row) = if nat_le n (length row) && list_all (λ m. nat_lt m count) (take n row) then Some (symbols (take n row), drop n row) else None
 
 -- what stands in front of a row, as this kind of value
 abbrev pub made_front : (PureValue → PureValue) → Front → Front
@@ -50,11 +56,11 @@ abbrev pub Dec : PureCarrier → List ℕ → Front
 Dec whole row = word_front number row
 Dec (up_to top) row = word_front number row
 Dec (down_from top) row = word_front number row
-Dec (seqs k) row = symbols_front row
-Dec (simseqs k) row = symbols_front row
-Dec (sets k) row = word_front marks row
+Dec (seqs k) row = symbols_front k row
+Dec (simseqs k) row = symbols_front k row
+Dec (sets k) row = small_front (2 ^ k) marks row
 Dec one row = Some (unit, row)
-Dec (named names ranks) row = word_front name row
+Dec (named names ranks) row = small_front (length names) name row
 Dec (pairs c d) row = pair_front (Dec c row) (λ rest. Dec d rest)
 Dec (sides c d) row = side_front (λ rest. Dec c rest) (λ rest. Dec d rest) row
 

@@ -1,0 +1,78 @@
+ghost use Rattle.std.specs.Prelude.{◌≡◌, [], ◌∷◌, ◌++◌, IfOk, OnOk};
+ghost use Rattle.alg_model.specs.Carriers.{carrier_of};
+ghost use Rattle.alg_model.specs.Expressions.{sides};
+ghost use Rattle.alg_model.specs.Views.{expression_of};
+ghost use Rattle.code_gen.specs.Compilation.{CompileOrder};
+
+use alg_model::{Alg, TableSpec, Tree};
+use label_code::{OrdOp, OrderCode, Word};
+use meta_base::{List, NoMemory};
+use std::alloc::Global;
+
+/// The code of the algebra's preference. It is refused for want of memory alone.
+pub fn compile_order(alloc: Global, alg: &Alg) -> Result<OrderCode, NoMemory>
+    ensures { IfOk result (λ code. code ≡ CompileOrder (carrier_of alg.now.expression)) }
+{
+    let mut code = Vec::new(alloc);
+    push_order(alloc, alg.tree(), &mut code)?;
+    Ok(List::from_vec(code))
+}
+
+// Writes the code of the preference behind what stands there.
+#[cycle(push_order)]
+fn push_order(alloc: Global, tree: &Tree, code: &mut Vec<OrdOp>) -> Result<(), NoMemory>
+    ensures { OnOk result (code.new.items ≡ code.old.items ++ CompileOrder (carrier_of (expression_of tree.now))) }
+{
+    match tree {
+        Tree::Add { .. } | Tree::Cap { .. } | Tree::Worst { .. } | Tree::Orig { .. } => {
+            push_op(OrdOp::Less, code)
+        }
+        Tree::Width { .. } | Tree::Pref { .. } => push_op(OrdOp::More, code),
+        Tree::Seq { .. } | Tree::SimSeq { .. } => push_op(OrdOp::Length, code),
+        Tree::Tags { .. } | Tree::Guard { .. } => push_op(OrdOp::Pass, code),
+        Tree::Gate => Ok(()),
+        Tree::Table(spec) => push_op(OrdOp::Rank(ranks(alloc, spec)?), code),
+        Tree::Lex(a, b) | Tree::Scoped(a, b) => {
+            push_order(alloc, a, code)?;
+            push_order(alloc, b, code)
+        }
+        Tree::Union(a, b) | Tree::Sum(a, b) => push_sides(alloc, a, b, code),
+        Tree::Plus(a, _) | Tree::Left(a) | Tree::Right(a) => push_order(alloc, a, code),
+    }
+}
+
+// The same of two sides: the code of the first jumps over that of the second.
+#[cycle(push_order)]
+fn push_sides(alloc: Global, a: &Tree, b: &Tree, code: &mut Vec<OrdOp>) -> Result<(), NoMemory>
+    ensures { OnOk result (code.new.items ≡ code.old.items
+        ++ CompileOrder (sides (carrier_of (expression_of a.now)) (carrier_of (expression_of b.now)))) }
+{
+    let mut first = Vec::new(alloc);
+    push_order(alloc, a, &mut first)?;
+    let mut second = Vec::new(alloc);
+    push_order(alloc, b, &mut second)?;
+    push_op(OrdOp::Sides(first.len() + 1), code)?;
+    code.append(&mut first)?;
+    push_op(OrdOp::Leap(second.len()), code)?;
+    code.append(&mut second)?;
+    Ok(())
+}
+
+// Writes an operation.
+fn push_op(op: OrdOp, code: &mut Vec<OrdOp>) -> Result<(), NoMemory>
+    ensures { OnOk result (code.new.items ≡ code.old.items ++ op ∷ []) }
+{
+    code.push(op)?;
+    Ok(())
+}
+
+// The ranks of a table's values, as words.
+fn ranks(alloc: Global, spec: &TableSpec) -> Result<List<Word>, NoMemory>
+    ensures { IfOk result (λ ranks. ranks ≡ spec.now.ranks) }
+{
+    let mut ranks = List::new(alloc);
+    for rank in spec.ranks.as_slice() {
+        ranks.push(Word::from(*rank))?;
+    }
+    Ok(ranks)
+}
