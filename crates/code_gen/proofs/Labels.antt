@@ -1,8 +1,7 @@
 -- The code of a label means what the label makes of a value.
-use Rattle.std.proofs.Common.{◌≡◌, ℕ, ◌+◌, ◌-◌, ◌^◌, ◌<◌, ◌≤◌, ◌==◌, List, [], ◌∷◌, ◌++◌, length, take, drop, Bool, true, false, ◌&&◌, Option, Some, None, zero, suc, refl, sym, ap, ◌∙◌, subst, arith, if◌then◌else◌}
-use Rattle.std.specs.Prelude.{map, nat_le, nat_lt, min, max, bit_or, bit_and, option_map, option_and_then, slice_get}
+use Rattle.std.proofs.Common.{◌≡◌, ℕ, ◌+◌, ◌^◌, ◌<◌, ◌≤◌, ◌==◌, List, [], ◌∷◌, ◌++◌, length, Bool, true, false, ◌&&◌, Option, Some, None, zero, suc, refl, sym, ap, ◌∙◌, subst, arith, if◌then◌else◌}
+use Rattle.std.specs.Prelude.{nat_le, nat_lt, option_map, option_and_then, slice_get}
 use Rattle.std.specs.List.{list_any, list_all}
-use Rattle.std.specs.Int.{bit_at}
 use Rattle.std.proofs.lemmas.Bool.Decides.{nat_tests}
 use Rattle.std.proofs.lemmas.List.{append_assoc, append-nil, length-append}
 use Rattle.std.proofs.lemmas.Option.{slice_get-get_or}
@@ -15,18 +14,19 @@ use Rattle.alg_model.specs.Expressions.{Expression, add, cap, worst, width, pref
 use Rattle.alg_model.specs.Expressions.{PureCarrier, PureValue, number, symbols, marks, unit, name, pair, first, second}
 use Rattle.alg_model.specs.Expressions.{PureLabel, number_label, keep, symbol_label, mark, unmark, need, bar, allow, deny, row_label, pair_label, both_label, first_label, second_label, const_label, outer, inner}
 use Rattle.alg_model.specs.Carriers.{carrier_of, In}
-use Rattle.alg_model.specs.Application.{App, IsLabel, both, image_of, has_mark}
+use Rattle.alg_model.specs.Application.{App, both, has_mark}
 use Rattle.alg_model.specs.Actions.{MayAct}
-use Rattle.alg_model.specs.Formation.{is_table, is_table_count, are_ranks, is_row_over, is_place_or_none}
+use Rattle.alg_model.specs.Formation.{is_table, is_table_count, are_ranks, is_row_over}
 use Rattle.label_code.specs.declared.operations.Op.{Op}
 use Rattle.label_code.specs.declared.operations.Op.TheVariants as op
-use Rattle.label_code.specs.Effects.{Effect, goes_on, denies, lacks, writes, looks}
+use Rattle.label_code.specs.Effects.{goes_on, denies, writes, looks}
 use Rattle.label_code.specs.Machine.{Outcome, made, prohibited, behind, outcome, run_over, RunCode}
 use Rattle.label_code.specs.CodeLaws.{behind_both, behind_none}
 use Rattle.code_gen.specs.Encoding.{Enc}
-use Rattle.code_gen.specs.Compilation.{either, Keep, Lose, Say, images_of, CompileLabel}
+use Rattle.code_gen.specs.EncodingLaws.{length_fits}
+use Rattle.code_gen.specs.Compilation.{Keep, Lose, Say, images_of, CompileLabel}
 use Rattle.code_gen.specs.Meaning.{outcome_of, CodeMeansApplication}
-use Rattle.code_gen.proofs.Running.{length_fits, same_run, fork_first, fork_second, skipped, said, kept, lost}
+use Rattle.code_gen.proofs.Running.{same_run, fork_first, fork_second, skipped, said, kept, lost}
 use Rattle.code_gen.proofs.Sets.{below_word, cleared}
 
 -- what comes of a value's words, and of a row behind them, where this comes of the value and more code follows

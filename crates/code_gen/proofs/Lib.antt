@@ -1,5 +1,6 @@
-mod Decoding
+mod Acting
 mod Labels
 mod Orders
 mod Running
 mod Sets
+mod Symbols

@@ -1,6 +1,6 @@
 -- The code of an order means the order.
-use Rattle.std.proofs.Common.{◌≡◌, ℕ, ◌+◌, ◌<◌, ◌≤◌, ◌==◌, List, [], ◌∷◌, ◌++◌, length, drop, Bool, true, false, ◌&&◌, Option, Some, None, zero, suc, refl, sym, ap, ◌∙◌, arith}
-use Rattle.std.specs.Prelude.{nat_le, nat_lt, slice_index}
+use Rattle.std.proofs.Common.{◌≡◌, ℕ, ◌+◌, ◌<◌, ◌==◌, List, [], ◌∷◌, ◌++◌, length, Bool, true, false, ◌&&◌, Option, Some, refl, sym, ap, ◌∙◌, arith}
+use Rattle.std.specs.Prelude.{nat_lt, slice_index}
 use Rattle.std.specs.Ordering.{nat_cmp, ordering_then}
 use Rattle.std.specs.declared.cmp.Ordering.{Ordering}
 use Rattle.std.specs.declared.cmp.Ordering.TheVariants.{Less, Equal, Greater}
@@ -16,9 +16,9 @@ use Rattle.label_code.specs.declared.operations.OrdOp.TheVariants as ord
 use Rattle.label_code.specs.Orders.{by_words, found, compare_over, RunOrder}
 use Rattle.label_code.specs.CodeLaws.{leap_past}
 use Rattle.code_gen.specs.Encoding.{Enc}
+use Rattle.code_gen.specs.EncodingLaws.{length_fits}
 use Rattle.code_gen.specs.Compilation.{CompileOrder}
 use Rattle.code_gen.specs.Meaning.{CodeMeansOrder}
-use Rattle.code_gen.proofs.Running.{length_fits}
 
 -- decided, or what the rest decides where the two are equivalent
 abbrev then_rest : Ordering → Option Ordering → Option Ordering

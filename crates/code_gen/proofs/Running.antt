@@ -1,23 +1,18 @@
 -- What pieces of code make of the words in front of a row, where more code and more words follow.
-use Rattle.std.proofs.Common.{◌≡◌, ℕ, ◌+◌, ◌≤◌, List, [], ◌∷◌, ◌++◌, length, take, drop, refl, sym, ap, ◌∙◌, arith}
-use Rattle.std.specs.Prelude.{map, nat_le, true, if◌then◌else◌}
-use Rattle.std.proofs.lemmas.Bool.Decides.{nat_tests}
-use Rattle.std.proofs.lemmas.List.{append_assoc, length-append}
+use Rattle.std.proofs.Common.{◌≡◌, ℕ, ◌+◌, List, [], ◌∷◌, ◌++◌, length, refl, sym, ap, ◌∙◌, arith}
+use Rattle.std.specs.Prelude.{map}
+use Rattle.std.proofs.lemmas.List.{append_assoc}
 use Rattle.std.proofs.Math.Seq.{take-append_seam, drop-append_seam}
 use Rattle.alg_model.specs.Expressions.{PureCarrier, whole, up_to, down_from, seqs, simseqs, sets, one, named, pairs, sides}
 use Rattle.alg_model.specs.Expressions.{PureValue, number, symbols, marks, unit, name, pair, first, second}
 use Rattle.alg_model.specs.Carriers.{In}
 use Rattle.label_code.specs.declared.operations.Op.{Op}
 use Rattle.label_code.specs.declared.operations.Op.TheVariants as op
-use Rattle.label_code.specs.Effects.{goes_on}
-use Rattle.label_code.specs.Machine.{Outcome, made, behind, outcome, run_over, RunCode}
+use Rattle.label_code.specs.Machine.{behind, run_over, RunCode}
 use Rattle.label_code.specs.CodeLaws.{behind_both, behind_none, jump_past}
 use Rattle.code_gen.specs.Encoding.{Enc}
-use Rattle.code_gen.specs.Compilation.{either, Keep, Lose, Say}
-
--- a length is there, where so many words stand in front
-pub length_fits : (ws row : List ℕ) → nat_le (length ws) (length (ws ++ row)) ≡ true
-length_fits ws row = let e = length-append ws row in grind (arith, nat_tests)
+use Rattle.code_gen.specs.EncodingLaws.{length_fits}
+use Rattle.code_gen.specs.Compilation.{either, Keep, Lose}
 
 -- a jump over the end of a choice's first side
 pub skipped : (d code : List Op) (row : List ℕ) → RunCode (op.Skip (length d) ∷ (d ++ code)) row ≡ RunCode code row

@@ -1,4 +1,5 @@
 pub mod Encoding
+pub mod EncodingLaws
 pub mod Compilation
 pub mod Listings
 pub mod Meaning

@@ -1,10 +1,12 @@
 -- What code means: application and preference.
-use Rattle.std.specs.Prelude.{◌≡◌, List, ◌++◌, Option, Some, None}
-use Rattle.std.specs.declared.cmp.Ordering.{Ordering}
+use Rattle.std.specs.Prelude.{◌≡◌, List, Option, Some, None}
 use Rattle.alg_model.specs.Expressions.{Expression, PureCarrier, PureLabel, PureValue}
-use Rattle.alg_model.specs.Carriers.{carrier_of, In, Order}
-use Rattle.alg_model.specs.Application.{App}
+use Rattle.alg_model.specs.Carriers.{In, Order}
+use Rattle.alg_model.specs.declared.edition.TheConstants.{MAX_LABEL_NUMBER}
+use Rattle.alg_model.specs.Application.{App, IsLabel}
+use Rattle.alg_model.specs.Bounds.{LabelAtMost}
 use Rattle.alg_model.specs.Actions.{MayAct}
+use Rattle.label_code.specs.declared.operations.Op.{Op}
 use Rattle.label_code.specs.Machine.{Outcome, made, prohibited, RunCode}
 use Rattle.label_code.specs.Orders.{RunOrder}
 use Rattle.code_gen.specs.Encoding.{Enc}
@@ -23,3 +25,7 @@ CodeMeansApplication a = (l : PureLabel) (v : PureValue) → MayAct a l v → Ru
 -- the code of the carrier's order compares the words of two values as the values compare
 abbrev pub CodeMeansOrder : PureCarrier → Type 0
 CodeMeansOrder c = (u v : PureValue) → In c u → In c v → RunOrder (CompileOrder c) (Enc u) (Enc v) ≡ Some (Order c u v)
+
+-- the code is that of this label of the algebra, whose numbers are small
+abbrev pub IsCodeOf : Expression → List Op → PureLabel → Type 0
+IsCodeOf a code l = (code ≡ CompileLabel a l) × IsLabel a l × LabelAtMost MAX_LABEL_NUMBER l

@@ -1,13 +1,19 @@
 //! The compiler of labels and orders to label code, values as words, and the algebra that runs compiled code.
 #![tactic(auto)]
 
+mod algebra;
 mod compile;
+mod decoding;
+mod laws;
 mod listing;
 mod order;
 mod pieces;
 mod words;
 
+pub use algebra::CodeAlgebra;
 pub use compile::compile_label;
+pub use decoding::decode;
+pub use laws::{code_means_application, code_means_order};
 pub use listing::Listing;
 pub use order::compile_order;
-pub use words::write_value;
+pub use words::{encode, write_value};

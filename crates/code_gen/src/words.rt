@@ -1,11 +1,20 @@
-ghost use Rattle.std.specs.Prelude.{◌≡◌, ◌++◌, ◌∷◌, length, OnOk};
+ghost use Rattle.std.specs.Prelude.{◌≡◌, ◌++◌, ◌∷◌, length, IfOk, OnOk};
 ghost use Rattle.alg_model.specs.Views.{pure_value};
 ghost use Rattle.code_gen.specs.Encoding.{Enc};
 
-use alg_model::Value;
-use label_code::{Output, Word};
-use meta_base::NoMemory;
+use alg_model::{Alg, Value};
+use label_code::{Output, Row, Word};
+use meta_base::{List, NoMemory};
 use std::alloc::Global;
+
+/// The words of a value of the algebra. It is refused for want of memory alone.
+pub fn encode(alloc: Global, _alg: &Alg, value: &Value) -> Result<Row, NoMemory>
+    ensures { IfOk result (λ row. row ≡ Enc (pure_value value.now)) }
+{
+    let mut words = Vec::new(alloc);
+    write_value(alloc, value, &mut words)?;
+    Ok(List::from_vec(words))
+}
 
 /// Writes the words of the value behind those that stand there.
 pub fn write_value<W: Output>(alloc: Global, value: &Value, out: &mut W) -> Result<(), NoMemory>

@@ -1,5 +1,5 @@
 -- A step of the machine, and what is left to run.
-use Rattle.std.proofs.Common.{◌≡◌, ◌≢◌, ℕ, zero, suc, ◌≤◌, List, [], ◌∷◌, ◌++◌, length, drop, Option, Some, None, refl, sym, ap, ◌∙◌, arith}
+use Rattle.std.proofs.Common.{◌≡◌, ◌≢◌, ℕ, zero, suc, ◌≤◌, List, [], ◌∷◌, ◌++◌, length, drop, Some, refl, sym, ap, ◌∙◌, arith}
 use Rattle.label_code.specs.declared.operations.Op.{Op}
 use Rattle.label_code.specs.Effects.{Effect, goes_on, denies, lacks, effect}
 use Rattle.label_code.specs.Machine.{Outcome, made, prohibited, stuck, behind, outcome, run_over, RunCode, Fits}

@@ -1,6 +1,5 @@
 -- What a row in place holds, and what a run tells of a row.
-use Rattle.std.specs.Prelude.{◌≡◌, ℕ, ◌≤◌, List, take, length, Option, Some, None}
-use Rattle.std.specs.declared.cmp.Ordering.{Ordering}
+use Rattle.std.specs.Prelude.{◌≡◌, ℕ, ◌≤◌, List, take}
 use Rattle.label_code.specs.declared.operations.Run.{Run}
 use Rattle.label_code.specs.declared.operations.Run.TheVariants.{Made, Prohibited}
 use Rattle.label_code.specs.declared.words.Store.{Store}

@@ -1,8 +1,6 @@
-use Rattle.std.proofs.Common.{◌≡◌, ◌≢◌, ◌∷◌, Some, option_map, rules, subst, ap, sym, ◌∙◌}
-use Rattle.label_code.specs.Effects.{effect}
-use Rattle.label_code.specs.Steps.{left_by}
+use Rattle.std.proofs.Common.{◌≡◌, ◌∷◌, rules, subst, ap, sym, ◌∙◌}
 use Rattle.label_code.specs.Machine.{RunCode, Fits, behind}
-use Rattle.label_code.proofs.Running.{IsStep, stepped}
+use Rattle.label_code.proofs.Running.{stepped}
 use Rattle.label_code.proofs.machine.execute.Goals as goal
 
 pub behind-code-requires : goal.behind-code-requires

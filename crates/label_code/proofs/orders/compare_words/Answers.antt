@@ -1,6 +1,6 @@
-use Rattle.std.proofs.Common.{◌≡◌, ◌≢◌, ◌∷◌, None, rules, subst, ap, sym, ◌∙◌}
+use Rattle.std.proofs.Common.{◌≡◌, ◌∷◌, rules, ap, sym, ◌∙◌}
 use Rattle.label_code.specs.Orders.{RunOrder, FitsBoth}
-use Rattle.label_code.proofs.Comparing.{IsTie, tied}
+use Rattle.label_code.proofs.Comparing.{tied}
 use Rattle.label_code.proofs.orders.compare_words.Goals as goal
 
 pub behind-code-requires : goal.behind-code-requires

@@ -1,15 +1,18 @@
--- The words of a value, decoded.
-use Rattle.std.proofs.Common.{◌≡◌, ℕ, ◌^◌, ◌<◌, ◌≤◌, List, [], ◌∷◌, ◌++◌, length, take, drop, Bool, true, Option, Some, None, refl, sym, ap, ◌∙◌, arith}
+-- The words of a value decode to the value. Lemmas, so that proofs of other crates may cite them.
+use Rattle.std.proofs.Common.{◌≡◌, ◌≢◌, subst, ℕ, ◌^◌, ◌<◌, List, [], ◌∷◌, ◌++◌, length, true, Some, None, refl, sym, ap, ◌∙◌, arith}
 use Rattle.std.specs.Prelude.{nat_lt, nat_le}
 use Rattle.std.specs.List.{AllByRecursion, list_all}
 use Rattle.std.proofs.lemmas.Bool.Decides.{nat_tests}
-use Rattle.std.proofs.lemmas.List.{append_assoc, append-nil}
+use Rattle.std.proofs.lemmas.List.{append_assoc, append-nil, length-append}
 use Rattle.std.proofs.Math.Seq.{take-append_seam, drop-append_seam}
 use Rattle.alg_model.specs.Expressions.{PureCarrier, whole, up_to, down_from, seqs, simseqs, sets, one, named, pairs, sides}
 use Rattle.alg_model.specs.Expressions.{PureValue, number, symbols, marks, unit, name, pair, first, second}
 use Rattle.alg_model.specs.Carriers.{In}
-use Rattle.code_gen.specs.Encoding.{Enc, Front, made_front, pair_front, symbols_front, Dec, decoded, value_in, IsEncoded}
-use Rattle.code_gen.proofs.Running.{length_fits}
+use Rattle.code_gen.specs.Encoding.{Enc, made_front, pair_front, symbols_front, Dec, decoded, value_in, IsEncoded}
+
+-- a length is there, where so many words stand in front
+pub length_fits : (ws row : List ℕ) → nat_le (length ws) (length (ws ++ row)) ≡ true
+length_fits ws row = let e = length-append ws row in grind (arith, nat_tests)
 
 below_true : (m n : ℕ) → m < n → nat_lt m n ≡ true
 below_true m n h = grind (arith, nat_tests)
@@ -45,3 +48,11 @@ decodes_whole c v i = ap (λ row. Dec c row) (sym (append-nil (Enc v))) ∙ deco
 
 pub decoded_is : (c : PureCarrier) (v : PureValue) → In c v → decoded c (Enc v) ≡ v
 decoded_is c v i = ap value_in (decodes_whole c v i)
+
+-- a row that is a value's words decodes to a value of the carrier
+pub encoded_in : (c : PureCarrier) (row : List ℕ) → IsEncoded c row → In c (decoded c row)
+encoded_in c row (v, i, e) = subst (λ r. In c (decoded c r)) e (subst (λ w. In c w) (sym (decoded_is c v i)) i)
+
+-- and something stands in front of it
+pub encoded_there : (c : PureCarrier) (row : List ℕ) → IsEncoded c row → Dec c row ≢ None
+encoded_there c row (v, i, e) n = absurd (let there = ap (λ r. Dec c r) (sym e) ∙ decodes_whole c v i in cc)

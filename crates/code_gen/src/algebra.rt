@@ -1,0 +1,109 @@
+ghost use Rattle.std.specs.Prelude.{◌≡◌, IfOk};
+ghost use Rattle.alg_model.specs.Carriers.{carrier_of};
+ghost use Rattle.alg_model.specs.Formation.{IsFormed};
+ghost use Rattle.code_gen.specs.Compilation.{CompileOrder};
+ghost use Rattle.code_gen.specs.Encoding.{decoded, IsEncoded};
+ghost use Rattle.code_gen.specs.EncodingLaws.{encoded_in};
+ghost use Rattle.code_gen.specs.Meaning.{IsCodeOf};
+
+use crate::decoding::decode_words;
+use crate::{compile_label, compile_order, write_value};
+use alg_model::{Alg, Algebra, Label, Value};
+use label_code::{LabelCode, OrderCode, Run, Words, compare_words, execute};
+use meta_base::NoMemory;
+use std::alloc::Global;
+use std::cmp::Ordering;
+
+/// The algebra by compiled code: values are rows of words, and labels are lists of operations on them.
+#[derive(Debug, Drop)]
+pub struct CodeAlgebra<'a> {
+    alg: &'a Alg,
+    order: OrderCode,
+    ghost compiled: { order ≡ CompileOrder (carrier_of alg.now.expression) },
+}
+
+impl<'a> CodeAlgebra<'a> {
+    /// That algebra, carried out by code: its order is compiled here. It is refused for want of memory alone.
+    pub fn new(alloc: Global, alg: &'a Alg) -> Result<CodeAlgebra<'a>, NoMemory>
+        ensures { IfOk result (λ algebra. algebra.alg.now ≡ alg.now) }
+    {
+        let order = compile_order(alloc, alg)?;
+        Ok(CodeAlgebra { alg, order })
+    }
+
+    // An algebra is formed, which its own calls don't say.
+    fn keeps_rules(&self)
+        ensures { IsFormed self.now.alg.now.expression }
+    {
+        let _tree = self.alg.tree();
+    }
+}
+
+impl<'a> Algebra for CodeAlgebra<'a> {
+    type Sig = Words;
+
+    type Lab = LabelCode;
+
+    ghost expression = { λ s. s.alg.now.expression };
+
+    ghost sig_value = { λ s row. decoded (carrier_of s.alg.now.expression) row };
+
+    ghost is_sig = { λ s row. IsEncoded (carrier_of s.alg.now.expression) row };
+
+    ghost stands_for = { λ s lab l. IsCodeOf s.alg.now.expression lab l };
+
+    ghost sig_in = { λ s row i. encoded_in (carrier_of s.alg.now.expression) row i };
+
+    ghost lab_in = { λ s lab l i. (i.1, i.2) };
+
+    fn sig_of(&self, alloc: Global, value: &Value) -> Result<Words, NoMemory> {
+        let mut words = Words::new();
+        write_value(alloc, value, &mut words)?;
+        Ok(words)
+    }
+
+    fn value_of(&self, alloc: Global, sig: &Words) -> Result<Value, NoMemory> {
+        decode_words(alloc, self.alg, sig.as_slice())
+    }
+
+    fn lab_of(&self, alloc: Global, label: &Label) -> Result<LabelCode, NoMemory> {
+        compile_label(alloc, self.alg, label)
+    }
+
+    fn copy(&self, alloc: Global, sig: &Words) -> Result<Words, NoMemory> {
+        sig.copy(alloc)
+    }
+
+    fn order(&self, a: &Words, b: &Words) -> Ordering {
+        self.keeps_rules();
+        compare_words(self.order.as_slice(), a.as_slice(), b.as_slice())
+    }
+
+    fn apply(
+        &self,
+        alloc: Global,
+        lab: &LabelCode,
+        sig: &Words,
+    ) -> Result<Option<Words>, NoMemory> {
+        let mut image = Words::new();
+        match self.apply_into(alloc, lab, sig, &mut image)? {
+            true => Ok(Some(image)),
+            false => Ok(None),
+        }
+    }
+
+    fn apply_into(
+        &self,
+        alloc: Global,
+        lab: &LabelCode,
+        sig: &Words,
+        out: &mut Words,
+    ) -> Result<bool, NoMemory> {
+        self.keeps_rules();
+        out.clear();
+        match execute(alloc, lab.as_slice(), sig.as_slice(), out)? {
+            Run::Made => Ok(true),
+            Run::Prohibited => Ok(false),
+        }
+    }
+}

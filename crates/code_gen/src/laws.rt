@@ -1,0 +1,16 @@
+ghost use Rattle.alg_model.specs.Expressions.{Expression, PureCarrier};
+ghost use Rattle.alg_model.specs.Formation.{IsCarrier};
+ghost use Rattle.code_gen.specs.Meaning.{CodeMeansApplication, CodeMeansOrder};
+
+/// The code of a label makes of a value's words those of what the label makes of the value, and prohibits exactly what
+/// the label prohibits; so it fits every value's words: it lacks no word and passes no bound.
+#[tactic(auto, using(crate::proofs::Labels::code_means_application))]
+pub fn code_means_application()
+    ensures { (a : Expression) → CodeMeansApplication a }
+{}
+
+/// The code of an algebra's order compares the words of two values as the algebra compares the values.
+#[tactic(auto, using(crate::proofs::Orders::code_means_order))]
+pub fn code_means_order()
+    ensures { (c : PureCarrier) → IsCarrier c → CodeMeansOrder c }
+{}
