@@ -1,7 +1,6 @@
 // The lines of compiled code.
-ghost use Rattle.std.specs.Prelude.{◌≡◌, ◌++◌, ◌<◌, ℕ, List, length, option_map, codes, decimal, OnOk, IfOk};
+ghost use Rattle.std.specs.Prelude.{◌≡◌, ◌++◌, ℕ, List, length, option_map, codes, decimal, OnOk, IfOk};
 ghost use Rattle.meta_base.specs.Appending.{Gains};
-ghost use Rattle.alg_model.specs.Application.{IsLabel};
 ghost use Rattle.net_graph.specs.Nets.{IsArcOf};
 ghost use Rattle.net_graph.specs.Views.{pure_arc};
 ghost use Rattle.report_text.specs.CodeTexts.{CanList, arc_code_text, arc_line_text, arcs_text, code_text, entries_text, entry_text, lines_from, op_text, operation_text, ord_op_text, order_line_text, order_text, ranks_text};
