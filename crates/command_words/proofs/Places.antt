@@ -83,6 +83,7 @@ with_good_numbers {X = X} make P parts all =
 
 command_of_below : (words : List (List ℕ)) (k : Kind) (parts : List PurePart) → 0 < length words → AllBelow (length words) (places parts) → IfSome (command_of k parts) (HasItsWords words)
 command_of_below words kind.Check parts some below = (below_at (length words) (places parts) 0 some below, below_get (length words) (places parts) 1 below)
+command_of_below words kind.Code parts some below = (below_at (length words) (places parts) 0 some below, below_get (length words) (places parts) 1 below)
 command_of_below words kind.Route parts some below =
     by (number_of Workers parts) (given_bounded (option_and_then value_of (find (gives Workers) parts)))
   where

@@ -2,7 +2,7 @@
 use Rattle.std.specs.Prelude.{ℕ, List, [], ◌∷◌, Bool, codes}
 use Rattle.std.specs.Str.{bytes_eq}
 use Rattle.command_words.specs.declared.usage.Kind.{Kind}
-use Rattle.command_words.specs.declared.usage.Kind.TheVariants.{Check, Route, Settle, Run, Trace, Demo}
+use Rattle.command_words.specs.declared.usage.Kind.TheVariants.{Check, Code, Route, Settle, Run, Trace, Demo}
 use Rattle.command_words.specs.declared.usage.Flag.{Flag}
 use Rattle.command_words.specs.declared.usage.Flag.TheVariants.{Workers, Turns}
 use Rattle.command_words.specs.declared.usage.Limits.{Limits}
@@ -22,6 +22,7 @@ pure_usage u = record { word = u.word.now; least = u.least; most = u.most; flags
 -- the table of commands
 abbrev pub usage_of : Kind → PureUsage
 usage_of Check = record { word = codes "check"; least = 1; most = 2; flags = [] }
+usage_of Code = record { word = codes "code"; least = 1; most = 2; flags = [] }
 usage_of Route = record { word = codes "route"; least = 2; most = 2; flags = Workers ∷ [] }
 usage_of Settle = record { word = codes "settle"; least = 2; most = 2; flags = [] }
 usage_of Run = record { word = codes "run"; least = 2; most = 2; flags = Workers ∷ Turns ∷ [] }
@@ -30,7 +31,7 @@ usage_of Demo = record { word = codes "demo"; least = 2; most = 2; flags = [] }
 
 -- all commands
 abbrev pub kinds : List Kind
-kinds = Check ∷ Route ∷ Settle ∷ Run ∷ Trace ∷ Demo ∷ []
+kinds = Check ∷ Code ∷ Route ∷ Settle ∷ Run ∷ Trace ∷ Demo ∷ []
 
 -- it is the command of this word
 abbrev pub has_word : List ℕ → Kind → Bool

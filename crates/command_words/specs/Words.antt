@@ -3,7 +3,7 @@ use Rattle.std.specs.Prelude.{ℕ, ◌<◌, ◌≤◌, length, List, [], ◌∷�
 use Rattle.std.specs.Option.{ok_or}
 use Rattle.std.specs.List.{list_any, filter}
 use Rattle.command_words.specs.declared.command.Command.{Command}
-use Rattle.command_words.specs.declared.command.Command.TheVariants.{Check, Route, Settle, Run, Trace, Demo}
+use Rattle.command_words.specs.declared.command.Command.TheVariants.{Check, Code, Route, Settle, Run, Trace, Demo}
 use Rattle.command_words.specs.declared.command.WordsFault.{WordsFault}
 use Rattle.command_words.specs.declared.command.WordsFault.TheVariants.{NoCommand, UnknownCommand, WrongCount, BadNumber, BadFlag}
 use Rattle.command_words.specs.declared.usage.Kind.{Kind}
@@ -59,6 +59,7 @@ argument_number least greatest number parts =
 -- the command that these parts make, with as many arguments as it takes, if its numbers are good
 abbrev pub command_of : Kind → List PurePart → Option Command
 command_of kind.Check parts = Some (Check (slice_index (places parts) 0) (slice_get (places parts) 1))
+command_of kind.Code parts = Some (Code (slice_index (places parts) 0) (slice_get (places parts) 1))
 command_of kind.Route parts =
     option_map (Route (slice_index (places parts) 0) (slice_index (places parts) 1)) (number_of Workers parts)
 command_of kind.Run parts = with_numbers (Run (slice_index (places parts) 0) (slice_index (places parts) 1)) parts
@@ -94,6 +95,7 @@ AreDemoNodes nodes = (least_nodes ≤ nodes) × (nodes ≤ greatest_nodes)
 -- the files of the command are words, and there may be so many workers, turns and nodes
 abbrev pub HasItsWords : List (List ℕ) → Command → Type 0
 HasItsWords words (Check file net) = (file < length words) × IfSome net (λ net. net < length words)
+HasItsWords words (Code file net) = (file < length words) × IfSome net (λ net. net < length words)
 HasItsWords words (Route file net workers) = (file < length words) × (net < length words) × AreWorkers workers
 HasItsWords words (Settle file net) = (file < length words) × (net < length words)
 HasItsWords words (Run file net workers turns) = (file < length words) × (net < length words) × AreWorkers workers × AreTurns turns

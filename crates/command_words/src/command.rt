@@ -10,6 +10,12 @@ pub enum Command {
         file: usize,
         net: Option<usize>,
     },
+    /// `code FILE [NET]` asks for the compiled code of the order of the algebra of an expression file, and, with a
+    /// network file, of the label on each of its arcs.
+    Code {
+        file: usize,
+        net: Option<usize>,
+    },
     /// `route FILE NET [--workers W]` asks for link-state routes for every destination of a network file, found
     /// by so many workers: 1 to 16, and 4 where the words don't say.
     Route {

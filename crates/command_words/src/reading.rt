@@ -113,6 +113,7 @@ fn command_of(kind: Kind, rest: &[Text]) -> Option<Command>
     let net = argument(rest, 1);
     match kind {
         Kind::Check => Some(Command::Check { file, net }),
+        Kind::Code => Some(Command::Code { file, net }),
         Kind::Route => Some(Command::Route {
             file,
             net: net.unwrap(),

@@ -6,6 +6,7 @@ ghost use Rattle.command_words.specs.Usages.{flag_word, limits_of};
 #[derive(Clone, Copy)]
 pub enum Kind {
     Check,
+    Code,
     Route,
     Settle,
     Run,
@@ -27,8 +28,9 @@ impl Kind {
     ghost use Rattle.command_words.specs.Usages.{has_word, kinds, pure_usage, usage_of};
 
     // All commands.
-    const ALL: [Kind; 6] = [
+    const ALL: [Kind; 7] = [
         Kind::Check,
+        Kind::Code,
         Kind::Route,
         Kind::Settle,
         Kind::Run,
@@ -43,6 +45,12 @@ impl Kind {
         match self {
             Kind::Check => Usage {
                 word: "check",
+                least: 1,
+                most: 2,
+                flags: &[],
+            },
+            Kind::Code => Usage {
+                word: "code",
                 least: 1,
                 most: 2,
                 flags: &[],

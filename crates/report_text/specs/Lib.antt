@@ -2,3 +2,4 @@ pub mod VerdictTexts
 pub mod Refusals
 pub mod RunTexts
 pub mod SummaryTexts
+pub mod CodeTexts

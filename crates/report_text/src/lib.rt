@@ -1,14 +1,16 @@
-//! The printed texts of what the program decides: the lines of verdicts, of rows, of refusals and of
-//! runs. It decides nothing, writes nothing out and knows no command. It may stand on each crate whose values or
-//! faults it prints.
+//! The printed texts of what the program decides: the lines of verdicts, of rows, of refusals, of runs and of
+//! compiled code. It decides nothing, writes nothing out and knows no command. It may stand on each crate whose
+//! values or faults it prints.
 #![tactic(auto)]
 
+mod code;
 mod refusals;
 mod rows;
 mod runs;
 mod summary;
 mod verdicts;
 
+pub use code::{Operation, arc_line, code_lines, operation_line, order_line};
 pub use refusals::{Refusal, lacks_line, refusal_line};
 pub use rows::row_line;
 pub use runs::{delivery_line, end_line, phase_line};

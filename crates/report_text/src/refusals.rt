@@ -2,14 +2,15 @@
 ghost use Rattle.std.specs.Prelude.{◌≡◌, ◌<◌, Some, None, length, option_map, OnOk, IfOk};
 ghost use Rattle.meta_base.specs.Appending.{Gains};
 ghost use Rattle.alg_classes.specs.Instances.{pure_instance};
+ghost use Rattle.net_graph.specs.Views.{pure_arc};
 ghost use Rattle.report_text.specs.VerdictTexts.{CanPrint};
-ghost use Rattle.report_text.specs.Refusals.{words, expr, network, lacks, read, long, memory, pure_refusal, which_text, arc_text, refusal_text, CanRefuse};
+ghost use Rattle.report_text.specs.Refusals.{words, expr, network, lacks, read, long, memory, pure_refusal, which_text, arc_text, ends_text, refusal_text, CanRefuse};
 
 use crate::rows::push_node;
 use crate::verdicts::{push_instance, word_of};
 use alg_classes::Instance;
 use meta_base::{ArcId, NoMemory, Text, Which, push_number};
-use net_graph::Net;
+use net_graph::{Arc, Net};
 use raml_syntax::ExprFault;
 use std::alloc::Global;
 use topology_file::NetFault;
@@ -74,7 +75,15 @@ pub(crate) fn push_arc(out: &mut String, net: &Net, arc: ArcId) -> Result<(), No
     requires { arc.0 < length net.now.arcs }
     ensures { OnOk result (Gains out.old (arc_text net.now arc.0) out.new) }
 {
-    let arc = net.arc(arc);
+    push_ends(out, net, net.arc(arc))
+}
+
+// The same of an arc that is lent.
+pub(crate) fn push_ends(out: &mut String, net: &Net, arc: &Arc) -> Result<(), NoMemory>
+    requires tail { arc.now.tail.0 < length net.now.nodes }
+    requires head { arc.now.head.0 < length net.now.nodes }
+    ensures { OnOk result (Gains out.old (ends_text net.now (Some (pure_arc arc.now))) out.new) }
+{
     push_node(out, net, arc.tail)?;
     out.push_str(" ")?;
     push_node(out, net, arc.head)
