@@ -1,5 +1,5 @@
 -- Without a fault nothing is given up.
-use Rattle.std.proofs.Common.{◌≡◌, ℕ, ◌≤◌, Bool, true, false, List, length, Option, Some, None, Result, Ok, Err, arith, refl, ap, ◌∙◌, subst, inl, inr, ⊎_elim}
+use Rattle.std.proofs.Common.{◌≡◌, ℕ, ◌≤◌, Bool, true, false, List, [], length, Option, Some, None, Result, Ok, Err, arith, refl, ap, ◌∙◌, subst, inl, inr, ⊎_elim}
 use Rattle.meta_base.specs.Count.{HasRisen}
 use Rattle.meta_base.specs.Shelf.{Moment, Keeps}
 use Rattle.meta_base.specs.declared.ids.Which.{Which}
@@ -14,10 +14,10 @@ use Rattle.topology_file.specs.NetText.{PureNetFile, NetText, HasOneOutcome, cha
 use Rattle.report_text.specs.Refusals.{PureRefusal, words, expr, network, lacks, read, long, memory}
 use Rattle.metacli.specs.Answers.{done, refused}
 use Rattle.metacli.specs.Reading.{Holds, IsUntaken, IsReadAs, IsExprRefusal, IsNetRefusal}
-use Rattle.metacli.specs.Outcome.{PureOutcome, stopped, checked, routed, ran, shown, answer_in, IsCheckedAs, IsAlgebraChecked, IsNetworkChecked, IsOnArc, IsRoutedAs, IsNetworkRouted, IsRunAs, IsNetworkRun, IsRunOn, IsShownAs, IsFit, IsRouted, asked_of, GoesOnFrom, GoesOnOver, WithNetwork, ComesBy, word_at}
+use Rattle.metacli.specs.Outcome.{PureOutcome, stopped, checked, coded, routed, ran, shown, answer_in, IsCheckedAs, IsAlgebraChecked, IsNetworkChecked, IsOnArc, IsCodedAs, IsAlgebraCoded, IsNetworkCoded, labels_on, IsRoutedAs, IsNetworkRouted, IsRunAs, IsNetworkRun, IsRunOn, IsShownAs, IsFit, IsRouted, asked_of, GoesOnFrom, GoesOnOver, WithNetwork, ComesBy, word_at}
 use Rattle.metacli.specs.Complete.{IsUnlessMemory, IsTold, IsJudged, IsNetJudged, IsAny, IsDone, IsRunOut, IsRoutedWholly, CompleteBy}
 use Rattle.command_words.specs.declared.command.Command.{Command}
-use Rattle.command_words.specs.declared.command.Command.TheVariants.{Check, Route, Settle, Run, Trace, Demo}
+use Rattle.command_words.specs.declared.command.Command.TheVariants.{Check, Code, Route, Settle, Run, Trace, Demo}
 use Rattle.command_words.specs.declared.command.WordsFault.{WordsFault}
 use Rattle.metacli.specs.declared.routing.Solution.{Solution}
 use Rattle.metacli.specs.declared.routing.Solution.TheVariants.{Unbeaten, Settled}
@@ -148,9 +148,24 @@ checked_done a file S (stopped b f (network g)) h = absurd h
 checked_done a file S (stopped b f (lacks arc x)) h = absurd h
 checked_done a file S (stopped b f (read w)) h = absurd h
 checked_done a file S (stopped b f (long w)) h = absurd h
+checked_done a file S (coded b f listing) h = absurd h
 checked_done a file S (routed b f rows) h = absurd h
 checked_done a file S (ran b f t past last quiet) h = absurd h
 checked_done a file S (shown b f last quiet) h = absurd h
+
+coded_done : (a : PureAlg) (file : Option PureNetFile) (labels : List PureLabel) (o : PureOutcome) → IsCodedAs a file labels o → IsUnlessMemory o done
+coded_done a file labels (coded b f listing) h = inl refl
+coded_done a file labels (stopped b f memory) h = inr refl
+coded_done a file labels (stopped b f (words n)) h = absurd h
+coded_done a file labels (stopped b f (expr g)) h = absurd h
+coded_done a file labels (stopped b f (network g)) h = absurd h
+coded_done a file labels (stopped b f (lacks arc x)) h = absurd h
+coded_done a file labels (stopped b f (read w)) h = absurd h
+coded_done a file labels (stopped b f (long w)) h = absurd h
+coded_done a file labels (checked b f v) h = absurd h
+coded_done a file labels (routed b f rows) h = absurd h
+coded_done a file labels (ran b f t past last quiet) h = absurd h
+coded_done a file labels (shown b f last quiet) h = absurd h
 
 -- a network whose labels are fit has no arc that lacks what is asked
 routed_done : (solution : Solution) (a : PureAlg) (file : PureNetFile) (o : PureOutcome) → IsRoutedAs solution a file o → IsFit solution (changed_net file) → IsUnlessMemory o done
@@ -163,6 +178,7 @@ routed_done solution a file (stopped b f (network g)) h fit = absurd h
 routed_done solution a file (stopped b f (read w)) h fit = absurd h
 routed_done solution a file (stopped b f (long w)) h fit = absurd h
 routed_done solution a file (checked b f v) h fit = absurd h
+routed_done solution a file (coded b f listing) h fit = absurd h
 routed_done solution a file (ran b f t past last quiet) h fit = absurd h
 routed_done solution a file (shown b f last quiet) h fit = absurd h
 
@@ -177,6 +193,7 @@ run_out traced turns a file (stopped b f (lacks arc x)) h = absurd h
 run_out traced turns a file (stopped b f (read w)) h = absurd h
 run_out traced turns a file (stopped b f (long w)) h = absurd h
 run_out traced turns a file (checked b f v) h = absurd h
+run_out traced turns a file (coded b f listing) h = absurd h
 run_out traced turns a file (routed b f rows) h = absurd h
 run_out traced turns a file (shown b f last quiet) h = absurd h
 
@@ -193,6 +210,7 @@ shown_out seed nodes (stopped None None (long w)) h = absurd h
 shown_out seed nodes (stopped (Some a) f r) h = absurd h
 shown_out seed nodes (stopped None (Some f) r) h = absurd h
 shown_out seed nodes (checked b f v) h = absurd h
+shown_out seed nodes (coded b f listing) h = absurd h
 shown_out seed nodes (routed b f rows) h = absurd h
 shown_out seed nodes (ran b f t past last quiet) h = absurd h
 
@@ -220,6 +238,14 @@ complete laws text old new c o (Ok (Check file (Some net))) h = λ bytes net_byt
     judged laws (word_at text file) bytes (IsNetworkChecked (word_at text net)) (IsNetJudged net_bytes IsAny IsDone o) old h.1.between new o h.1.expression h.1.reads.as_read h.1.goes_on t quiet
     (λ a x. over_network laws a (word_at text net) net_bytes IsAny IsDone (λ f. IsCheckedAs a (Some f) (IsOnArc (changed_net f))) old h.1.between new o h.1.reads.keeps x u quiet (λ d. d)
     (λ f y any. checked_done a (Some f) (IsOnArc (changed_net f)) o y))
+    (λ e a. net_judged_memory net_bytes IsAny IsDone o a e (λ d. d))
+complete laws text old new c o (Ok (Code file None)) h = λ bytes t quiet.
+    judged laws (word_at text file) bytes IsAlgebraCoded (λ a. IsUnlessMemory o done) old h.1.between new o h.1.expression h.1.reads.as_read h.1.goes_on t quiet
+    (λ a x. coded_done a None [] o x.1) (λ e a. inr e)
+complete laws text old new c o (Ok (Code file (Some net))) h = λ bytes net_bytes t u quiet.
+    judged laws (word_at text file) bytes (IsNetworkCoded (word_at text net)) (IsNetJudged net_bytes IsAny IsDone o) old h.1.between new o h.1.expression h.1.reads.as_read h.1.goes_on t quiet
+    (λ a x. over_network laws a (word_at text net) net_bytes IsAny IsDone (λ f. IsCodedAs a (Some f) (labels_on (changed_net f))) old h.1.between new o h.1.reads.keeps x u quiet (λ d. d)
+    (λ f y any. coded_done a (Some f) (labels_on (changed_net f)) o y))
     (λ e a. net_judged_memory net_bytes IsAny IsDone o a e (λ d. d))
 complete laws text old new c o (Ok (Route file net workers)) h = routed_wholly laws Unbeaten (word_at text file) (word_at text net) old new o h.1
 complete laws text old new c o (Ok (Settle file net)) h = routed_wholly laws Settled (word_at text file) (word_at text net) old new o h.1

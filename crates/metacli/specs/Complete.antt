@@ -15,7 +15,7 @@ use Rattle.metacli.specs.Answers.{PureAnswer, done, refused, spent}
 use Rattle.command_words.specs.Words.{Words}
 use Rattle.metacli.specs.Outcome.{PureOutcome, answer_in, IsFit, word_at}
 use Rattle.command_words.specs.declared.command.Command.{Command}
-use Rattle.command_words.specs.declared.command.Command.TheVariants.{Check, Route, Settle, Run, Trace, Demo}
+use Rattle.command_words.specs.declared.command.Command.TheVariants.{Check, Code, Route, Settle, Run, Trace, Demo}
 use Rattle.command_words.specs.declared.command.WordsFault.{WordsFault}
 use Rattle.metacli.specs.declared.routing.Solution.{Solution}
 use Rattle.metacli.specs.declared.routing.Solution.TheVariants.{Unbeaten, Settled}
@@ -60,6 +60,10 @@ abbrev pub CompleteBy : List (List ℕ) → Moment → Moment → PureOutcome �
 CompleteBy words old new o (Ok (Check file None)) = (bytes : List ℕ) → IsTold old (word_at words file) bytes → ¬ HasRisen old.faults new.faults
     → IsJudged bytes (λ a. IsDone o) o
 CompleteBy words old new o (Ok (Check file (Some net))) = (bytes net_bytes : List ℕ) → IsTold old (word_at words file) bytes → IsTold old (word_at words net) net_bytes
+    → ¬ HasRisen old.faults new.faults → IsJudged bytes (IsNetJudged net_bytes IsAny IsDone o) o
+CompleteBy words old new o (Ok (Code file None)) = (bytes : List ℕ) → IsTold old (word_at words file) bytes → ¬ HasRisen old.faults new.faults
+    → IsJudged bytes (λ a. IsDone o) o
+CompleteBy words old new o (Ok (Code file (Some net))) = (bytes net_bytes : List ℕ) → IsTold old (word_at words file) bytes → IsTold old (word_at words net) net_bytes
     → ¬ HasRisen old.faults new.faults → IsJudged bytes (IsNetJudged net_bytes IsAny IsDone o) o
 CompleteBy words old new o (Ok (Route file net workers)) = IsRoutedWholly Unbeaten (word_at words file) (word_at words net) old new o
 CompleteBy words old new o (Ok (Settle file net)) = IsRoutedWholly Settled (word_at words file) (word_at words net) old new o

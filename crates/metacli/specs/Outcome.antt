@@ -11,6 +11,8 @@ use Rattle.alg_model.specs.Properties.{PureProperty, monotone, isotone, strict}
 use Rattle.alg_model.specs.Verdicts.{PureVerdicts, ExactFor}
 use Rattle.alg_model.specs.Instances.{VerdictsAtMost}
 use Rattle.property_infer.specs.Views.{pure_verdicts}
+use Rattle.code_gen.specs.declared.listing.Listing.{Listing}
+use Rattle.code_gen.specs.Listings.{IsListing}
 use Rattle.net_graph.specs.Nets.{PureNet, PureArc}
 use Rattle.net_graph.specs.Tables.{PureRow, BestFirst, NetHas, Optimal, AreRowsOfTables, AreSettledRows}
 use Rattle.net_graph.specs.Changes.{PureChange}
@@ -27,7 +29,7 @@ use Rattle.metacli.specs.Behind.{nets_after}
 use Rattle.metacli.specs.Reading.{ReadsExpression, ReadsNetwork}
 use Rattle.command_words.specs.Words.{Words, words_fault_number}
 use Rattle.command_words.specs.declared.command.Command.{Command}
-use Rattle.command_words.specs.declared.command.Command.TheVariants.{Check, Route, Settle, Run, Trace, Demo}
+use Rattle.command_words.specs.declared.command.Command.TheVariants.{Check, Code, Route, Settle, Run, Trace, Demo}
 use Rattle.command_words.specs.declared.command.WordsFault.{WordsFault}
 use Rattle.metacli.specs.declared.ended.Ended.{Ended}
 use Rattle.metacli.specs.declared.routing.Solution.{Solution}
@@ -39,6 +41,8 @@ pub data PureOutcome : Type 0 where
   stopped : Option PureAlg → Option PureNetFile → PureRefusal → PureOutcome
   -- the verdicts on an algebra, or on the labels of a network over it
   checked : PureAlg → Option PureNetFile → PureVerdicts → PureOutcome
+  -- the code of an algebra's order, and of the labels of a network over it
+  coded : PureAlg → Option PureNetFile → Listing → PureOutcome
   -- the routes of a network over an algebra
   routed : PureAlg → PureNetFile → List PureRow → PureOutcome
   -- the phases before the last, the last, and whether it is quiet; deliveries are printed or not
@@ -49,6 +53,7 @@ pub data PureOutcome : Type 0 where
 abbrev pub algebra_in : PureOutcome → Option PureAlg
 algebra_in (stopped a f r) = a
 algebra_in (checked a f v) = Some a
+algebra_in (coded a f listing) = Some a
 algebra_in (routed a f rows) = Some a
 algebra_in (ran a f traced past last quiet) = Some a
 algebra_in (shown a f last quiet) = Some a
@@ -56,6 +61,7 @@ algebra_in (shown a f last quiet) = Some a
 abbrev pub file_in : PureOutcome → Option PureNetFile
 file_in (stopped a f r) = f
 file_in (checked a f v) = f
+file_in (coded a f listing) = f
 file_in (routed a f rows) = Some f
 file_in (ran a f traced past last quiet) = Some f
 file_in (shown a f last quiet) = Some f
@@ -63,13 +69,23 @@ file_in (shown a f last quiet) = Some f
 abbrev pub verdicts_in : PureOutcome → Option PureVerdicts
 verdicts_in (stopped a f r) = None
 verdicts_in (checked a f v) = Some v
+verdicts_in (coded a f listing) = None
 verdicts_in (routed a f rows) = None
 verdicts_in (ran a f traced past last quiet) = None
 verdicts_in (shown a f last quiet) = None
 
+abbrev pub listing_in : PureOutcome → Option Listing
+listing_in (stopped a f r) = None
+listing_in (checked a f v) = None
+listing_in (coded a f listing) = Some listing
+listing_in (routed a f rows) = None
+listing_in (ran a f traced past last quiet) = None
+listing_in (shown a f last quiet) = None
+
 abbrev pub rows_in : PureOutcome → List PureRow
 rows_in (stopped a f r) = []
 rows_in (checked a f v) = []
+rows_in (coded a f listing) = []
 rows_in (routed a f rows) = rows
 rows_in (ran a f traced past last quiet) = last.rows
 rows_in (shown a f last quiet) = last.rows
@@ -77,6 +93,7 @@ rows_in (shown a f last quiet) = last.rows
 abbrev pub journal_in : PureOutcome → List Delivery
 journal_in (stopped a f r) = []
 journal_in (checked a f v) = []
+journal_in (coded a f listing) = []
 journal_in (routed a f rows) = []
 journal_in (ran a f traced past last quiet) = last.journal
 journal_in (shown a f last quiet) = last.journal
@@ -84,6 +101,7 @@ journal_in (shown a f last quiet) = last.journal
 abbrev pub past_in : PureOutcome → List PurePhase
 past_in (stopped a f r) = []
 past_in (checked a f v) = []
+past_in (coded a f listing) = []
 past_in (routed a f rows) = []
 past_in (ran a f traced past last quiet) = past
 past_in (shown a f last quiet) = []
@@ -91,6 +109,7 @@ past_in (shown a f last quiet) = []
 abbrev pub answer_in : PureOutcome → PureAnswer
 answer_in (stopped a f r) = refused r
 answer_in (checked a f v) = done
+answer_in (coded a f listing) = done
 answer_in (routed a f rows) = done
 answer_in (ran a f traced past last quiet) = if quiet then done else spent
 answer_in (shown a f last quiet) = if quiet then done else spent
@@ -107,6 +126,7 @@ pub record Shows (e : Ended) (asked : Option Command) (o : PureOutcome) : Type 0
   pub net : e.net ≡ option_map (λ (f : PureNetFile). f.net) (file_in o)
   pub changes : map pure_change e.changes ≡ changes_of (file_in o)
   pub verdicts : option_map pure_verdicts e.verdicts ≡ verdicts_in o
+  pub listing : e.listing ≡ listing_in o
   pub rows : map pure_row e.rows ≡ rows_in o
   pub journal : e.journal ≡ journal_in o
   pub past : map pure_phase e.past ≡ past_in o
@@ -129,6 +149,12 @@ labels_on net = map (λ (a : PureArc). a.label) net.arcs
 
 abbrev pub IsOnArc : PureNet → PureLabel → Type 0
 IsOnArc net = Contains (labels_on net)
+
+-- what code comes to where all was read: the code of the algebra's order and of these labels, unless memory is refused
+abbrev pub IsCodedAs : PureAlg → Option PureNetFile → List PureLabel → PureOutcome → Type 0
+IsCodedAs a file labels (coded b f listing) = (b ≡ a) × (f ≡ file) × IsListing a.expression labels listing
+IsCodedAs a file labels (stopped b f memory) = (b ≡ Some a) × (f ≡ file)
+IsCodedAs a file labels _ = ⊥
 
 -- what is asked of all labels, in the order in which it is looked for
 abbrev pub asked_of : Solution → List PureProperty
@@ -207,6 +233,14 @@ IsAlgebraChecked a old new o = (new ≡ old) × IsCheckedAs a None (IsLabel a.ex
 abbrev pub IsNetworkChecked : List ℕ → PureAlg → Moment → Moment → PureOutcome → Type 0
 IsNetworkChecked net a = WithNetwork a net (λ f. IsCheckedAs a (Some f) (IsOnArc (changed_net f)))
 
+-- the order of the algebra is compiled
+abbrev pub IsAlgebraCoded : PureAlg → Moment → Moment → PureOutcome → Type 0
+IsAlgebraCoded a old new o = (new ≡ old) × IsCodedAs a None [] o
+
+-- the network file is read over the algebra, and then the labels on its arcs are compiled too, behind all changes
+abbrev pub IsNetworkCoded : List ℕ → PureAlg → Moment → Moment → PureOutcome → Type 0
+IsNetworkCoded net a = WithNetwork a net (λ f. IsCodedAs a (Some f) (labels_on (changed_net f)))
+
 -- the network file is read over the algebra, and then its routes are found, behind all changes
 abbrev pub IsNetworkRouted : Solution → List ℕ → PureAlg → Moment → Moment → PureOutcome → Type 0
 IsNetworkRouted solution net a = WithNetwork a net (IsRoutedAs solution a)
@@ -221,6 +255,13 @@ IsChecked file = WithAlgebra file IsAlgebraChecked
 
 abbrev pub IsCheckedOn : List ℕ → List ℕ → Moment → Moment → PureOutcome → Type 0
 IsCheckedOn file net = WithAlgebra file (IsNetworkChecked net)
+
+-- what code comes to on the expression file of that name, and on it and the network file of these names
+abbrev pub IsCoded : List ℕ → Moment → Moment → PureOutcome → Type 0
+IsCoded file = WithAlgebra file IsAlgebraCoded
+
+abbrev pub IsCodedOn : List ℕ → List ℕ → Moment → Moment → PureOutcome → Type 0
+IsCodedOn file net = WithAlgebra file (IsNetworkCoded net)
 
 -- what route and settle come to on the files of these names
 abbrev pub IsRouted : Solution → List ℕ → List ℕ → Moment → Moment → PureOutcome → Type 0
@@ -238,6 +279,8 @@ word_at words place = slice_index_or words place []
 abbrev pub ComesBy : List (List ℕ) → Result Command WordsFault → Moment → Moment → Option Command → PureOutcome → Type 0
 ComesBy words (Ok (Check file None)) old new c o = (c ≡ Some (Check file None)) × IsChecked (word_at words file) old new o
 ComesBy words (Ok (Check file (Some net))) old new c o = (c ≡ Some (Check file (Some net))) × IsCheckedOn (word_at words file) (word_at words net) old new o
+ComesBy words (Ok (Code file None)) old new c o = (c ≡ Some (Code file None)) × IsCoded (word_at words file) old new o
+ComesBy words (Ok (Code file (Some net))) old new c o = (c ≡ Some (Code file (Some net))) × IsCodedOn (word_at words file) (word_at words net) old new o
 ComesBy words (Ok (Route file net workers)) old new c o = (c ≡ Some (Route file net workers)) × IsRouted Unbeaten (word_at words file) (word_at words net) old new o
 ComesBy words (Ok (Settle file net)) old new c o = (c ≡ Some (Settle file net)) × IsRouted Settled (word_at words file) (word_at words net) old new o
 ComesBy words (Ok (Run file net workers turns)) old new c o =

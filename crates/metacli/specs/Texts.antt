@@ -8,6 +8,7 @@ use Rattle.net_graph.specs.Tables.{PureRow}
 use Rattle.net_graph.specs.RowTexts.{IsRowOf, row_text}
 use Rattle.topology_file.specs.NetText.{PureNetFile, changed_net}
 use Rattle.report_text.specs.VerdictTexts.{verdicts_text, CanPrintVerdicts}
+use Rattle.report_text.specs.CodeTexts.{CanList, code_text}
 use Rattle.report_text.specs.Refusals.{memory, refusal_text, CanRefuse}
 use Rattle.report_text.specs.RunTexts.{delivery_text, end_text, phase_text}
 use Rattle.report_text.specs.SummaryTexts.{AreSummed, summary_text}
@@ -16,7 +17,7 @@ use Rattle.metacli.specs.Answers.{PureAnswer, done, refused, spent, write_fault}
 use Rattle.metacli.specs.Behind.{nets_after}
 use Rattle.metacli.specs.declared.putting.Cut.{Cut}
 use Rattle.metacli.specs.declared.putting.Cut.TheVariants.{Sink, Memory}
-use Rattle.metacli.specs.Outcome.{PureOutcome, stopped, checked, routed, ran, shown}
+use Rattle.metacli.specs.Outcome.{PureOutcome, stopped, checked, coded, routed, ran, shown}
 
 -- the lines of routes; changes leave all names as they are
 abbrev pub rows_text : PureNet → List PureRow → List ℕ
@@ -48,10 +49,11 @@ run_text traced net nets number [] last quiet = phase_lines traced net number la
 run_text traced net [] number (p ∷ past) last quiet = []
 run_text traced net (m ∷ nets) number (p ∷ past) last quiet = phase_lines traced net number p true ++ run_text traced m nets (number + 1) past last quiet
 
--- the text of what a command came to: verdicts, routes, phases, a summary, or the one line of a refusal
+-- the text of what a command came to: verdicts, code, routes, phases, a summary, or the one line of a refusal
 abbrev pub TextOf : PureOutcome → List ℕ
 TextOf (stopped a f r) = refusal_text r (last_net f)
 TextOf (checked a f v) = verdicts_text a.expression v
+TextOf (coded a f listing) = code_text a.expression (last_net f) listing
 TextOf (routed a f rows) = rows_text f.net rows
 TextOf (ran a f traced past last quiet) = run_text traced f.net (nets_after f.net f.changes) 0 past last quiet
 TextOf (shown a f last quiet) = summary_text f.net last.rows quiet
@@ -60,6 +62,7 @@ TextOf (shown a f last quiet) = summary_text f.net last.rows quiet
 abbrev pub IsPrintable : PureOutcome → Type 0
 IsPrintable (stopped a f r) = CanRefuse r (last_net f)
 IsPrintable (checked a f v) = CanPrintVerdicts a.expression v
+IsPrintable (coded a f listing) = CanList a (last_net f) listing
 IsPrintable (routed a f rows) = AllByRecursion (IsRowOf f.net) rows
 IsPrintable (ran a f traced past last quiet) = AreOfNetworks f.net (nets_after f.net f.changes) past last
 IsPrintable (shown a f last quiet) = AreSummed last.rows

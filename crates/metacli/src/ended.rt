@@ -4,6 +4,7 @@ ghost use Rattle.metacli.specs.Answers.{status_of};
 use crate::{Command, WordsFault};
 use alg_classes::Instance;
 use alg_model::Alg;
+use code_gen::Listing;
 use meta_base::{ArcId, Delivery, List, Which};
 use net_graph::{Change, Net, RouteRow};
 use property_infer::Verdicts;
@@ -50,6 +51,9 @@ pub struct Ended {
     pub changes: List<Change>,
     /// The verdicts, where `check` was carried out.
     pub verdicts: Option<Verdicts>,
+    /// The code of the algebra's order and, where there is a network, of the label on each arc in file order of the
+    /// network behind all changes, where `code` was carried out.
+    pub listing: Option<Listing>,
     /// The routes, where `route` was carried out, on the network behind all changes; those of the last phase, where
     /// `run` or `trace` was: for each destination in order, each node in order.
     pub rows: List<RouteRow>,

@@ -4,6 +4,7 @@
 
 mod behind;
 mod checking;
+mod coding;
 mod ended;
 mod generating;
 mod outcome;

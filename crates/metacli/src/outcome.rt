@@ -9,6 +9,7 @@ ghost use Rattle.report_text.specs.Refusals.{lacks, pure_refusal};
 
 use crate::{Answer, Command, Ended, WordsFault};
 use alg_model::Alg;
+use code_gen::Listing;
 use meta_base::{Delivery, List, NoMemory, Which};
 use net_facts::Lack;
 use net_graph::{Net, RouteRow};
@@ -90,6 +91,14 @@ pub enum Outcome {
         file: Option<NetFile>,
         verdicts: Verdicts,
     },
+    /// The code of an algebra's order, and of the labels of a network over it behind its changes, where there is one:
+    /// `behind` is `None` where there are no changes.
+    Coded {
+        alg: Alg,
+        file: Option<NetFile>,
+        behind: Option<Net>,
+        listing: Listing,
+    },
     /// The routes of a network over an algebra.
     Routed {
         alg: Alg,
@@ -160,6 +169,20 @@ impl Outcome {
                 Made::of_verdicts(alloc, verdicts),
                 Answer::Done,
             ),
+            Outcome::Coded {
+                alg,
+                file,
+                behind,
+                listing,
+            } => {
+                drop(behind);
+                (
+                    Some(alg),
+                    file,
+                    Made::of_listing(alloc, listing),
+                    Answer::Done,
+                )
+            }
             Outcome::Routed { alg, file, rows } => (
                 Some(alg),
                 Some(file),
@@ -199,6 +222,7 @@ impl Outcome {
             net,
             changes,
             verdicts: made.verdicts,
+            listing: made.listing,
             rows: made.rows,
             journal: made.journal,
             past: made.past,
@@ -212,6 +236,7 @@ impl Outcome {
 #[derive(Drop)]
 struct Made {
     verdicts: Option<Verdicts>,
+    listing: Option<Listing>,
     rows: List<RouteRow>,
     journal: List<Delivery>,
     past: List<Phase>,
@@ -222,10 +247,11 @@ impl Made {
 
     // Nothing.
     fn nothing(alloc: Global) -> Made
-        ensures { result ≡ record { verdicts = None; rows = []; journal = []; past = [] } }
+        ensures { result ≡ record { verdicts = None; listing = None; rows = []; journal = []; past = [] } }
     {
         Made {
             verdicts: None,
+            listing: None,
             rows: List::new(alloc),
             journal: List::new(alloc),
             past: List::new(alloc),
@@ -234,10 +260,24 @@ impl Made {
 
     // Verdicts.
     fn of_verdicts(alloc: Global, verdicts: Verdicts) -> Made
-        ensures { result ≡ record { verdicts = Some verdicts; rows = []; journal = []; past = [] } }
+        ensures { result ≡ record { verdicts = Some verdicts; listing = None; rows = []; journal = []; past = [] } }
     {
         Made {
             verdicts: Some(verdicts),
+            listing: None,
+            rows: List::new(alloc),
+            journal: List::new(alloc),
+            past: List::new(alloc),
+        }
+    }
+
+    // Code.
+    fn of_listing(alloc: Global, listing: Listing) -> Made
+        ensures { result ≡ record { verdicts = None; listing = Some listing; rows = []; journal = []; past = [] } }
+    {
+        Made {
+            verdicts: None,
+            listing: Some(listing),
             rows: List::new(alloc),
             journal: List::new(alloc),
             past: List::new(alloc),
@@ -246,10 +286,11 @@ impl Made {
 
     // Routes.
     fn of_rows(alloc: Global, rows: List<RouteRow>) -> Made
-        ensures { result ≡ record { verdicts = None; rows = rows; journal = []; past = [] } }
+        ensures { result ≡ record { verdicts = None; listing = None; rows = rows; journal = []; past = [] } }
     {
         Made {
             verdicts: None,
+            listing: None,
             rows,
             journal: List::new(alloc),
             past: List::new(alloc),
@@ -260,6 +301,7 @@ impl Made {
     fn of_phase(alloc: Global, phase: Phase) -> Made
         ensures { result ≡ record {
           verdicts = None;
+          listing = None;
           rows = phase.rows;
           journal = phase.journal;
           past = [];
@@ -267,6 +309,7 @@ impl Made {
     {
         Made {
             verdicts: None,
+            listing: None,
             rows: phase.rows,
             journal: phase.journal,
             past: List::new(alloc),
@@ -277,6 +320,7 @@ impl Made {
     fn of_run(run: Run) -> Made
         ensures { result ≡ record {
           verdicts = None;
+          listing = None;
           rows = run.last.rows;
           journal = run.last.journal;
           past = run.past;
@@ -284,6 +328,7 @@ impl Made {
     {
         Made {
             verdicts: None,
+            listing: None,
             rows: run.last.rows,
             journal: run.last.journal,
             past: run.past,

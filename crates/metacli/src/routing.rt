@@ -18,8 +18,9 @@ ghost use Rattle.metacli.specs.Views.{CanBeWritten, pure_outcome};
 use crate::behind::{last_of, net_behind};
 use crate::outcome::{Outcome, Stop};
 use alg_classes::Property;
-use alg_model::{Alg, TreeAlgebra};
+use alg_model::Alg;
 use best_first::{best_first_is_optimal, best_first_rows_are_the_networks};
+use code_gen::CodeAlgebra;
 use link_state::all_tables;
 use meta_base::{List, NoMemory};
 use net_facts::{Lack, first_lack};
@@ -152,7 +153,7 @@ fn all_routes<R: AllocGlobal + Threads + Sync>(
     best_first_is_stable();
     stable_rows_are_settled();
     best_first_rows_are_the_networks();
-    let algebra = TreeAlgebra::new(net.alg());
+    let algebra = CodeAlgebra::new(rt.alloc(), net.alg())?;
     let tables = all_tables(rt, &algebra, net, workers)?;
     joined(rt.alloc(), tables)
 }

@@ -11,7 +11,8 @@ ghost use Rattle.metacli.specs.Views.{CanBeWritten, pure_outcome};
 
 use crate::behind::nets_behind;
 use crate::outcome::{Outcome, Stop};
-use alg_model::{Alg, TreeAlgebra};
+use alg_model::Alg;
+use code_gen::CodeAlgebra;
 use meta_base::{Gate, List, NoMemory};
 use net_graph::Net;
 use std::alloc::AllocGlobal;
@@ -72,7 +73,7 @@ pub(crate) fn run_through<R: AllocGlobal + Threads + Wait + Sync, G: Gate>(
     phases_are_of_networks();
     let alloc = rt.alloc();
     let changed = List::from_vec(nets_behind(alloc, &file.net, file.changes.as_slice())?);
-    let algebra = TreeAlgebra::new(file.net.alg());
+    let algebra = CodeAlgebra::new(alloc, file.net.alg())?;
     let run = run_phases(
         rt,
         alloc,

@@ -1,10 +1,11 @@
 ghost use Rattle.std.specs.Prelude.{◌≡◌, ◌<◌, length, Some, None};
-ghost use Rattle.metacli.specs.Outcome.{ComesTo, IsChecked, IsCheckedOn, IsRouted, IsRunOn, word_at};
+ghost use Rattle.metacli.specs.Outcome.{ComesTo, IsChecked, IsCheckedOn, IsCoded, IsCodedOn, IsRouted, IsRunOn, word_at};
 ghost use Rattle.command_words.specs.Words.{AreTurns, AreWorkers};
 ghost use Rattle.metacli.specs.Runs.{Runs};
 ghost use Rattle.metacli.specs.Views.{CanBeWritten, pure_outcome};
 
 use crate::checking::{check, check_network};
+use crate::coding::{code, code_network};
 use crate::generating::demo;
 use crate::outcome::{Outcome, Stop};
 use crate::reading::{read_expression, read_network};
@@ -69,6 +70,11 @@ fn decide<R: AllocGlobal + Threads + Wait + Sync, S: Shelf, G: Gate>(
             file,
             net: Some(net),
         } => check_files(alloc, shelf, name_at(words, file), name_at(words, net)),
+        Command::Code { file, net: None } => code_file(alloc, shelf, name_at(words, file)),
+        Command::Code {
+            file,
+            net: Some(net),
+        } => code_files(alloc, shelf, name_at(words, file), name_at(words, net)),
         Command::Route { file, net, workers } => route_files(
             rt,
             shelf,
@@ -150,6 +156,36 @@ fn check_files<S: Shelf>(alloc: Global, shelf: &mut S, file: &str, net: &str) ->
     };
     match read_network(alloc, shelf, &alg, net) {
         Ok(file) => check_network(alloc, alg, file),
+        Err(stop) => Outcome::Stopped {
+            alg: Some(alg),
+            file: None,
+            stop,
+        },
+    }
+}
+
+// What `code` comes to on the expression file of that name.
+fn code_file<S: Shelf>(alloc: Global, shelf: &mut S, file: &str) -> Outcome
+    ensures coded { IsCoded file.now (S.now_is shelf.old) (S.now_is shelf.new) (pure_outcome result) }
+    ensures printable { CanBeWritten result }
+{
+    match read_expression(alloc, shelf, file) {
+        Ok(alg) => code(alloc, alg),
+        Err(stop) => Outcome::refused(stop),
+    }
+}
+
+// What `code` comes to on the expression file and the network file of these names.
+fn code_files<S: Shelf>(alloc: Global, shelf: &mut S, file: &str, net: &str) -> Outcome
+    ensures coded { IsCodedOn file.now net.now (S.now_is shelf.old) (S.now_is shelf.new) (pure_outcome result) }
+    ensures printable { CanBeWritten result }
+{
+    let alg = match read_expression(alloc, shelf, file) {
+        Ok(alg) => alg,
+        Err(stop) => return Outcome::refused(stop),
+    };
+    match read_network(alloc, shelf, &alg, net) {
+        Ok(file) => code_network(alloc, alg, file),
         Err(stop) => Outcome::Stopped {
             alg: Some(alg),
             file: None,

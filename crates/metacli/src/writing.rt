@@ -7,9 +7,11 @@ ghost use Rattle.net_graph.specs.Nets.{PureNet};
 ghost use Rattle.net_graph.specs.Views.{pure_row};
 ghost use Rattle.net_graph.specs.RowTexts.{IsRowOf};
 ghost use Rattle.property_infer.specs.Views.{pure_verdicts};
+ghost use Rattle.topology_file.specs.declared.network.NetFile.{NetFile};
 ghost use Rattle.report_text.specs.VerdictTexts.{CanPrintVerdicts, lines_on};
 ghost use Rattle.report_text.specs.Refusals.{CanLack, lacks, lacks_text, refusal_text};
 ghost use Rattle.metacli.specs.Answers.{pure_answer, pure_stop, refused, write_fault};
+ghost use Rattle.metacli.specs.Behind.{last_of};
 ghost use Rattle.metacli.specs.Outcome.{answer_in};
 ghost use Rattle.metacli.specs.Texts.{PutsText, TextOf, Written, rows_text};
 ghost use Rattle.metacli.specs.Views.{CanBeWritten, pure_outcome};
@@ -26,8 +28,9 @@ use meta_base::{Failed, NoMemory, Sink, Text, put_all};
 use net_facts::Lack;
 use net_graph::{Net, RouteRow};
 use property_infer::Verdicts;
-use report_text::{lacks_line, refusal_line, row_line, verdict_line};
+use report_text::{code_lines, lacks_line, refusal_line, row_line, verdict_line};
 use std::alloc::Global;
+use topology_file::NetFile;
 
 /// Writes the text of what a run came to, and answers how that went.
 pub fn write<K: Sink>(alloc: Global, out: &mut K, outcome: &Outcome) -> Answer
@@ -45,6 +48,18 @@ pub fn write<K: Sink>(alloc: Global, out: &mut K, outcome: &Outcome) -> Answer
         } => write_lack(alloc, out, last_of(behind, &file.net), lack),
         Outcome::Checked { alg, verdicts, .. } => answered(
             put_verdicts(alloc, out, alg, verdicts, &Property::ALL),
+            Answer::Done,
+        ),
+        Outcome::Coded {
+            alg,
+            file,
+            behind,
+            listing,
+        } => answered(
+            put_line(
+                out,
+                code_lines(alloc, alg, listed_net(file, behind), listing),
+            ),
             Answer::Done,
         ),
         Outcome::Routed { file, rows, .. } => answered(
@@ -79,6 +94,17 @@ pub fn write<K: Sink>(alloc: Global, out: &mut K, outcome: &Outcome) -> Answer
             put_summary(alloc, out, &file.net, last.rows.as_slice(), *is_quiet),
             end_answer(*is_quiet),
         ),
+    }
+}
+
+// The network whose labels were compiled: that of the file, or the one behind its changes.
+fn listed_net<'a>(file: &'a Option<NetFile>, behind: &'a Option<Net>) -> Option<&'a Net>
+    ensures { option_map (λ net. net.now) result ≡
+        option_map (λ (file : NetFile). last_of behind.now file.net) file.now }
+{
+    match file {
+        Some(file) => Some(last_of(behind, &file.net)),
+        None => None,
     }
 }
 
