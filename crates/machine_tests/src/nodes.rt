@@ -193,7 +193,7 @@ const CAPPED: &[u8] = b"node a b c\nboth a b : 1\nlink b c : 1\norigin x at c : 
 
 const DENIED: &[u8] = b"node a b\nlink a b : deny\norigin x at b : unit\n";
 
-// An expression, the lines of a network, and cases of its nodes, one a line: a new node, what it hears, one after another,
+// An expression, the lines of a network, and cases of its nodes, one a line: a new node, what it hears in turn,
 // its row for the first destination in the end, and the arcs on which it tells that then.
 type Cases = (&'static str, &'static [u8], &'static str);
 

@@ -209,7 +209,7 @@ fn other_values_are_told_apart(rt: HostRuntime) -> Result<(), Fail> {
     Ok(())
 }
 
-// Words with the numbers of the destinations that they name, and of nodes. Where a number is no name it stands for itself.
+// Words with the numbers of the destinations that they name, and of nodes. A number that is no name stands for itself.
 const DESTS: &[(&str, u32)] = &[("x", 0), ("y", 1), ("7", 7)];
 
 const NODES: &[(&str, u32)] = &[("a", 0), ("c", 2), ("7", 7)];

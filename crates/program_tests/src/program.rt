@@ -395,8 +395,8 @@ fn other_answers_are_told_apart(rt: HostRuntime) -> Result<(), Fail> {
     Ok(())
 }
 
-// Routes of customers are preferred to those of peers, and these to those of providers, and only customers' routes go to
-// everyone; then the fewest hops are.
+// Routes of customers are preferred to those of peers, and these to those of providers, and only customers' routes go
+// to everyone; then the fewest hops are.
 pub(crate) const CUSTOMERS: &[u8] = b"let rel = table {
   c < r < p;
   C: c -> c;

@@ -218,7 +218,7 @@ fn ended_by(outcome: Outcome, text: &[u8], other: &[u8], status: u8) -> bool {
     (taken == text || is_other) && outcome.status == status
 }
 
-// Ends that aren't `quiet 1` or, as far as that may be, `quiet 2`, with status 0. An empty text stands for no other end.
+// Texts that aren't `quiet 1`, nor the other text that may be, if it isn't empty; or that end with another status.
 const OTHER_ENDS: &[(&[u8], &[u8], u8)] = &[
     (b"quiet 3\n", b"quiet 2\n", 0),
     (b"quiet 1\n", b"quiet 2\n", 4),
