@@ -295,3 +295,24 @@ fn nodes_answer(rt: HostRuntime) -> Result<(), Fail> {
     }
     Ok(())
 }
+
+// Another row, an arc too few, one too many, arcs in another order, and a row that is told or not.
+const OTHER_CASES: &str = "d | - | 1 d | 2 3
+d | - | 0 d | 2
+d | - | 0 d | 2 3 4
+d | - | 0 d | 3 2
+d | - | 0 d | -
+a | - | none | 4";
+
+// The cases, in a call, so that no proof looks into them.
+fn other_cases() -> &'static str {
+    OTHER_CASES
+}
+
+#[test]
+fn other_answers_are_told_apart(rt: HostRuntime) -> Result<(), Fail> {
+    for case in other_cases().lines() {
+        assert!(rt; !answers_over(rt.alloc(), HOPS, HUB, case)?, "{case}");
+    }
+    Ok(())
+}
