@@ -20,9 +20,9 @@ use std::cmp::Ordering;
 use std::test::Fail;
 use test_readers::algebra;
 
-/// The text of what the label makes of the value, or `None` where it prohibits it.
+// The text of what the label makes of the value, or `None` where it prohibits it.
 #[tactic(auto, using(alg_model::specs::BoundLaws::at_most_more))]
-pub fn image_text(
+pub(crate) fn image_text(
     alloc: Global,
     alg: &Alg,
     label: &str,
@@ -101,6 +101,24 @@ fn images(rt: HostRuntime) -> Result<(), Fail> {
     Ok(())
 }
 
+// Cases with an image that is another one.
+const OTHER_IMAGES: &str = "add(1..10) | 3 | 4 | 8
+add(1..10) | 3 | 4 | none
+cap(15; 1..1) | 1 | 15 | 15
+tags(3) | +1 | {0,2} | {0,2}";
+
+fn other_image_cases() -> &'static str {
+    OTHER_IMAGES
+}
+
+#[test]
+fn other_images_are_told_apart(rt: HostRuntime) -> Result<(), Fail> {
+    for case in other_image_cases().lines() {
+        assert!(rt; !is_image_case(rt.alloc(), case)?, "{case}");
+    }
+    Ok(())
+}
+
 // What an algebra makes of a value and a label of its own form, by the trait's bound alone: the image,
 // where the value is preferred to it.
 fn worse_image<A: Algebra>(
@@ -150,8 +168,13 @@ fn trees_are_carried_out(rt: HostRuntime) -> Result<(), Fail> {
     Ok(())
 }
 
-/// How two values compare.
-pub fn order_of(alloc: Global, alg: &Alg, first: &str, second: &str) -> Result<Ordering, Fail> {
+// How two values compare.
+pub(crate) fn order_of(
+    alloc: Global,
+    alg: &Alg,
+    first: &str,
+    second: &str,
+) -> Result<Ordering, Fail> {
     let first = read_value(alloc, alg, first.as_bytes())?;
     let second = read_value(alloc, alg, second.as_bytes())?;
     Ok(order(alg, &first, &second))

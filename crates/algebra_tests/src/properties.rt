@@ -8,7 +8,7 @@ use crate::algebras::{image_text, order_of};
 use alg_classes::{Profile, Property};
 use alg_model::{Alg, Label};
 use meta_base::NoMemory;
-use property_infer::{Verdict, label_profile, label_verdicts, verdicts};
+use property_infer::{Verdict, Verdicts, label_profile, label_verdicts, verdicts};
 use sig_text::read_label;
 use std::alloc::Global;
 use std::cmp::Ordering;
@@ -159,6 +159,24 @@ fn what_is_inferred_is_what_trial_tells(rt: HostRuntime) -> Result<(), Fail> {
     Ok(())
 }
 
+// Cases whose labels aren't all of the algebra's, so that trial tells more than holds, and one whose values don't show
+// that a label isn't monotone.
+const PARTS: &str = "add(0..1) | 0 1 2 3 | 1
+cap(2; 0..3) | 0 1 2 | 1
+table { a < b = c; up: a -> b, b -> c; down: c -> a } | a b | up down";
+
+fn parts() -> &'static str {
+    PARTS
+}
+
+#[test]
+fn trial_of_a_part_tells_more(rt: HostRuntime) -> Result<(), Fail> {
+    for case in parts().lines() {
+        assert!(rt; !is_inferred_as_tried(rt.alloc(), case)?, "{case}");
+    }
+    Ok(())
+}
+
 // An expression, a label and its facts, by hand: total, dead, monotone, strict, isotone, cancellative, all
 // images equivalent, all values that have one equivalent.
 const FACTS: &str = "lex(gate, gate) | (allow,allow) | y-y-yyyy
@@ -257,24 +275,29 @@ fn is_profile(profile: Profile, facts: &str) -> bool {
     facts.chars().map(|fact| fact == 'y').eq(all)
 }
 
-// The label's profile, and whether its verdicts say the same of the five properties.
-fn facts_of(alloc: Global, alg: &Alg, label: &str) -> Result<(Profile, bool), Fail> {
-    let label = read_label(alloc, alg, label.as_bytes())?;
-    let profile = label_profile(alg, &label);
-    let verdicts = label_verdicts(alloc, alg, &label)?;
-    let agree = matches!(verdicts.monotone, Verdict::Yes) == profile.mono
+// Whether the verdicts say the same of the five properties.
+fn agree(verdicts: &Verdicts, profile: Profile) -> bool {
+    matches!(verdicts.monotone, Verdict::Yes) == profile.mono
         && matches!(verdicts.strict, Verdict::Yes) == profile.strict
         && matches!(verdicts.isotone, Verdict::Yes) == profile.iso
         && matches!(verdicts.cancellative, Verdict::Yes) == profile.canc
-        && matches!(verdicts.total, Verdict::Yes) == profile.total;
-    Ok((profile, agree))
+        && matches!(verdicts.total, Verdict::Yes) == profile.total
+}
+
+// The label's profile, and whether the verdicts of the other one, which may be the same, say the same.
+fn facts_of(alloc: Global, alg: &Alg, label: &str, other: &str) -> Result<(Profile, bool), Fail> {
+    let label = read_label(alloc, alg, label.as_bytes())?;
+    let profile = label_profile(alg, &label);
+    let other = read_label(alloc, alg, other.as_bytes())?;
+    let verdicts = label_verdicts(alloc, alg, &other)?;
+    Ok((profile, agree(&verdicts, profile)))
 }
 
 fn is_fact_case(alloc: Global, case: &str) -> Result<bool, Fail> {
     let (expression, rest) = case.split_once(" | ").ok_or("no label")?;
     let (label, facts) = rest.split_once(" | ").ok_or("no facts")?;
     let alg = algebra(alloc, expression)?;
-    let (profile, agree) = facts_of(alloc, &alg, label)?;
+    let (profile, agree) = facts_of(alloc, &alg, label, label)?;
     Ok(agree && is_profile(profile, facts))
 }
 
@@ -282,6 +305,53 @@ fn is_fact_case(alloc: Global, case: &str) -> Result<bool, Fail> {
 fn facts_of_composed_labels(rt: HostRuntime) -> Result<(), Fail> {
     for case in fact_cases().lines() {
         assert!(rt; is_fact_case(rt.alloc(), case)?, "{case}");
+    }
+    Ok(())
+}
+
+// Cases with a fact that is none, with one that is left out, and with one too many.
+const OTHER_FACTS: &str = "lex(gate, gate) | (allow,allow) | y-y-yyy-
+lex(gate, gate) | (allow,allow) | yyy-yyyy
+lex(gate, gate) | (allow,allow) | y-y-yyy
+lex(gate, gate) | (allow,allow) | y-y-yyyyy";
+
+fn other_fact_cases() -> &'static str {
+    OTHER_FACTS
+}
+
+#[test]
+fn other_facts_are_told_apart(rt: HostRuntime) -> Result<(), Fail> {
+    for case in other_fact_cases().lines() {
+        assert!(rt; !is_fact_case(rt.alloc(), case)?, "{case}");
+    }
+    Ok(())
+}
+
+// Whether the verdicts on the other label say the same of the label's properties.
+fn have_same_facts(
+    alloc: Global,
+    expression: &str,
+    label: &str,
+    other: &str,
+) -> Result<bool, Fail> {
+    let alg = algebra(alloc, expression)?;
+    let (_profile, agree) = facts_of(alloc, &alg, label, other)?;
+    Ok(agree)
+}
+
+// The labels differ in strictness, in monotonicity, and in totality and strictness.
+#[test]
+fn other_verdicts_are_told_apart(rt: HostRuntime) -> Result<(), Fail> {
+    let pairs: &[(&str, &str, &str)] = &[
+        ("add(0..1)", "0", "1"),
+        ("plus(lp(2), lp(2))", "l:0", "l:1"),
+        ("gate", "allow", "deny"),
+    ];
+    for (expression, label, other) in pairs {
+        assert!(rt;
+            !have_same_facts(rt.alloc(), *expression, *label, *other)?,
+            "{label} and {other}"
+        );
     }
     Ok(())
 }

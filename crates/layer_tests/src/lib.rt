@@ -18,4 +18,6 @@ mod outside;
 #[cfg(test)]
 mod paths;
 #[cfg(test)]
+mod refusals;
+#[cfg(test)]
 mod tokens;

@@ -227,3 +227,24 @@ fn deliveries_are_made(rt: HostRuntime) -> Result<(), Fail> {
     }
     Ok(())
 }
+
+// Another clock, a message that is said not to wait, other counts of messages in the end and at the beginning, and
+// another row.
+const OTHER_MACHINES: &[Machine] = &[
+    (HOPS, PAIR, "1 0 / 0 at 2: 0 1", "3 a b / 0 b"),
+    (HOPS, PAIR, "1 0 / 0 empty: 0 1", "3 a b / 0 b"),
+    (HOPS, PAIR, "1 0 / 0 at 1: 0 0", "3 a b / 0 b"),
+    (HOPS, PAIR, "1 0 / 0 at 1: 0", "3 a b / 0 b"),
+    (HOPS, PAIR, "1 0 / 0 at 1: 0 1 0", "3 a b / 0 b"),
+    (HOPS, PAIR, "1 1 / 0 at 1: 0 1", "3 a b / 0 b"),
+    (HOPS, PAIR, "1 0 / 0 at 1: 0 1", "none / 0 b"),
+];
+
+#[test]
+fn other_deliveries_are_told_apart(rt: HostRuntime) -> Result<(), Fail> {
+    for (expression, lines, deliveries, rows) in OTHER_MACHINES {
+        let are_right = delivers_over(rt.alloc(), *expression, *lines, *deliveries, *rows)?;
+        assert!(rt; !are_right, "{deliveries}");
+    }
+    Ok(())
+}

@@ -193,7 +193,7 @@ const CAPPED: &[u8] = b"node a b c\nboth a b : 1\nlink b c : 1\norigin x at c : 
 
 const DENIED: &[u8] = b"node a b\nlink a b : deny\norigin x at b : unit\n";
 
-// An expression, the lines of a network, and cases of its nodes, one a line: a new node, what it hears, one after another,
+// An expression, the lines of a network, and cases of its nodes, one a line: a new node, what it hears in turn,
 // its row for the first destination in the end, and the arcs on which it tells that then.
 type Cases = (&'static str, &'static [u8], &'static str);
 
@@ -292,6 +292,27 @@ fn nodes_answer(rt: HostRuntime) -> Result<(), Fail> {
                 "{case}"
             );
         }
+    }
+    Ok(())
+}
+
+// Another row, an arc too few, one too many, arcs in another order, and a row that is told or not.
+const OTHER_CASES: &str = "d | - | 1 d | 2 3
+d | - | 0 d | 2
+d | - | 0 d | 2 3 4
+d | - | 0 d | 3 2
+d | - | 0 d | -
+a | - | none | 4";
+
+// The cases, in a call, so that no proof looks into them.
+fn other_cases() -> &'static str {
+    OTHER_CASES
+}
+
+#[test]
+fn other_answers_are_told_apart(rt: HostRuntime) -> Result<(), Fail> {
+    for case in other_cases().lines() {
+        assert!(rt; !answers_over(rt.alloc(), HOPS, HUB, case)?, "{case}");
     }
     Ok(())
 }

@@ -135,6 +135,22 @@ fn walks_are_weighed(rt: HostRuntime) -> Result<(), Fail> {
     Ok(())
 }
 
+// Walks that don't weigh this.
+const OTHER_WALKS: &[Walk] = &[
+    (HOPS, BOTH_WAYS, "a b", "4"),
+    (HOPS, BOTH_WAYS, "a b", "none"),
+    (HOPS, BOTH_WAYS, "a", "0"),
+];
+
+#[test]
+fn other_weights_are_told_apart(rt: HostRuntime) -> Result<(), Fail> {
+    for (expression, lines, walk, weight) in OTHER_WALKS {
+        let is_weight = is_weight_over(rt.alloc(), *expression, *lines, *walk, *weight)?;
+        assert!(rt; !is_weight, "{walk} weighs {weight}");
+    }
+    Ok(())
+}
+
 // Whether the table of these rows is relaxed, and whether it is stable; `None` where it is no table of the network.
 fn checks(alloc: Global, net: &Net, rows: &str) -> Result<Option<(bool, bool)>, Fail> {
     let table = table_of(alloc, net, rows)?;

@@ -9,20 +9,20 @@ use std::sync::Wait;
 use std::test::Fail;
 use std::thread::Threads;
 
-/// What a run over memory came to: its status, and the bytes that were taken.
+// What a run over memory came to: its status, and the bytes that were taken.
 #[derive(Drop)]
-pub struct Outcome {
-    pub status: u8,
-    pub taken: Vec<u8>,
+pub(crate) struct Outcome {
+    pub(crate) status: u8,
+    pub(crate) taken: Vec<u8>,
 }
 
-/// Whether the run wrote this text, and ended with this status.
-pub fn ended_with(outcome: Outcome, text: &[u8], status: u8) -> bool {
+// Whether the run wrote this text, and ended with this status.
+pub(crate) fn ended_with(outcome: Outcome, text: &[u8], status: u8) -> bool {
     outcome.taken.as_slice() == text && outcome.status == status
 }
 
-/// Whether the run was refused for a label with a line that begins so.
-pub fn is_lacking(outcome: Outcome, begins: &str) -> Result<bool, Fail> {
+// Whether the run was refused for a label with a line that begins so.
+pub(crate) fn is_lacking(outcome: Outcome, begins: &str) -> Result<bool, Fail> {
     let text = str::from_utf8(&outcome.taken)?;
     Ok(outcome.status == 3 && text.starts_with(begins) && text.lines().count() == 1)
 }
@@ -37,6 +37,11 @@ struct Around<'a> {
     failing_writes: &'a [u64],
     bite: usize,
 }
+
+// How much the sink takes at a time where that is of no matter, and what it has room for.
+const BITE: usize = 100;
+
+const ROOM: usize = 1000;
 
 fn list_of<T: Copy>(alloc: Global, items: &[T]) -> Result<List<T>, NoMemory> {
     Ok(List::from_vec(Vec::from_slice(alloc, items)?))
@@ -73,7 +78,7 @@ fn run_around(
     })?;
     let mut shelf = MemShelf::new(files, list_of(alloc, around.failing_calls)?);
     let failing = list_of(alloc, around.failing_writes)?;
-    let mut out = MemSink::new(alloc, 1000, around.bite.max(1), failing)?;
+    let mut out = MemSink::new(alloc, ROOM, around.bite.max(1), failing)?;
     let mut texts = Vec::new(alloc);
     for word in words {
         texts.push(Text::copy(alloc, *word)?)?;
@@ -94,8 +99,8 @@ fn run(
     run_on(rt, words, file, b"")
 }
 
-/// The same with a network.
-pub fn run_on(
+// The same with a network.
+pub(crate) fn run_on(
     rt: &(impl AllocGlobal + Threads + Wait + Sync),
     words: &[&str],
     file: &[u8],
@@ -109,9 +114,49 @@ pub fn run_on(
             net,
             failing_calls: &[],
             failing_writes: &[],
-            bite: 100,
+            bite: BITE,
         },
     )
+}
+
+// What a run with this status would come to that wrote this text.
+pub(crate) fn outcome_of(alloc: Global, taken: &[u8], status: u8) -> Result<Outcome, NoMemory> {
+    let taken = Vec::from_slice(alloc, taken)?;
+    Ok(Outcome { status, taken })
+}
+
+// Ends that aren't `quiet 1` with status 0.
+const OTHER_ENDS: &[(&[u8], u8)] = &[
+    (b"quiet 1\n", 4),
+    (b"quiet 2\n", 0),
+    (b"quiet 1", 0),
+    (b"", 0),
+];
+
+#[test]
+fn other_ends_are_told_apart(rt: HostRuntime) -> Result<(), Fail> {
+    for (taken, status) in OTHER_ENDS {
+        let outcome = outcome_of(rt.alloc(), *taken, *status)?;
+        assert!(rt; !ended_with(outcome, b"quiet 1\n", 0));
+    }
+    Ok(())
+}
+
+// Ends that are no refusal for a label that fails to be strict.
+const NO_LACKS: &[(&[u8], u8)] = &[
+    (b"strict fails on a b: 0 on 0 gives 0\n", 0),
+    (b"isotone fails on a b: 0 on 0 gives 0\n", 3),
+    (b"strict fails on a b: 0 on 0 gives 0\na x 0 a\n", 3),
+    (b"", 3),
+];
+
+#[test]
+fn other_refusals_are_told_apart(rt: HostRuntime) -> Result<(), Fail> {
+    for (taken, status) in NO_LACKS {
+        let outcome = outcome_of(rt.alloc(), *taken, *status)?;
+        assert!(rt; !is_lacking(outcome, "strict fails on ")?);
+    }
+    Ok(())
 }
 
 const ALL_HOLD: &[u8] = b"monotone yes\nstrict yes\nisotone yes\ncancellative yes\ntotal yes\n";
@@ -259,6 +304,16 @@ fn words_mean_commands(rt: HostRuntime) -> Result<(), Fail> {
     Ok(())
 }
 
+#[test]
+fn other_commands_are_told_apart(rt: HostRuntime) -> Result<(), Fail> {
+    let check = Command::Check { file: 1, net: None };
+    let others: &[&[&str]] = &[&["check", "f", "n"], &["settle", "f", "n"], &["check"], &[]];
+    for words in others {
+        assert!(rt; !words_mean(rt.alloc(), *words, check)?, "{words:?}");
+    }
+    Ok(())
+}
+
 // The line of a refused expression.
 #[test]
 fn expressions_are_refused(rt: HostRuntime) -> Result<(), Fail> {
@@ -306,7 +361,43 @@ fn has_said(outcome: Outcome, marks: &str, lines: &str) -> Result<bool, Fail> {
     Ok(outcome.status == 0 && says(text, marks)? && text.contains(lines))
 }
 
-pub const CUSTOMERS: &[u8] = b"let rel = table {
+// What `check` prints where not strict alone is denied, or not by that label; and that with another status.
+const NO_STRICT: &[(&[u8], u8)] = &[
+    (ALL_HOLD, 0),
+    (
+        b"monotone yes\nstrict no: 0 on 0 gives 0\nisotone yes\ncancellative yes\ntotal no: 0 on 1 gives none\n",
+        0,
+    ),
+    (
+        b"monotone yes\nstrict no: 1 on 0 gives 0\nisotone yes\ncancellative yes\ntotal yes\n",
+        0,
+    ),
+    (
+        b"monotone yes\nstrict no\nisotone yes\ncancellative yes\ntotal yes\n",
+        0,
+    ),
+    (
+        b"monotone yes\nstrict no: 0 on 0 gives 0\nisotone yes\ncancellative yes\n",
+        0,
+    ),
+    (
+        b"monotone yes\nstrict no: 0 on 0 gives 0\nisotone yes\ncancellative yes\ntotal yes\n",
+        3,
+    ),
+];
+
+#[test]
+fn other_answers_are_told_apart(rt: HostRuntime) -> Result<(), Fail> {
+    for (taken, status) in NO_STRICT {
+        let outcome = outcome_of(rt.alloc(), *taken, *status)?;
+        assert!(rt; !has_said(outcome, "y-yyy", "strict no: 0 on ")?);
+    }
+    Ok(())
+}
+
+// Routes of customers are preferred to those of peers, and these to those of providers, and only customers' routes go
+// to everyone; then the fewest hops are.
+pub(crate) const CUSTOMERS: &[u8] = b"let rel = table {
   c < r < p;
   C: c -> c;
   R: c -> r;
@@ -314,7 +405,8 @@ pub const CUSTOMERS: &[u8] = b"let rel = table {
 };
 main lex(rel, add(1..1));";
 
-pub const BAD_GADGET: &[u8] = b"main table { o < a < d; D: o -> d; N: d -> a };";
+// A way by a neighbour that routes directly is preferred to a direct one.
+pub(crate) const BAD_GADGET: &[u8] = b"main table { o < a < d; D: o -> d; N: d -> a };";
 
 const BAD_LINES: &str = "monotone no: N on d gives a\nstrict no: N on d gives a\n";
 
@@ -410,7 +502,7 @@ fn run_failing(
         net: b"",
         failing_calls: &[call],
         failing_writes: &[],
-        bite: 100,
+        bite: BITE,
     };
     run_around(rt, &["check", name], around)
 }

@@ -305,10 +305,12 @@ fn line_of(
     }
 }
 
-// Whether the program's routes on the drawn network have the values of the plain program.
+// Whether the program's routes on the drawn network have the values of the plain program, which goes by the same policy
+// or by another one.
 fn agrees(
     rt: &(impl AllocGlobal + Threads + Wait + Sync),
     policy: Policy,
+    plain: Policy,
     draw: &mut Draw,
 ) -> Result<bool, Fail> {
     let alloc = rt.alloc();
@@ -316,10 +318,10 @@ fn agrees(
     let net = network_of(alloc, policy, &arcs)?;
     let outcome = run_on(rt, &["route", "f", "n"], policy.file(), net.as_bytes())?;
     let text = str::from_utf8(&outcome.taken)?;
-    let best = relaxed(policy, &arcs);
+    let best = relaxed(plain, &arcs);
     for (node, line) in text.lines().enumerate() {
         let known = best.get(node).copied().flatten();
-        if !line.starts_with(line_of(alloc, policy, node, known)?.as_str()) {
+        if !line.starts_with(line_of(alloc, plain, node, known)?.as_str()) {
             return Ok(false);
         }
     }
@@ -331,8 +333,16 @@ fn drawn_networks_have_the_relaxed_values(rt: HostRuntime) -> Result<(), Fail> {
     let mut draw = Draw { state: 1 };
     for _network in 0..20 {
         for policy in [Policy::Sum, Policy::Greatest, Policy::SumThenWidth] {
-            assert!(rt; agrees(&rt, policy, &mut draw)?);
+            assert!(rt; agrees(&rt, policy, policy, &mut draw)?);
         }
     }
+    Ok(())
+}
+
+// Sums are greater than their greatest parts.
+#[test]
+fn other_values_are_told_apart(rt: HostRuntime) -> Result<(), Fail> {
+    let mut draw = Draw { state: 1 };
+    assert!(rt; !agrees(&rt, Policy::Sum, Policy::Greatest, &mut draw)?);
     Ok(())
 }

@@ -1,6 +1,6 @@
 // Tests of `run` and `trace`: rows, deliveries and ends that are told by hand, and that hold whatever is delivered
 // first, so for any number of workers.
-use crate::program::{BAD_GADGET, CUSTOMERS, Outcome, ended_with, run_on};
+use crate::program::{BAD_GADGET, CUSTOMERS, Outcome, ended_with, outcome_of, run_on};
 use crate::settled::{DIAMOND, PROVIDERS, SHORTEST, UNHEARD, WIDE_THEN_SHORT};
 use std::str;
 use std::test::Fail;
@@ -218,6 +218,24 @@ fn ended_by(outcome: Outcome, text: &[u8], other: &[u8], status: u8) -> bool {
     (taken == text || is_other) && outcome.status == status
 }
 
+// Texts that aren't `quiet 1`, nor the other text that may be, if it isn't empty; or that end with another status.
+const OTHER_ENDS: &[(&[u8], &[u8], u8)] = &[
+    (b"quiet 3\n", b"quiet 2\n", 0),
+    (b"quiet 1\n", b"quiet 2\n", 4),
+    (b"quiet 2\n", b"quiet 2\n", 4),
+    (b"quiet 2\n", b"", 0),
+    (b"", b"", 0),
+];
+
+#[test]
+fn other_ends_are_told_apart(rt: HostRuntime) -> Result<(), Fail> {
+    for (taken, other, status) in OTHER_ENDS {
+        let outcome = outcome_of(rt.alloc(), *taken, *status)?;
+        assert!(rt; !ended_by(outcome, b"quiet 1\n", *other, 0));
+    }
+    Ok(())
+}
+
 #[test]
 fn any_workers_come_to_these_ends(rt: HostRuntime) -> Result<(), Fail> {
     for (command, turns, file, net, text, other, status) in CASES {
@@ -296,13 +314,32 @@ fn is_agreement(text: &str) -> bool {
     false
 }
 
+// Rows that aren't stable, both of both tables, and a table that isn't said to be quiet.
+const NO_AGREEMENTS: [&str; 4] = [
+    "z x o z\np x d p z\nq x d q z\nquiet 2\n",
+    "z x o z\np x a p q z\nq x a q p z\nquiet 4\n",
+    "z x o z\np x a p q z\nq x d q z\nspent 4\n",
+    "z x o z\np x a p q z\nq x d q z\nquiet 3\nphase 1\n",
+];
+
+#[test]
+fn other_tables_are_no_agreements(rt: HostRuntime) {
+    for text in NO_AGREEMENTS {
+        assert!(rt; !is_agreement(text), "{text}");
+    }
+}
+
+const MANY_TURNS: &str = "1000";
+
+const MANY_SPENT: &str = "spent 1000\n";
+
 #[test]
 fn disagreements_end_in_a_stable_table_if_at_all(rt: HostRuntime) -> Result<(), Fail> {
     for workers in WORKERS {
-        let words = ["run", "f", "n", "--turns", "1000", "--workers", workers];
+        let words = ["run", "f", "n", "--turns", MANY_TURNS, "--workers", workers];
         let outcome = run_on(&rt, &words, BAD_GADGET, DISAGREE)?;
         let text = str::from_utf8(&outcome.taken)?;
-        let is_spent = outcome.status == 4 && text.ends_with("spent 1000\n");
+        let is_spent = outcome.status == 4 && text.ends_with(MANY_SPENT);
         let is_quiet = outcome.status == 0 && is_agreement(text);
         assert!(rt; is_spent || is_quiet, "by {workers}: {text}");
     }

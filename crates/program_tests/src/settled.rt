@@ -3,12 +3,14 @@
 use crate::program::{CUSTOMERS, ended_with, is_lacking, run_on};
 use std::test::Fail;
 
-pub const SHORTEST: &[u8] = b"main add(1..10);";
+// Costs are added up.
+pub(crate) const SHORTEST: &[u8] = b"main add(1..10);";
 
-pub const WIDE_THEN_SHORT: &[u8] = b"main lex(width(100; 0..100), add(1..10));";
+// The widest way, and among those the shortest. Its labels aren't isotone.
+pub(crate) const WIDE_THEN_SHORT: &[u8] = b"main lex(width(100; 0..100), add(1..10));";
 
 // The walk a b c d is better for a, but b doesn't route by c.
-pub const UNHEARD: &[u8] = b"node a b c d
+pub(crate) const UNHEARD: &[u8] = b"node a b c d
 link b d : (10,7)
 link c d : (6,1)
 link b c : (6,1)
@@ -19,13 +21,13 @@ origin x at d : (100,0)
 const UNHEARD_ROWS: &[u8] = b"a x (5,8) a b d\nb x (10,7) b d\nc x (6,1) c d\nd x (100,0) d\n";
 
 // Two ways from a to d that are equally good: the one by the smaller node number is taken.
-pub const DIAMOND: &[u8] =
+pub(crate) const DIAMOND: &[u8] =
     b"node a b c d\nlink a b : 1\nlink a c : 1\nlink b d : 1\nlink c d : 1\norigin x at d : 0\n";
 
 const DIAMOND_ROWS: &[u8] = b"a x 2 a b d\nb x 1 b d\nc x 1 c d\nd x 0 d\n";
 
 // A provider route is told upwards to no one.
-pub const PROVIDERS: &[u8] =
+pub(crate) const PROVIDERS: &[u8] =
     b"node u v w\nlink u v : (P,1)\nlink v w : (C,1)\norigin x at w : (c,0)\n";
 
 const PROVIDERS_ROWS: &[u8] = b"u x (p,2) u v w\nv x (c,1) v w\nw x (c,0) w\n";

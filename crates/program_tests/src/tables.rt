@@ -71,21 +71,63 @@ const SQUARE_TABLES: &[&[Found]] = &[
     &[(2, &[0, 1]), (1, &[1]), (2, &[2, 3, 1]), (2, &[3, 1])],
 ];
 
+// Lists of tables, each of which differs from these in one thing: a value, a path, the count of rows, the order of the
+// destinations, and the count of tables.
+const OTHER_TABLES: &[&[&[Found]]] = &[
+    &[
+        &[(2, &[0, 1, 3]), (1, &[1, 3]), (1, &[2, 3]), (0, &[3])],
+        &[(3, &[0]), (4, &[1, 0]), (5, &[2, 0]), (5, &[3, 1, 0])],
+        &[(2, &[0, 1]), (1, &[1]), (2, &[2, 3, 1]), (2, &[3, 1])],
+    ],
+    &[
+        &[(2, &[0, 2, 3]), (1, &[1, 3]), (0, &[2, 3]), (0, &[3])],
+        &[(3, &[0]), (4, &[1, 0]), (5, &[2, 0]), (5, &[3, 1, 0])],
+        &[(2, &[0, 1]), (1, &[1]), (2, &[2, 3, 1]), (2, &[3, 1])],
+    ],
+    &[
+        &[(2, &[0, 1, 3]), (1, &[1, 3]), (0, &[2, 3])],
+        &[(3, &[0]), (4, &[1, 0]), (5, &[2, 0]), (5, &[3, 1, 0])],
+        &[(2, &[0, 1]), (1, &[1]), (2, &[2, 3, 1]), (2, &[3, 1])],
+    ],
+    &[
+        &[(2, &[0, 1, 3]), (1, &[1, 3]), (0, &[2, 3]), (0, &[3])],
+        &[(2, &[0, 1]), (1, &[1]), (2, &[2, 3, 1]), (2, &[3, 1])],
+        &[(3, &[0]), (4, &[1, 0]), (5, &[2, 0]), (5, &[3, 1, 0])],
+    ],
+    &[
+        &[(2, &[0, 1, 3]), (1, &[1, 3]), (0, &[2, 3]), (0, &[3])],
+        &[(3, &[0]), (4, &[1, 0]), (5, &[2, 0]), (5, &[3, 1, 0])],
+    ],
+];
+
 // Whether so many workers find those tables.
 fn find_tables<R: AllocGlobal + Threads + Sync>(
     rt: &R,
     net: &Net,
     workers: u32,
+    expected: &[&[Found]],
 ) -> Result<bool, Fail> {
     let tables = tables_by(rt, net, workers)?;
-    Ok(are_tables(tables.as_slice(), SQUARE_TABLES))
+    Ok(are_tables(tables.as_slice(), expected))
 }
 
 #[test]
 fn workers_find_the_same_tables(rt: HostRuntime) -> Result<(), Fail> {
     let net = network(rt.alloc(), "add(0..9)", SQUARE)?;
     for workers in [1, 2, 3, 16] {
-        assert!(rt; find_tables(&rt, &net, workers)?, "by {workers} workers");
+        assert!(rt;
+            find_tables(&rt, &net, workers, SQUARE_TABLES)?,
+            "by {workers} workers"
+        );
+    }
+    Ok(())
+}
+
+#[test]
+fn other_tables_are_told_apart(rt: HostRuntime) -> Result<(), Fail> {
+    let net = network(rt.alloc(), "add(0..9)", SQUARE)?;
+    for expected in OTHER_TABLES {
+        assert!(rt; !find_tables(&rt, &net, 1, *expected)?);
     }
     Ok(())
 }
@@ -100,11 +142,12 @@ fn many_dests(alloc: Global, count: usize) -> Result<Net, Fail> {
     network(alloc, "add(0..9)", &text)
 }
 
-// Whether so many workers find the tables of so many destinations, in order.
+// Whether so many workers find the tables of so many destinations, in order, and as many as expected.
 fn find_in_order<R: AllocGlobal + Threads + Sync>(
     rt: &R,
     dests: usize,
     workers: u32,
+    expected: usize,
 ) -> Result<bool, Fail> {
     let net = many_dests(rt.alloc(), dests)?;
     let tables = tables_by(rt, &net, workers)?;
@@ -113,16 +156,17 @@ fn find_in_order<R: AllocGlobal + Threads + Sync>(
             return Ok(false);
         }
     }
-    Ok(tables.as_slice().len() == dests)
+    Ok(tables.as_slice().len() == expected)
 }
 
 #[test]
 fn tables_come_in_order(rt: HostRuntime) -> Result<(), Fail> {
     for (dests, workers) in [(0, 3), (1, 16), (17, 16), (64, 5), (64, 16)] {
         assert!(rt;
-            find_in_order(&rt, dests, workers)?,
+            find_in_order(&rt, dests, workers, dests)?,
             "{dests} by {workers} workers"
         );
     }
+    assert!(rt; !find_in_order(&rt, 17, 16, 16)?);
     Ok(())
 }

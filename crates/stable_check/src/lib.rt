@@ -1,6 +1,6 @@
-//! Checks of a finished table of routes: what a walk weighs, and whether a table is relaxed or stable, each
-//! exactly, and the law that ties relaxed tables to optimal ones. It makes no table. It stands on `net_graph`
-//! and `alg_model`, and on `path_store` for the order of paths.
+//! Checks of a finished table of routes: what a walk weighs, whether two routes are one, and whether a table is
+//! relaxed or stable, each exactly, and the law that ties relaxed tables to optimal ones. It makes no table. It
+//! stands on `net_graph` and `alg_model`, and on `path_store` for the order of paths.
 #![tactic(auto)]
 
 mod equality;
@@ -13,6 +13,7 @@ mod stable;
 mod table;
 mod weight;
 
+pub use equality::is_same_route;
 pub use laws::relaxed_is_optimal;
 pub use relaxed::is_relaxed;
 pub use stable::is_stable;

@@ -4,24 +4,23 @@ use Rattle.std.proofs.lemmas.Bool.{cases_lt}
 use Rattle.alg_model.specs.Carriers.{In, IsPreferred}
 use Rattle.alg_model.specs.Expressions.{PureValue}
 use Rattle.alg_model.specs.Properties.{strict}
-use Rattle.net_graph.specs.Nets.{PureNet, IsNet}
+use Rattle.net_graph.specs.Nets.{PureNet}
 use Rattle.net_graph.specs.Routes.{PureRoute, Better}
 use Rattle.net_graph.specs.Tables.{PureRow, NetHas, route_at, carrier, Offers, IsChoice, Stable}
 use Rattle.net_graph.specs.Unbeaten.{IsUnbeatenBy}
 use Rattle.net_graph.specs.RouteLaws.{table_route_in, no_route_past, tables_equal, neither_better}
 use Rattle.strict_laws.specs.Values.{itself_unbeaten, preferred_then_unbeaten, better_unbeaten}
-use Rattle.strict_laws.specs.Offers.{TellsValues, TellsOwnPaths, next_preferred, offer_in, offer_begins, same_offer}
+use Rattle.strict_laws.specs.Offers.{TellsValues, TellsOwnPaths, next_preferred, offer_begins, same_offer}
 use Rattle.strict_laws.specs.Counts.{count_preferred, fewer_preferred, fewer_than_own}
 
 -- two stable tables over strict labels
 record Given (net : PureNet) (dest : ℕ) (t u : List PureRow) : Type 0 where
-  pub is_net : IsNet net
   pub are_strict : NetHas strict net
   pub first : Stable net dest t
   pub second : Stable net dest u
 
 turned : (net : PureNet) (dest : ℕ) (t u : List PureRow) → Given net dest t u → Given net dest u t
-turned net dest t u g = record { is_net = g.is_net; are_strict = g.are_strict; first = g.second; second = g.first }
+turned net dest t u g = record { are_strict = g.are_strict; first = g.second; second = g.first }
 
 -- the tables have the same route wherever one has a route whose value is preferred to this one
 abbrev AgreeBefore : PureNet → List PureRow → List PureRow → PureValue → Type 0
@@ -48,12 +47,11 @@ stable_paths : (net : PureNet) (dest : ℕ) (t : List PureRow) → Stable net de
 stable_paths net dest t h j next told = offer_begins net dest (route_at t) j next (stable_choice net dest t h j next told).1.0
 
 -- an offer whose value doesn't beat the one before which the tables agree is made in both
-moved : (net : PureNet) (dest : ℕ) (t u : List PureRow) (i : ℕ) (r : PureRoute) (v : PureValue) → Given net dest t u → In (carrier net) v → AgreeBefore net t u v
+moved : (net : PureNet) (dest : ℕ) (t u : List PureRow) (i : ℕ) (r : PureRoute) (v : PureValue) → Given net dest t u → In (carrier net) r.value → In (carrier net) v → AgreeBefore net t u v
     → IsUnbeatenBy (carrier net) (Some r.value) (Some v) → Offers net dest (route_at t) i r → Offers net dest (route_at u) i r
-moved net dest t u i r v g v_in agree f (inl own) = inl own
-moved net dest t u i r v g v_in agree f (inr (j, o)) =
+moved net dest t u i r v g r_in v_in agree f (inl own) = inl own
+moved net dest t u i r v g r_in v_in agree f (inr (j, o)) =
     let values = stable_values net dest t g.first in
-    let r_in = offer_in net dest (route_at t) i r g.is_net values (inr (j, o)) in
     let preferred = preferred_then_unbeaten (carrier net) o.next.value r.value v (values j o.next o.is_told) r_in v_in (next_preferred net (route_at t) i j r g.are_strict values o) f in
     inr (j, record { next = o.next; is_told = sym (agree j o.next preferred (inl o.is_told)) ∙ o.is_told; weighs = o.weighs; loopless = o.loopless; path = o.path })
 
@@ -68,12 +66,12 @@ agree_here net dest t u i r g told agree = by (route_at u i) refl (g.second.choi
     r_in = stable_values net dest t g.first i r told
 
     there : Offers net dest (route_at u) i r
-    there = moved net dest t u i r r.value g r_in agree (itself_unbeaten (carrier net) r.value r_in) is.1.0
+    there = moved net dest t u i r r.value g r_in r_in agree (itself_unbeaten (carrier net) r.value r_in) is.1.0
 
     no_better : (s : PureRoute) → route_at u i ≡ Some s → Offers net dest (route_at u) i s → ¬ Better (carrier net) s r
     no_better s e o b =
         let s_in = stable_values net dest u g.second i s e in
-        let here = moved net dest u t i s r.value (turned net dest t u g) r_in (turned_before net t u r.value agree) (better_unbeaten (carrier net) s r s_in r_in b) o in
+        let here = moved net dest u t i s r.value (turned net dest t u g) s_in r_in (turned_before net t u r.value agree) (better_unbeaten (carrier net) s r s_in r_in b) o in
         is.1.1 s here b
 
     by : (o : Option PureRoute) → route_at u i ≡ o → IsChoice net dest (route_at u) i (route_at u i) → route_at t i ≡ route_at u i
@@ -121,11 +119,11 @@ agree_from net dest t u (suc n) g i r l told = by told (λ j next below there. a
         sym (agree_here net dest u t i r (turned net dest t u g) here (turned_before net t u r.value agree))
 
 -- and elsewhere neither has one
-pub stable_is_unique : (net : PureNet) (dest : ℕ) (t u : List PureRow) → IsNet net → NetHas strict net → Stable net dest t → Stable net dest u → t ≡ u
-stable_is_unique net dest t u n s h k = tables_equal net dest t u h.table_of k.table_of (λ i. same i (route_at t i) refl (route_at u i) refl)
+pub stable_is_unique : (net : PureNet) (dest : ℕ) (t u : List PureRow) → NetHas strict net → Stable net dest t → Stable net dest u → t ≡ u
+stable_is_unique net dest t u s h k = tables_equal net dest t u h.table_of k.table_of (λ i. same i (route_at t i) refl (route_at u i) refl)
   where
     g : Given net dest t u
-    g = record { is_net = n; are_strict = s; first = h; second = k }
+    g = record { are_strict = s; first = h; second = k }
 
     same : (i : ℕ) (o : Option PureRoute) → route_at t i ≡ o → (p : Option PureRoute) → route_at u i ≡ p → route_at t i ≡ route_at u i
     same i (Some r) e p f = agree_from net dest t u (suc (count_both net t u r.value)) g i r (omega arith) (inl e)

@@ -7,13 +7,13 @@ use Rattle.net_graph.specs.Tables.{PureRow, NetHas, Stable, OnTablesFrom, joined
 use Rattle.strict_laws.specs.Agreement.{stable_is_unique}
 
 -- stable tables of the same destinations are the same tables
-same_tables : (net : PureNet) (dest : ℕ) (ts us : List (List PureRow)) → IsNet net → NetHas strict net → OnTablesFrom (Stable net) dest ts → OnTablesFrom (Stable net) dest us → length ts ≡ length us → ts ≡ us
-same_tables net dest [] [] n s h k e = refl
-same_tables net dest [] (u ∷ us) n s h k e = absurd (omega arith)
-same_tables net dest (t ∷ ts) [] n s h k e = absurd (omega arith)
-same_tables net dest (t ∷ ts) (u ∷ us) n s h k e =
-    let one = stable_is_unique net dest t u n s h.0 k.0 in
-    let rest = same_tables net (dest + 1) ts us n s h.1 k.1 (omega arith) in
+same_tables : (net : PureNet) (dest : ℕ) (ts us : List (List PureRow)) → NetHas strict net → OnTablesFrom (Stable net) dest ts → OnTablesFrom (Stable net) dest us → length ts ≡ length us → ts ≡ us
+same_tables net dest [] [] s h k e = refl
+same_tables net dest [] (u ∷ us) s h k e = absurd (omega arith)
+same_tables net dest (t ∷ ts) [] s h k e = absurd (omega arith)
+same_tables net dest (t ∷ ts) (u ∷ us) s h k e =
+    let one = stable_is_unique net dest t u s h.0 k.0 in
+    let rest = same_tables net (dest + 1) ts us s h.1 k.1 (omega arith) in
     cc
 
 pub stable_rows_are_settled : (net : PureNet) (rows : List PureRow) → IsNet net → AreStableRows net rows → AreSettledRows net rows
@@ -22,4 +22,4 @@ stable_rows_are_settled net rows n h = record { stable = h; only = only }
     only : NetHas strict net → (others : List PureRow) → AreStableRows net others → others ≡ rows
     only s others k =
         let count : length k.tables ≡ length h.tables = k.count ∙ sym h.count in
-        k.joined ∙ (ap joined_rows (same_tables net 0 k.tables h.tables n s k.hold h.hold count) ∙ sym h.joined)
+        k.joined ∙ (ap joined_rows (same_tables net 0 k.tables h.tables s k.hold h.hold count) ∙ sym h.joined)

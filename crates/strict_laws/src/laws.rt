@@ -15,8 +15,8 @@ pub fn best_first_is_stable()
 /// 2005).
 #[tactic(auto, using(crate::specs::Agreement::stable_is_unique))]
 pub fn stable_is_unique()
-    ensures { (net : PureNet) (dest : ℕ) (t u : List PureRow) → IsNet net → NetHas strict net →
-        Stable net dest t → Stable net dest u → t ≡ u }
+    ensures { (net : PureNet) (dest : ℕ) (t u : List PureRow) → NetHas strict net → Stable net dest t →
+        Stable net dest u → t ≡ u }
 {}
 
 /// The rows of stable tables of all destinations are settled: where all labels are strictly monotone, no other rows

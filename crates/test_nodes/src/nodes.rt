@@ -1,8 +1,9 @@
-ghost use Rattle.std.specs.Prelude.{◌≡◌, IfOk, map};
+ghost use Rattle.std.specs.Prelude.{◌≡◌, ℕ, List, IfOk, map, slice_get};
+ghost use Rattle.net_graph.specs.Views.{pure_row};
 ghost use Rattle.node_core.specs.Machine.{AreUnbegun};
 ghost use Rattle.node_core.specs.MachineOf.{machine_of, net_of};
 ghost use Rattle.node_core.specs.Running.{IsRunning};
-ghost use Rattle.path_vector.specs.Node.{path_vector};
+ghost use Rattle.path_vector.specs.Node.{PvState, node_rows, path_vector};
 ghost use Rattle.path_vector.specs.Nodes.{state_of};
 ghost use Rattle.path_vector.specs.Updates.{pure_update};
 
@@ -30,12 +31,15 @@ pub fn new_nodes<'a, A: Algebra>(
     Ok(List::from_vec(nodes))
 }
 
-/// The rows of the machine's nodes as they are now.
+/// The rows of the machine's nodes as they are now, by destination, then in the order of the nodes.
 pub fn rows_now<A: Algebra>(
     alloc: Global,
     config: &Config<'_, PvNode<'_, A>>,
 ) -> Result<List<RouteRow>, NoMemory>
     requires { IsRunning path_vector (net_of config.now) (machine_of state_of pure_update config.now) }
+    ensures { IfOk result (λ rows. (states : List PvState)
+        → ((i : ℕ) → (machine_of state_of pure_update config.now).node i ≡ slice_get states i)
+        → map pure_row rows ≡ node_rows (net_of config.now) states) }
 {
     rows_of(alloc, config.nodes())
 }

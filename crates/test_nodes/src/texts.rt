@@ -1,6 +1,7 @@
 // Values, routes and rows of a network as texts. A row is `none`, or a value and the nodes of a path; rows stand in the
 // order of destinations and then of nodes, with ` / ` between them. A node is a name, or a number that the network
 // needn't have.
+use crate::equality::are_same_routes;
 use alg_model::{Value, same_value};
 use meta_base::{DestId, List, NodeId};
 use net_graph::{DestTable, Net, Route, RouteRow};
@@ -80,43 +81,16 @@ pub fn table_of(alloc: Global, net: &Net, rows: &str) -> Result<DestTable, Fail>
     Ok(DestTable { dest, rows: table })
 }
 
-fn is_same_route(first: Option<&Route>, second: Option<&Route>) -> bool {
-    match (first, second) {
-        (Some(first), Some(second)) => {
-            first.path.as_slice() == second.path.as_slice()
-                && same_value(&first.value, &second.value)
-        }
-        (None, None) => true,
-        _ => false,
-    }
-}
-
-fn is_same_row(first: &RouteRow, second: &RouteRow) -> bool {
-    first.node == second.node
-        && first.dest == second.dest
-        && is_same_route(first.route.as_ref(), second.route.as_ref())
-}
-
 /// Whether the route is the one of the row.
 pub fn is_route(alloc: Global, net: &Net, route: Option<&Route>, row: &str) -> Result<bool, Fail> {
     let expected = route_of(alloc, net, row)?;
-    Ok(is_same_route(route, expected.as_ref()))
+    Ok(are_same_routes(route, expected.as_ref()))
 }
 
 // Whether the row is the one at that place of all rows.
 fn stands_at(row: &RouteRow, net: &Net, place: usize) -> bool {
     let count = net.node_count();
     count > 0 && row.node.0 as usize == place % count && row.dest.0 as usize == place / count
-}
-
-/// Whether the rows are the same, in the same order.
-pub fn are_same_rows(first: &[RouteRow], second: &[RouteRow]) -> bool {
-    for place in 0..first.len() {
-        if place >= second.len() || !is_same_row(&first[place], &second[place]) {
-            return false;
-        }
-    }
-    first.len() == second.len()
 }
 
 /// Whether the rows are all those of the text.
