@@ -6,6 +6,7 @@
 mod laws;
 mod log;
 mod merging;
+mod placing;
 mod timed;
 
 pub use laws::{keeps_each_log, receipts_follow_sendings};

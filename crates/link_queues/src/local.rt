@@ -54,7 +54,9 @@ impl<T> Local<T> {
         ensures kept { spare_in self.old ≤ spare_in self.new }
         ensures waiting { waiting_of self.new ≡ waiting_of self.old }
     {
-        self.queue.reserve(more)?;
+        if self.queue.capacity() - self.queue.len() < more {
+            self.queue.reserve(more)?;
+        }
         Ok(())
     }
 

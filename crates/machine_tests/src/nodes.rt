@@ -3,9 +3,9 @@ ghost use Rattle.std.specs.Prelude.{◌≡◌, false};
 
 use alg_model::{Algebra, TreeAlgebra};
 use meta_base::{ArcId, List, NodeId};
-use net_graph::{Net, RouteRow};
+use net_graph::{Net, Route, RouteRow};
 use node_core::{MAX_CLOCK, NodeCore, Outgoing};
-use path_vector::{PvNode, Update, rows_of};
+use path_vector::{PvNode, Shared, SharedRoute, Update, rows_of};
 use std::alloc::Global;
 use std::test::Fail;
 use test_nodes::{NOTHING, dest_of, is_route, node_of, route_of};
@@ -40,6 +40,28 @@ fn sent_last<N: NodeCore>(
     Ok(out)
 }
 
+// The route as nodes tell it.
+fn told_of(alloc: Global, route: Option<Route>) -> Result<Option<Shared<SharedRoute>>, Fail> {
+    let Some(Route { value, path }) = route else {
+        return Ok(None);
+    };
+    let path = Shared::new(alloc, path)?;
+    Ok(Some(Shared::new(alloc, SharedRoute { value, path })?))
+}
+
+// The route that was told.
+fn heard_of(alloc: Global, told: &Option<Shared<SharedRoute>>) -> Result<Option<Route>, Fail> {
+    let Some(told) = told else {
+        return Ok(None);
+    };
+    let mut path = List::new(alloc);
+    for node in told.get().path.as_slice() {
+        path.push(*node)?;
+    }
+    let value = told.get().value.copy(alloc)?;
+    Ok(Some(Route { value, path }))
+}
+
 // An update that was sent at the start, and the arc that it comes on: the text has the number of that, the destination,
 // and the row that is told.
 fn update_of(alloc: Global, net: &Net, text: &str) -> Result<(ArcId, Update), Fail> {
@@ -47,7 +69,7 @@ fn update_of(alloc: Global, net: &Net, text: &str) -> Result<(ArcId, Update), Fa
     let (dest, row) = rest.split_once(' ').ok_or("no row")?;
     let arc = ArcId(arc.parse()?);
     let dest = dest_of(net, dest)?;
-    let route = route_of(alloc, net, row)?;
+    let route = told_of(alloc, route_of(alloc, net, row)?)?;
     Ok((
         arc,
         Update {
@@ -75,7 +97,8 @@ fn tells(alloc: Global, net: &Net, update: &Update, row: &str, clock: u64) -> Re
     if update.dest.0 != 0 || update.stamp != clock {
         return Ok(false);
     }
-    is_route(alloc, net, update.route.as_ref(), row)
+    let route = heard_of(alloc, &update.route)?;
+    is_route(alloc, net, route.as_ref(), row)
 }
 
 // Whether the first destination's row was sent on these arcs at that clock.

@@ -3,12 +3,18 @@ use Rattle.std.specs.Prelude.{ℕ, Bool, false, Option, option_map}
 use Rattle.std.specs.Option.{option_map_or}
 use Rattle.net_graph.specs.Nets.{PureNet, has_arc}
 use Rattle.meta_base.specs.declared.ids.ArcId.{ArcId}
-use Rattle.net_graph.specs.Views.{pure_route}
+use Rattle.alg_model.specs.Views.{pure_value}
+use Rattle.meta_base.specs.NodePaths.{numbers}
+use Rattle.net_graph.specs.Routes.{PureRoute}
+use Rattle.path_vector.specs.declared.update.SharedRoute.{SharedRoute}
 use Rattle.path_vector.specs.declared.update.Update.{Update}
 use Rattle.path_vector.specs.Node.{PureUpdate}
 
+abbrev pub pure_shared : SharedRoute → PureRoute
+pure_shared r = record { value = pure_value r.value; path = numbers r.path }
+
 abbrev pub pure_update : Update → PureUpdate
-pure_update u = record { dest = u.dest.0; route = option_map pure_route u.route; stamp = u.stamp }
+pure_update u = record { dest = u.dest.0; route = option_map pure_shared u.route; stamp = u.stamp }
 
 -- an update that is put on an arc
 abbrev pub noted : ArcId × Update → ℕ × PureUpdate

@@ -2,16 +2,16 @@ ghost use Rattle.std.specs.Prelude.{◌≡◌};
 ghost use Rattle.alg_model.specs.Tests.{is_in};
 ghost use Rattle.alg_model.specs.Views.{pure_value};
 ghost use Rattle.net_graph.specs.Tables.{carrier};
-ghost use Rattle.net_graph.specs.Views.{pure_arc, pure_route};
+ghost use Rattle.net_graph.specs.Views.{pure_arc};
 ghost use Rattle.path_vector.specs.Node.{may_be_of};
-ghost use Rattle.path_vector.specs.Updates.{pure_update};
+ghost use Rattle.path_vector.specs.Updates.{pure_shared, pure_update};
 ghost use Rattle.path_vector.specs.Words.{fits_on};
 
 use crate::paths::{are_below, has_each_once, starts_at};
-use crate::update::Update;
+use crate::update::{SharedRoute, Update};
 use alg_model::{Amount, Value, is_at_most, value_in};
 use meta_base::NodeId;
-use net_graph::{Arc, Net, Route};
+use net_graph::{Arc, Net};
 
 // Whether the value is one of the network's algebra.
 fn has_value(net: &Net, value: &Value) -> bool
@@ -22,8 +22,8 @@ fn has_value(net: &Net, value: &Value) -> bool
 
 // Whether the route may be the speaker's: a value of the algebra, whose numbers a path of that length can make, and
 // a path of nodes of the network from the speaker on, each once.
-fn may_be_of(net: &Net, speaker: NodeId, route: &Route) -> bool
-    ensures { result ≡ may_be_of net.now speaker.0 (pure_route route.now) }
+fn may_be_of(net: &Net, speaker: NodeId, route: &SharedRoute) -> bool
+    ensures { result ≡ may_be_of net.now speaker.0 (pure_shared route.now) }
 {
     if !has_value(net, &route.value) {
         return false;
@@ -51,7 +51,7 @@ pub(crate) fn fits(net: &Net, arc: &Arc, update: &Update) -> bool
         return false;
     }
     match &update.route {
-        Some(route) => may_be_of(net, arc.head, route),
+        Some(route) => may_be_of(net, arc.head, route.get()),
         None => true,
     }
 }

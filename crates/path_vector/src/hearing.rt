@@ -3,36 +3,36 @@ ghost use Rattle.path_vector.specs.declared.neighbour.Neighbour.{Neighbour};
 ghost use Rattle.alg_model.specs.Carriers.{carrier_of, In};
 ghost use Rattle.alg_model.specs.Views.{pure_value};
 ghost use Rattle.net_graph.specs.Nets.{PureArc, IsNet};
-ghost use Rattle.net_graph.specs.Views.{pure_route};
 ghost use Rattle.path_vector.specs.Changes.{HasSigs, IsChange};
 ghost use Rattle.path_vector.specs.Known.{known_route, heard_by, HasHeard};
 ghost use Rattle.path_vector.specs.Node.{choice, heard_with};
 ghost use Rattle.path_vector.specs.State.{IsKept, row_routes};
-ghost use Rattle.path_vector.specs.Updates.{pure_update};
+ghost use Rattle.path_vector.specs.Updates.{pure_shared, pure_update};
 ghost use Rattle.path_vector.specs.Words.{fits_on};
 
 use crate::known::{Known, known_of};
 use crate::neighbour::Neighbour;
 use crate::rechoosing::{Change, rechoose};
-use crate::update::Update;
+use crate::shared::Shared;
+use crate::update::{SharedRoute, Update};
 use alg_model::Algebra;
 use meta_base::{ArcId, NoMemory, NodeId};
-use net_graph::{Net, Route};
+use net_graph::Net;
 use std::alloc::Global;
 
 // The route of an update in the algebra's form, if it has one.
 fn heard_route<A: Algebra>(
     alloc: Global,
     algebra: &A,
-    route: &Option<Route>,
+    route: &Option<Shared<SharedRoute>>,
 ) -> Result<Option<Known<A::Sig>>, NoMemory>
     requires { IfSome route.now (λ r. In (carrier_of (A.expression algebra.now)) (pure_value r.value)) }
     ensures sig { IfOk result (λ known. IfSome known (λ k. A.is_sig algebra.now k.sig)) }
     ensures route { IfOk result (λ known. option_map (known_route (A.sig_value algebra.now)) known ≡
-        option_map pure_route route.now) }
+        option_map pure_shared route.now) }
 {
     match route {
-        Some(route) => Ok(Some(known_of(alloc, algebra, route)?)),
+        Some(route) => Ok(Some(known_of(alloc, algebra, route.get())?)),
         None => Ok(None),
     }
 }

@@ -5,7 +5,10 @@ ghost use Rattle.alg_model.specs.Views.{pure_value};
 ghost use Rattle.net_graph.specs.Views.{pure_route};
 ghost use Rattle.path_vector.specs.Known.{known_route};
 ghost use Rattle.path_vector.specs.Node.{same_route};
+ghost use Rattle.path_vector.specs.Updates.{pure_shared};
 
+use crate::shared::Shared;
+use crate::update::SharedRoute;
 use alg_model::{Algebra, same_value};
 use meta_base::{List, NoMemory, NodeId};
 use net_graph::Route;
@@ -13,11 +16,12 @@ use path_store::compare;
 use std::alloc::Global;
 use std::cmp::Ordering;
 
-// A route in the algebra's own form: its value, and the path from the node itself to the origin.
+// A route in the algebra's own form: its value, and the path from the node itself to the origin, which the node
+// shares with those that it told it or that told it.
 #[derive(Drop)]
 pub(crate) struct Known<S> {
     pub sig: S,
-    pub path: List<NodeId>,
+    pub path: Shared<List<NodeId>>,
 }
 
 // An equal path.
@@ -27,19 +31,19 @@ fn copy_path(alloc: Global, path: &[NodeId]) -> Result<List<NodeId>, NoMemory>
     Ok(List::from_vec(Vec::from_slice(alloc, path)?))
 }
 
-// The route in the algebra's form.
+// What was told, in the algebra's form.
 pub(crate) fn known_of<A: Algebra>(
     alloc: Global,
     algebra: &A,
-    route: &Route,
+    told: &SharedRoute,
 ) -> Result<Known<A::Sig>, NoMemory>
-    requires { In (carrier_of (A.expression algebra.now)) (pure_value route.now.value) }
+    requires { In (carrier_of (A.expression algebra.now)) (pure_value told.now.value) }
     ensures sig { IfOk result (λ known. A.is_sig algebra.now known.sig) }
-    ensures route { IfOk result (λ known. known_route (A.sig_value algebra.now) known ≡ pure_route route.now) }
+    ensures route { IfOk result (λ known. known_route (A.sig_value algebra.now) known ≡ pure_shared told.now) }
 {
     Ok(Known {
-        sig: algebra.sig_of(alloc, &route.value)?,
-        path: copy_path(alloc, route.path.as_slice())?,
+        sig: algebra.sig_of(alloc, &told.value)?,
+        path: told.path.share()?,
     })
 }
 
@@ -56,6 +60,22 @@ pub(crate) fn route_of<A: Algebra>(
         value: algebra.value_of(alloc, &known.sig)?,
         path: copy_path(alloc, known.path.as_slice())?,
     })
+}
+
+// What is told of a known route.
+pub(crate) fn told_of<A: Algebra>(
+    alloc: Global,
+    algebra: &A,
+    known: &Known<A::Sig>,
+) -> Result<Shared<SharedRoute>, NoMemory>
+    requires { A.is_sig algebra.now known.now.sig }
+    ensures { IfOk result (λ told. pure_shared told ≡ known_route (A.sig_value algebra.now) known.now) }
+{
+    let told = SharedRoute {
+        value: algebra.value_of(alloc, &known.sig)?,
+        path: known.path.share()?,
+    };
+    Shared::new(alloc, told)
 }
 
 // Whether two values in the algebra's form are one.

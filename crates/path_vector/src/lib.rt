@@ -17,6 +17,7 @@ mod own;
 mod paths;
 mod rechoosing;
 mod rows;
+mod shared;
 mod telling;
 mod update;
 
@@ -25,4 +26,5 @@ pub use laws::{
 };
 pub use node::PvNode;
 pub use rows::rows_of;
-pub use update::Update;
+pub use shared::Shared;
+pub use update::{SharedRoute, Update};

@@ -12,6 +12,7 @@ ghost use Rattle.path_vector.specs.Node.{offer_by};
 use crate::known::Known;
 use crate::neighbour::Neighbour;
 use crate::paths::passes;
+use crate::shared::Shared;
 use alg_model::Algebra;
 use meta_base::{DestId, List, NoMemory, NodeId};
 use net_graph::Net;
@@ -162,6 +163,6 @@ pub(crate) fn taken_by<S: Drop>(
     path.extend_from_slice(offer.behind)?;
     Ok(Known {
         sig: offer.sig,
-        path: List::from_vec(path),
+        path: Shared::new(alloc, List::from_vec(path))?,
     })
 }

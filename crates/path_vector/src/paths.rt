@@ -47,8 +47,34 @@ pub(crate) fn is_second(path: &[NodeId], node: NodeId) -> bool
     }
 }
 
+// The length up to which it costs less to look for each node in front of itself than to clear the marks.
+const SHORT_PATH: usize = 12;
+
 // Whether no node is on the path twice. The nodes are those of a network.
 pub(crate) fn has_each_once(path: &[NodeId]) -> bool
+    requires { list_all (λ n. nat_lt n.0 MAX_NODES_TWO) path.now ≡ true }
+    ensures { result ≡ distinct (numbers path.now) }
+{
+    if path.len() <= SHORT_PATH {
+        return has_none_before_itself(path);
+    }
+    has_each_marked_once(path)
+}
+
+// Whether no node is on the path twice, by a look at all in front of each.
+fn has_none_before_itself(path: &[NodeId]) -> bool
+    ensures { result ≡ distinct (numbers path.now) }
+{
+    for place in 0..path.len() {
+        if passes(&path[..place], path[place]) {
+            return false;
+        }
+    }
+    true
+}
+
+// Whether no node is on the path twice, by marks. The nodes are those of a network.
+fn has_each_marked_once(path: &[NodeId]) -> bool
     requires { list_all (λ n. nat_lt n.0 MAX_NODES_TWO) path.now ≡ true }
     ensures { result ≡ distinct (numbers path.now) }
 {

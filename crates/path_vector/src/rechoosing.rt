@@ -9,7 +9,7 @@ ghost use Rattle.path_vector.specs.Settling.{goes_by, is_worse, Settles};
 ghost use Rattle.path_vector.specs.Updates.{pure_update};
 
 use crate::choosing::choose;
-use crate::known::{Known, are_same, route_of};
+use crate::known::{Known, are_same, told_of};
 use crate::neighbour::Neighbour;
 use crate::offer::{Offer, is_first, offer_of, set_aside, taken_by};
 use crate::paths::{behind, is_second};
@@ -53,7 +53,7 @@ pub(crate) fn update_of<A: Algebra>(
         record { dest = dest.0; route = option_map (known_route value) row.now; stamp = stamp }) }
 {
     let route = match row {
-        Some(known) => Some(route_of(alloc, algebra, known)?),
+        Some(known) => Some(told_of(alloc, algebra, known)?),
         None => None,
     };
     Ok(Update { dest, route, stamp })

@@ -32,9 +32,9 @@ fn tell_all(alloc: Global, arcs: &[ArcId], update: Update) -> Result<Outgoing<Up
     };
     let mut out = Vec::with_capacity(alloc, arcs.len())?;
     for arc in others {
-        out.push((*arc, update.copy(alloc)?))?;
+        out.push_reserved((*arc, update.share()?));
     }
-    out.push((*last, update))?;
+    out.push_reserved((*last, update));
     Ok(List::from_vec(out))
 }
 
@@ -71,7 +71,7 @@ fn tell_if(
         map noted out.old ++ cond is_news ((arc.0, pure_update update.now) ∷ []) []) }
 {
     if is_news {
-        out.push((arc, update.copy(alloc)?))?;
+        out.push((arc, update.share()?))?;
     }
     Ok(())
 }

@@ -1,15 +1,23 @@
-ghost use Rattle.std.specs.Prelude.{◌≡◌, IfOk, option_map};
-ghost use Rattle.net_graph.specs.Views.{pure_route};
+ghost use Rattle.std.specs.Prelude.{◌≡◌, IfOk};
 
-use meta_base::{DestId, NoMemory};
-use net_graph::Route;
-use std::alloc::Global;
+use crate::shared::Shared;
+use alg_model::Value;
+use meta_base::{DestId, List, NoMemory, NodeId};
 
-/// What a node tells those that may route by it: its route for a destination, or that it has none.
+/// A route as it is told: its value, and the path from the speaker to the origin. All who keep what they heard share
+/// the path.
+#[derive(Debug, Drop)]
+pub struct SharedRoute {
+    pub value: Value,
+    pub path: Shared<List<NodeId>>,
+}
+
+/// What a node tells those that may route by it: its route for a destination, which all of them share, or that it
+/// has none.
 #[derive(Debug, Drop)]
 pub struct Update {
     pub dest: DestId,
-    pub route: Option<Route>,
+    pub route: Option<Shared<SharedRoute>>,
     /// The clock of the delivery that made the node send it, and 0 where it was sent at the start.
     pub stamp: u64,
 }
@@ -17,12 +25,12 @@ pub struct Update {
 impl Update {
     ghost use Rattle.path_vector.specs.Updates.{pure_update};
 
-    // An equal update.
-    pub(crate) fn copy(&self, alloc: Global) -> Result<Update, NoMemory>
-        ensures { IfOk result (λ copied. pure_update copied ≡ pure_update self.now) }
+    // The same update for one listener more. It takes no memory.
+    pub(crate) fn share(&self) -> Result<Update, NoMemory>
+        ensures { IfOk result (λ shared. pure_update shared ≡ pure_update self.now) }
     {
         let route = match &self.route {
-            Some(route) => Some(route.copy(alloc)?),
+            Some(route) => Some(route.share()?),
             None => None,
         };
         Ok(Update {

@@ -3,11 +3,10 @@ use Rattle.std.specs.Prelude.{filter, is_some, option_map}
 use Rattle.std.specs.List.{range_with_len}
 use Rattle.net_graph.specs.Nets.{PureArc, arcs_to}
 use Rattle.net_graph.specs.Routes.{PureRoute}
-use Rattle.net_graph.specs.Views.{pure_route}
 use Rattle.path_vector.specs.Known.{known_route, heard_by, entry_of}
 use Rattle.path_vector.specs.Node.{PureUpdate, choice, same_row, told_on, all_begun_updates}
 use Rattle.path_vector.specs.State.{row_routes}
-use Rattle.path_vector.specs.Updates.{noted, pure_update, spoken_in}
+use Rattle.path_vector.specs.Updates.{noted, pure_shared, pure_update, spoken_in}
 use Rattle.path_vector.proofs.Choices.{entry_is, none_outside}
 use Rattle.path_vector.proofs.Beginnings.{some_holds, entry_outside, rows_are_all, pushed_count, pushed_holds, pushed_images, some_mapped, begun_next}
 use Rattle.path_vector.proofs.beginning.begun_rows.Goals as goal
@@ -33,7 +32,7 @@ loop-place-preserved g c =
     let update = c.in_ok-update.update in
     let entry : entry_of rows place ≡ c.index-rows-place.result = entry_is rows place c.index-rows-place.result c.loop-place-test.true c.index-rows-place.is in
     let other : not c.in_ok-is_same.is_same ≡ not (same_row row (row_routes value rows place)) = ap not (c.in_ok-is_same.ensures ∙ ap (λ z. same_row row (option_map (known_route value) z)) (sym entry)) in
-    let there : is_some update.route ≡ is_some row = some_mapped pure_route update.route ∙ ap (λ (u : PureUpdate). is_some u.route) c.in_ok-update.ensures in
+    let there : is_some update.route ≡ is_some row = some_mapped pure_shared update.route ∙ ap (λ (u : PureUpdate). is_some u.route) c.in_ok-update.ensures in
     let told_as = λ (t : Bool) (u : PureUpdate). map noted c.loop-place.out ++ told_on (filter (λ (a : PureArc). cond (spoken_in before a.tail a.head) (not c.in_ok-is_same.is_same) t) (arcs_to net c.args.node.0)) u in
     record {
       count = ap length items ∙ pushed_count old c.in_ok-row.row ∙ ap (λ z. z + 1) c.loop-place.invariant.count;

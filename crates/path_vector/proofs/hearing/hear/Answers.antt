@@ -1,11 +1,10 @@
 use Rattle.std.proofs.Common.{◌<◌, ◌==◌, ◌&&◌, cond, length, subst, sym, ap, ◌∙◌}
 use Rattle.std.specs.Prelude.{option_map}
-use Rattle.net_graph.specs.Views.{pure_route}
 use Rattle.path_vector.specs.Choosing.{may_be_parts}
 use Rattle.path_vector.specs.Known.{known_route, heard_by}
 use Rattle.path_vector.specs.Changes.{IsChange}
 use Rattle.path_vector.specs.Node.{choice}
-use Rattle.path_vector.specs.Updates.{pure_update}
+use Rattle.path_vector.specs.Updates.{pure_shared, pure_update}
 use Rattle.path_vector.specs.Words.{fits_parts}
 use Rattle.path_vector.proofs.Choices.{entry_is}
 use Rattle.path_vector.proofs.Beginnings.{some_holds}
@@ -26,7 +25,7 @@ heard_route-requires g c =
     let dest = update.dest.0 in
     let a = c.requires.fits.0 in
     let parts = fits_parts net a (pure_update update) c.requires.fits.3 in
-    some_holds _ update.route (λ r e. rw c.requires.algebra (may_be_parts net a.head (pure_route r) (parts.1 (pure_route r) (ap (option_map pure_route) e))).value_in)
+    some_holds _ update.route (λ r e. rw c.requires.algebra (may_be_parts net a.head (pure_shared r) (parts.1 (pure_shared r) (ap (option_map pure_shared) e))).value_in)
 
 pub hear_at-earlier-requires : goal.hear_at-earlier-requires
 hear_at-earlier-requires g c =
@@ -94,7 +93,7 @@ rechoose-requires-clause-neighbours g c =
     let route = c.in_ok-route.route in
     let now = c.hear_at-earlier.new.neighbours.items in
     let has = c.hear_at-earlier.ensures there.0 there.1 in
-    let fit = known_fits (A.is_sig s) value net a route (option_map pure_route update.route) c.in_ok-route.ensures.sig c.in_ok-route.ensures.route parts.1 in
+    let fit = known_fits (A.is_sig s) value net a route (option_map pure_shared update.route) c.in_ok-route.ensures.sig c.in_ok-route.ensures.route parts.1 in
     rw c.deref.ensures.value (still_neighbours (A.stands_for s) (A.is_sig s) value net i c.requires.net ns kept.neighbours c.args.arc.0 c.place_of-place.result dest a c.requires.fits.1 c.requires.fits.2 c.place_of-place.ensures parts.0 route c.hear_at-earlier.result now has fit)
 
 pub rechoose-requires-clause-before : goal.rechoose-requires-clause-before
@@ -148,7 +147,7 @@ rechoose-requires-clause-settles g c =
     let route = c.in_ok-route.route in
     let now = c.hear_at-earlier.new.neighbours.items in
     let has = c.hear_at-earlier.ensures there.0 there.1 in
-    let fit = known_fits (A.is_sig s) value net a route (option_map pure_route update.route) c.in_ok-route.ensures.sig c.in_ok-route.ensures.route parts.1 in
+    let fit = known_fits (A.is_sig s) value net a route (option_map pure_shared update.route) c.in_ok-route.ensures.sig c.in_ok-route.ensures.route parts.1 in
     let are = still_neighbours (A.stands_for s) (A.is_sig s) value net i c.requires.net ns kept.neighbours c.args.arc.0 c.place_of-place.result dest a c.requires.fits.1 c.requires.fits.2 c.place_of-place.ensures parts.0 route c.hear_at-earlier.result now has fit in
     let heard = heard_now (A.stands_for s) (A.is_sig s) value net i c.requires.net ns kept.neighbours c.args.arc.0 c.place_of-place.result dest a c.requires.fits.1 c.requires.fits.2 c.place_of-place.ensures parts.0 route c.hear_at-earlier.result now has in
     let id = number (A.stands_for s) (A.is_sig s) value net i c.requires.net ns kept.neighbours c.args.arc.0 c.place_of-place.result dest a c.requires.fits.1 c.requires.fits.2 c.place_of-place.ensures parts.0 in
@@ -179,7 +178,7 @@ hear_at-requires g c =
     let route = c.in_ok-route.route in
     let now = c.hear_at-earlier.new.neighbours.items in
     let has = c.hear_at-earlier.ensures there.0 there.1 in
-    let fit = known_fits (A.is_sig s) value net a route (option_map pure_route update.route) c.in_ok-route.ensures.sig c.in_ok-route.ensures.route parts.1 in
+    let fit = known_fits (A.is_sig s) value net a route (option_map pure_shared update.route) c.in_ok-route.ensures.sig c.in_ok-route.ensures.route parts.1 in
     let are = still_neighbours (A.stands_for s) (A.is_sig s) value net i c.requires.net ns kept.neighbours c.args.arc.0 c.place_of-place.result dest a c.requires.fits.1 c.requires.fits.2 c.place_of-place.ensures parts.0 route c.hear_at-earlier.result now has fit in
     let there_now = neighbour_there (A.stands_for s) (A.is_sig s) value net i c.requires.net now are c.args.arc.0 c.place_of-place.result dest a c.requires.fits.1 c.requires.fits.2 c.place_of-place.ensures parts.0 in
     record { place = there_now }
@@ -201,7 +200,7 @@ returns-in-Ok-clause-kept g c =
     let route = c.in_ok-route.route in
     let now = c.hear_at-earlier.new.neighbours.items in
     let has = c.hear_at-earlier.ensures there.0 there.1 in
-    let fit = known_fits (A.is_sig s) value net a route (option_map pure_route update.route) c.in_ok-route.ensures.sig c.in_ok-route.ensures.route parts.1 in
+    let fit = known_fits (A.is_sig s) value net a route (option_map pure_shared update.route) c.in_ok-route.ensures.sig c.in_ok-route.ensures.route parts.1 in
     record {
       inside = kept.inside;
       own_count = kept.own_count;
@@ -229,7 +228,7 @@ returns-in-Ok-clause-heard g c =
     let route = c.in_ok-route.route in
     let now = c.hear_at-earlier.new.neighbours.items in
     let has = c.hear_at-earlier.ensures there.0 there.1 in
-    let fit = known_fits (A.is_sig s) value net a route (option_map pure_route update.route) c.in_ok-route.ensures.sig c.in_ok-route.ensures.route parts.1 in
+    let fit = known_fits (A.is_sig s) value net a route (option_map pure_shared update.route) c.in_ok-route.ensures.sig c.in_ok-route.ensures.route parts.1 in
     heard_now (A.stands_for s) (A.is_sig s) value net i c.requires.net ns kept.neighbours c.args.arc.0 c.place_of-place.result dest a c.requires.fits.1 c.requires.fits.2 c.place_of-place.ensures parts.0 route c.hear_at-earlier.result now has
     ∙ ap (λ z. λ b d. cond (b == c.args.arc.0 && d == dest) z (heard_by value ns b d)) c.in_ok-route.ensures.route
 
@@ -262,7 +261,7 @@ returns-in-Err-clause-kept g c =
     let route = c.in_ok-route.route in
     let now = c.hear_at-earlier.new.neighbours.items in
     let has = c.hear_at-earlier.ensures there.0 there.1 in
-    let fit = known_fits (A.is_sig s) value net a route (option_map pure_route update.route) c.in_ok-route.ensures.sig c.in_ok-route.ensures.route parts.1 in
+    let fit = known_fits (A.is_sig s) value net a route (option_map pure_shared update.route) c.in_ok-route.ensures.sig c.in_ok-route.ensures.route parts.1 in
     let are = still_neighbours (A.stands_for s) (A.is_sig s) value net i c.requires.net ns kept.neighbours c.args.arc.0 c.place_of-place.result dest a c.requires.fits.1 c.requires.fits.2 c.place_of-place.ensures parts.0 route c.hear_at-earlier.result now has fit in
     let there_now = neighbour_there (A.stands_for s) (A.is_sig s) value net i c.requires.net now are c.args.arc.0 c.place_of-place.result dest a c.requires.fits.1 c.requires.fits.2 c.place_of-place.ensures parts.0 in
     let back = c.hear_at.new.neighbours.items in
@@ -295,7 +294,7 @@ returns-in-Err-clause-err g c =
     let route = c.in_ok-route.route in
     let now = c.hear_at-earlier.new.neighbours.items in
     let has = c.hear_at-earlier.ensures there.0 there.1 in
-    let fit = known_fits (A.is_sig s) value net a route (option_map pure_route update.route) c.in_ok-route.ensures.sig c.in_ok-route.ensures.route parts.1 in
+    let fit = known_fits (A.is_sig s) value net a route (option_map pure_shared update.route) c.in_ok-route.ensures.sig c.in_ok-route.ensures.route parts.1 in
     let are = still_neighbours (A.stands_for s) (A.is_sig s) value net i c.requires.net ns kept.neighbours c.args.arc.0 c.place_of-place.result dest a c.requires.fits.1 c.requires.fits.2 c.place_of-place.ensures parts.0 route c.hear_at-earlier.result now has fit in
     let there_now = neighbour_there (A.stands_for s) (A.is_sig s) value net i c.requires.net now are c.args.arc.0 c.place_of-place.result dest a c.requires.fits.1 c.requires.fits.2 c.place_of-place.ensures parts.0 in
     let back = c.hear_at.new.neighbours.items in

@@ -2,7 +2,7 @@ use Rattle.std.proofs.Common.{refl, sym, ◌∙◌}
 use Rattle.std.proofs.lemmas.Option.{slice_get-get_or}
 use Rattle.path_vector.specs.Marks.{is_marked}
 use Rattle.path_vector.proofs.PathMarks.{marked_next, none_marked, once_next, twice_at}
-use Rattle.path_vector.proofs.paths.has_each_once.Goals as goal
+use Rattle.path_vector.proofs.paths.has_each_marked_once.Goals as goal
 
 pub loop-node-init : goal.loop-node-init
 loop-node-init c = record { count = refl; marked = λ i. none_marked 64 i; once = refl }

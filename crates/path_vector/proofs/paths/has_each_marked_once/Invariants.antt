@@ -4,7 +4,7 @@ use Rattle.meta_base.specs.NodePaths.{numbers}
 use Rattle.net_graph.specs.Tables.{is_among}
 use Rattle.path_vector.specs.declared.marks.TheConstants.{MARK_WORDS}
 use Rattle.path_vector.specs.Marks.{is_marked}
-use Rattle.path_vector.proofs.paths.has_each_once.Given as goal
+use Rattle.path_vector.proofs.paths.has_each_marked_once.Given as goal
 
 -- the nodes so far are marked, and none is among them twice
 abbrev pub invariant-loop-node : goal.invariant-loop-node
