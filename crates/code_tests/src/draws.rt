@@ -58,6 +58,7 @@ fn base(draws: &mut Draws) -> &'static str {
 }
 
 /// Writes the text of a drawn expression whose operators stand no deeper than that.
+#[cycle(push_expression)]
 pub fn push_expression(draws: &mut Draws, depth: u8, out: &mut String) -> Result<(), NoMemory> {
     if depth == 0 {
         out.push_str(base(draws))?;
@@ -76,6 +77,7 @@ pub fn push_expression(draws: &mut Draws, depth: u8, out: &mut String) -> Result
     }
 }
 
+#[cycle(push_expression)]
 fn push_two(
     draws: &mut Draws,
     operator: &str,
@@ -90,6 +92,7 @@ fn push_two(
     Ok(out.push_str(")")?)
 }
 
+#[cycle(push_expression)]
 fn push_one(
     draws: &mut Draws,
     operator: &str,
@@ -103,6 +106,7 @@ fn push_one(
 }
 
 // The two sides of a `plus` have one carrier: an expression, and its constants or its `keep`.
+#[cycle(push_expression)]
 fn push_plus(draws: &mut Draws, depth: u8, out: &mut String) -> Result<(), NoMemory> {
     let mut side = String::new(draws.alloc);
     push_expression(draws, depth, &mut side)?;
@@ -153,6 +157,7 @@ pub fn push_value(draws: &mut Draws, tree: &Tree, out: &mut String) -> Result<()
 }
 
 /// Writes the text of a drawn label of the tree.
+#[cycle(push_label)]
 pub fn push_label(draws: &mut Draws, tree: &Tree, out: &mut String) -> Result<(), NoMemory> {
     match tree {
         Tree::Add { low, high }
@@ -176,6 +181,7 @@ pub fn push_label(draws: &mut Draws, tree: &Tree, out: &mut String) -> Result<()
     }
 }
 
+#[cycle(push_label)]
 fn push_parts(
     draws: &mut Draws,
     a: &Tree,
@@ -190,6 +196,7 @@ fn push_parts(
     Ok(out.push_str(")")?)
 }
 
+#[cycle(push_label)]
 fn push_scoped(draws: &mut Draws, a: &Tree, b: &Tree, out: &mut String) -> Result<(), NoMemory> {
     if draws.is_head() {
         out.push_str("out(")?;
@@ -203,6 +210,7 @@ fn push_scoped(draws: &mut Draws, a: &Tree, b: &Tree, out: &mut String) -> Resul
     Ok(out.push_str(")")?)
 }
 
+#[cycle(push_label)]
 fn push_side(draws: &mut Draws, a: &Tree, b: &Tree, out: &mut String) -> Result<(), NoMemory> {
     if draws.is_head() {
         out.push_str("l:")?;
