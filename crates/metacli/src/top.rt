@@ -1,6 +1,6 @@
-ghost use Rattle.std.specs.Prelude.{◌≡◌, ◌<◌, length, Some, None};
-ghost use Rattle.metacli.specs.Outcome.{ComesTo, IsChecked, IsCheckedOn, IsCoded, IsCodedOn, IsRouted, IsRunOn, word_at};
-ghost use Rattle.command_words.specs.Words.{AreTurns, AreWorkers};
+ghost use Rattle.std.specs.Prelude.{◌≡◌, ◌<◌, length, Some, None, Ok};
+ghost use Rattle.metacli.specs.Outcome.{ComesBy, ComesTo, IsChecked, IsCheckedOn, IsCoded, IsCodedOn, IsRouted, IsRunOn, word_at};
+ghost use Rattle.command_words.specs.Words.{AreTurns, AreWorkers, HasItsWords};
 ghost use Rattle.metacli.specs.Runs.{Runs};
 ghost use Rattle.metacli.specs.Views.{CanBeWritten, pure_outcome};
 
@@ -59,12 +59,30 @@ fn decide<R: AllocGlobal + Threads + Wait + Sync, S: Shelf, G: Gate>(
     ensures comes_to { ComesTo words.now (S.now_is shelf.old) (S.now_is shelf.new) result.0 (pure_outcome result.1) }
     ensures printable { CanBeWritten result.1 }
 {
+    match read_words(words) {
+        Ok(command) => {
+            let outcome = carry_out(rt, words, command, shelf, gate);
+            (Some(command), outcome)
+        }
+        Err(fault) => (None, Outcome::refused(Stop::Words(fault))),
+    }
+}
+
+// What the command comes to, whose files the words name.
+fn carry_out<R: AllocGlobal + Threads + Wait + Sync, S: Shelf, G: Gate>(
+    rt: &R,
+    words: &[Text],
+    command: Command,
+    shelf: &mut S,
+    gate: &G,
+) -> Outcome
+    requires { HasItsWords words.now command }
+    ensures comes_to { ComesBy words.now (Ok command) (S.now_is shelf.old) (S.now_is shelf.new) (Some command)
+        (pure_outcome result) }
+    ensures printable { CanBeWritten result }
+{
     let alloc = rt.alloc();
-    let command = match read_words(words) {
-        Ok(command) => command,
-        Err(fault) => return (None, Outcome::refused(Stop::Words(fault))),
-    };
-    let outcome = match command {
+    match command {
         Command::Check { file, net: None } => check_file(alloc, shelf, name_at(words, file)),
         Command::Check {
             file,
@@ -122,8 +140,7 @@ fn decide<R: AllocGlobal + Threads + Wait + Sync, S: Shelf, G: Gate>(
             gate,
         ),
         Command::Demo { seed, nodes } => demo(rt, seed, nodes, gate),
-    };
-    (Some(command), outcome)
+    }
 }
 
 // The word at that place.
