@@ -1,4 +1,5 @@
 mod Arcs
+mod Codes
 mod Completeness
 mod Found
 mod Lacking

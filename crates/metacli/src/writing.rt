@@ -7,14 +7,14 @@ ghost use Rattle.net_graph.specs.Nets.{PureNet};
 ghost use Rattle.net_graph.specs.Views.{pure_row};
 ghost use Rattle.net_graph.specs.RowTexts.{IsRowOf};
 ghost use Rattle.property_infer.specs.Views.{pure_verdicts};
-ghost use Rattle.topology_file.specs.declared.network.NetFile.{NetFile};
+ghost use Rattle.topology_file.specs.Views.{pure_file};
+ghost use Rattle.report_text.specs.CodeTexts.{CanList, code_text};
 ghost use Rattle.report_text.specs.VerdictTexts.{CanPrintVerdicts, lines_on};
 ghost use Rattle.report_text.specs.Refusals.{CanLack, lacks, lacks_text, refusal_text};
 ghost use Rattle.metacli.specs.Answers.{pure_answer, pure_stop, refused, write_fault};
-ghost use Rattle.metacli.specs.Behind.{last_of};
 ghost use Rattle.metacli.specs.Outcome.{answer_in};
-ghost use Rattle.metacli.specs.Texts.{PutsText, TextOf, Written, rows_text};
-ghost use Rattle.metacli.specs.Views.{CanBeWritten, pure_outcome};
+ghost use Rattle.metacli.specs.Texts.{PutsText, TextOf, Written, last_net, rows_text};
+ghost use Rattle.metacli.specs.Views.{CanBeWritten, IsListedOn, pure_outcome};
 
 use crate::Answer;
 use crate::behind::last_of;
@@ -24,6 +24,7 @@ use crate::putting::{Cut, answered, put_line};
 use crate::summing::put_summary;
 use alg_classes::{Instance, Property};
 use alg_model::{Alg, Value};
+use code_gen::Listing;
 use meta_base::{Failed, NoMemory, Sink, Text, put_all};
 use net_facts::Lack;
 use net_graph::{Net, RouteRow};
@@ -56,10 +57,7 @@ pub fn write<K: Sink>(alloc: Global, out: &mut K, outcome: &Outcome) -> Answer
             behind,
             listing,
         } => answered(
-            put_line(
-                out,
-                code_lines(alloc, alg, listed_net(file, behind), listing),
-            ),
+            put_code(alloc, out, alg, file, behind, listing),
             Answer::Done,
         ),
         Outcome::Routed { file, rows, .. } => answered(
@@ -97,10 +95,29 @@ pub fn write<K: Sink>(alloc: Global, out: &mut K, outcome: &Outcome) -> Answer
     }
 }
 
+// Puts the lines of a listing, of the labels on the network's arcs where there is one.
+fn put_code<K: Sink>(
+    alloc: Global,
+    out: &mut K,
+    alg: &Alg,
+    file: &Option<NetFile>,
+    behind: &Option<Net>,
+    listing: &Listing,
+) -> Result<(), Cut>
+    requires printable { CanList alg.now (last_net (option_map pure_file file.now)) listing.now }
+    requires behind { IsListedOn file.now behind.now }
+    ensures { PutsText (K.holds out.old)
+        (code_text alg.now.expression (last_net (option_map pure_file file.now)) listing.now)
+        result (K.holds out.new) }
+{
+    let net = listed_net(file, behind);
+    put_line(out, code_lines(alloc, alg, net, listing))
+}
+
 // The network whose labels were compiled: that of the file, or the one behind its changes.
 fn listed_net<'a>(file: &'a Option<NetFile>, behind: &'a Option<Net>) -> Option<&'a Net>
-    ensures { option_map (λ net. net.now) result ≡
-        option_map (λ (file : NetFile). last_of behind.now file.net) file.now }
+    requires { IsListedOn file.now behind.now }
+    ensures { option_map (λ net. net.now) result ≡ last_net (option_map pure_file file.now) }
 {
     match file {
         Some(file) => Some(last_of(behind, &file.net)),
