@@ -17,8 +17,8 @@ returns-in-Ok-clause-printable c =
       printable = (
         same_algebra file.net (map pure_change file.changes) ∙ c.requires.over,
         ap length c.in-Ok.ensures.listing.the_labels
-        ∙ length-map (labels_on net) (CompileLabel file.net.alg.expression)
-        ∙ length-map net.arcs (λ (a : PureArc). a.label),
+            ∙ length-map (labels_on net) (CompileLabel file.net.alg.expression)
+            ∙ length-map net.arcs (λ (a : PureArc). a.label),
       );
       behind = c.in-Ok.ensures.behind;
     }

@@ -1,0 +1,148 @@
+// Tests of both algebras, by the tree and by compiled code, through the trait's bound alone: over a table of
+// algebras they make the same of the same values.
+ghost use Rattle.std.specs.Prelude.{◌≡◌};
+ghost use Rattle.alg_model.specs.declared.alg.TheConstants.{MAX_VALUE_NUMBER};
+ghost use Rattle.alg_model.specs.declared.edition.TheConstants.{MAX_LABEL_NUMBER};
+ghost use Rattle.alg_model.specs.Application.{IsLabel};
+ghost use Rattle.alg_model.specs.Bounds.{AtMost, LabelAtMost};
+ghost use Rattle.alg_model.specs.Carriers.{carrier_of, In};
+ghost use Rattle.alg_model.specs.Views.{pure_label, pure_value};
+
+use crate::texts::{label, value};
+use alg_model::{Alg, Algebra, Label, TreeAlgebra, Value, same_value};
+use code_gen::CodeAlgebra;
+use meta_base::NoMemory;
+use std::alloc::Global;
+use std::cmp::Ordering;
+use std::test::Fail;
+use test_readers::algebra;
+
+// An expression, a label, and two values. There is a row for each kind at least.
+const AGREED: &str = "add(0..9) | 3 | 4 | 9
+cap(15; 1..1) | 1 | 15 | 3
+worst(9; 0..9) | 3 | 5 | 2
+width(9; 0..9) | 3 | 5 | 7
+lp(9) | 3 | 2 | 2
+op(9) | keep | 4 | 2
+seq(9) | 5 | [5,7] | [1]
+simseq(9) | 5 | [5,7] | [8]
+tags(64) | +63 | {} | {0,63}
+guard(3) | !1 | {0,2} | {1}
+gate | deny | unit | unit
+table { c = k < p; up: c -> p } | up | c | p
+lex(seq(9), add(1..9)) | (1,2) | ([3],4) | ([4,4],1)
+scoped(seq(9), union(gate, seq(9))) | out(3,r:[7]) | ([],l:unit) | ([],r:[6,6])
+scoped(sum(lp(3), gate), add(0..9)) | in(4) | (r:unit,2) | (l:3,2)
+union(add(1..1), seq(2)) | r:1 | r:[0] | l:4
+sum(add(0..9), seq(2)) | (3|1) | r:[] | l:4
+plus(add(0..9), add(10..19)) | r:12 | 4 | 20
+left(seq(4)) | [3,1] | [0] | []
+right(lex(seq(4), gate)) | keep | ([1,2],unit) | ([],unit)";
+
+// The cases, in a call, so that no proof looks into them.
+fn agreed_cases() -> &'static str {
+    AGREED
+}
+
+// What an algebra tells of a label and two values.
+#[derive(Debug, Drop)]
+struct Told {
+    // The first value, brought into its form, copied and brought back.
+    again: Value,
+    // How the two compare.
+    order: Ordering,
+    // What the label makes of the first, by `apply` and by `apply_into` over the second.
+    image: Option<Value>,
+    placed: Option<Value>,
+}
+
+fn tell<A: Algebra>(
+    alloc: Global,
+    algebra: &A,
+    label: &Label,
+    first: &Value,
+    second: &Value,
+) -> Result<Told, NoMemory>
+    requires label { IsLabel (A.expression algebra.now) (pure_label label.now) }
+    requires small_label { LabelAtMost MAX_LABEL_NUMBER (pure_label label.now) }
+    requires first { In (carrier_of (A.expression algebra.now)) (pure_value first.now) }
+    requires second { In (carrier_of (A.expression algebra.now)) (pure_value second.now) }
+    requires small_first { AtMost MAX_VALUE_NUMBER (pure_value first.now) }
+{
+    let lab = algebra.lab_of(alloc, label)?;
+    let first = algebra.sig_of(alloc, first)?;
+    let mut second = algebra.sig_of(alloc, second)?;
+    let copied = algebra.copy(alloc, &first)?;
+    let again = algebra.value_of(alloc, &copied)?;
+    let order = algebra.order(&first, &second);
+    let image = match algebra.apply(alloc, &lab, &first)? {
+        Some(image) => Some(algebra.value_of(alloc, &image)?),
+        None => None,
+    };
+    let placed = match algebra.apply_into(alloc, &lab, &first, &mut second)? {
+        true => Some(algebra.value_of(alloc, &second)?),
+        false => None,
+    };
+    Ok(Told {
+        again,
+        order,
+        image,
+        placed,
+    })
+}
+
+fn are_same(a: &Option<Value>, b: &Option<Value>) -> bool {
+    match (a, b) {
+        (Some(u), Some(v)) => same_value(u, v),
+        (None, None) => true,
+        _ => false,
+    }
+}
+
+// Whether both algebras tell the same, and bring the first value back.
+fn agree(
+    alloc: Global,
+    alg: &Alg,
+    label: &Label,
+    first: &Value,
+    second: &Value,
+) -> Result<bool, NoMemory>
+    requires label { IsLabel alg.now.expression (pure_label label.now) }
+    requires small_label { LabelAtMost MAX_LABEL_NUMBER (pure_label label.now) }
+    requires first { In (carrier_of alg.now.expression) (pure_value first.now) }
+    requires second { In (carrier_of alg.now.expression) (pure_value second.now) }
+    requires small_first { AtMost MAX_VALUE_NUMBER (pure_value first.now) }
+{
+    let tree = tell(alloc, &TreeAlgebra::new(alg), label, first, second)?;
+    let code = tell(alloc, &CodeAlgebra::new(alloc, alg)?, label, first, second)?;
+    Ok(
+        same_value(&tree.again, first)
+            && same_value(&code.again, first)
+            && tree.order == code.order
+            && are_same(&tree.image, &code.image)
+            && are_same(&tree.placed, &code.placed)
+            && are_same(&tree.image, &tree.placed),
+    )
+}
+
+// Whether both algebras agree on a case.
+fn is_agreed_case(alloc: Global, case: &str) -> Result<bool, Fail> {
+    let mut fields = case.split(" | ");
+    let expression = fields.next().ok_or("no expression")?;
+    let label_text = fields.next().ok_or("no label")?;
+    let first_text = fields.next().ok_or("no first value")?;
+    let second_text = fields.next().ok_or("no second value")?;
+    let alg = algebra(alloc, expression)?;
+    let label = label(alloc, &alg, label_text)?;
+    let first = value(alloc, &alg, first_text)?;
+    let second = value(alloc, &alg, second_text)?;
+    Ok(agree(alloc, &alg, &label, &first, &second)?)
+}
+
+#[test]
+fn both_algebras_agree(rt: HostRuntime) -> Result<(), Fail> {
+    for case in agreed_cases().lines() {
+        assert!(rt; is_agreed_case(rt.alloc(), case)?, "{case}");
+    }
+    Ok(())
+}
