@@ -1,2 +1,4 @@
 pub mod Frontiers
 pub mod Heaps
+pub mod Orders
+pub mod Tournaments

@@ -6,7 +6,9 @@ mod heap;
 mod order;
 mod sifting;
 mod steps;
+mod tournament;
 
 pub use heap::Frontier;
 pub use order::Order;
 pub use steps::Steps;
+pub use tournament::Tournament;
