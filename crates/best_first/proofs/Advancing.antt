@@ -14,12 +14,12 @@ use Rattle.net_graph.specs.Views.{rows_of}
 use Rattle.net_graph.specs.Tables.{Told, PureRow, BestFirst, carrier}
 use Rattle.best_first.specs.declared.fixed.FixedRoute.{FixedRoute}
 use Rattle.best_first.specs.declared.route.OpenRoute.{OpenRoute}
-use Rattle.best_first.specs.Found.{found_at, arc_offer, own_offer}
+use Rattle.best_first.specs.Found.{found-map, found_at, arc_offer, own_offer}
 use Rattle.best_first.specs.Keys.{key_of, best_of, routes_of}
 use Rattle.best_first.specs.Fixed.{fixed_route, fixed_routes, told_by, open_routes, AreFixedBy, FixesNext}
 use Rattle.best_first.specs.Queue.{no_route}
 use Rattle.best_first.specs.State.{IsState, CanSpeak, relaxed, spoken}
-use Rattle.best_first.proofs.Places.{found-map, found-none, found_within, none_count-map, none_count-none, all-none}
+use Rattle.best_first.proofs.Places.{found-none, found_within, none_count-map, none_count-none, all-none}
 use Rattle.best_first.proofs.Steps.{first_state, next_state, can_speak, no_loop}
 
 -- without rows nothing is told

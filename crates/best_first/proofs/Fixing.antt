@@ -1,5 +1,5 @@
 -- The step that fixes the next node, as the code makes it.
-use Rattle.std.proofs.Common.{◌≡◌, ℕ, ◌+◌, ◌^◌, ◌<◌, zero, suc, List, [], ◌∷◌, ◌++◌, Option, Some, None, IfSome, Bool, true, false, ◌==◌, if◌then◌else◌, option_map, length, get_or, refl, sym, ap, ◌∙◌, inl, inr, arith}
+use Rattle.std.proofs.Common.{◌≡◌, ℕ, ◌+◌, ◌^◌, ◌<◌, zero, suc, List, [], ◌∷◌, ◌++◌, Option, Some, None, IfSome, Bool, true, false, ◌==◌, if◌then◌else◌, option_map, length, refl, sym, ap, ◌∙◌, inl, inr, arith}
 use Rattle.std.proofs.Math.ListN.{set}
 use Rattle.std.proofs.Math.Path.{fun_ext}
 use Rattle.std.proofs.Math.Seq.{get_or-append_seam}
@@ -8,17 +8,18 @@ use Rattle.std.proofs.lemmas.Bool.Decides.{nat_tests}
 use Rattle.meta_base.specs.declared.ids.NodeId.{NodeId}
 use Rattle.meta_base.specs.NodePaths.{numbers}
 use Rattle.path_store.specs.PathOf.{path_of}
+use Rattle.frontier.specs.Tournaments.{PureTournament}
 use Rattle.alg_model.specs.Expressions.{PureCarrier, PureValue}
 use Rattle.net_graph.specs.Nets.{CanBeNumbered}
 use Rattle.net_graph.specs.Routes.{PureRoute}
 use Rattle.net_graph.specs.Tables.{Told}
 use Rattle.best_first.specs.declared.fixed.FixedRoute.{FixedRoute}
 use Rattle.best_first.specs.declared.route.OpenRoute.{OpenRoute}
-use Rattle.best_first.specs.Found.{found_at, AllFound, none_count}
-use Rattle.best_first.specs.Keys.{RouteKey, key_of, keys_of, best_of, route_of, routes_of, path_or_none, IsShaped}
+use Rattle.best_first.specs.Found.{found-map, found_at, AllFound, none_count}
+use Rattle.best_first.specs.Keys.{RouteKey, key_of, best_of, route_of, routes_of, path_or_none, IsShaped}
 use Rattle.best_first.specs.Fixed.{fixed_route, told_by, open_routes, path_behind, AreFixedBy, FixesNext}
 use Rattle.best_first.specs.Queue.{IsBestAt, IsOpen, IsNext, with_told}
-use Rattle.best_first.proofs.Places.{found-map, found-read, found-set, all-set, found_within, from_none, from_some, none_count-set}
+use Rattle.best_first.proofs.Places.{found-set, all-set, found_within, from_none, from_some, none_count-set}
 use Rattle.best_first.proofs.Queues.{open-found}
 
 -- the path of a row is that of the store
@@ -50,8 +51,8 @@ some_none : {X Y : Type 0} (o : Option X) (x : X) → o ≡ None → o ≡ Some 
 some_none o x e f = absurd (cc)
 
 module _ {S : Type 0} (value : S → PureValue) (is_sig : S → Type 0) (c : PureCarrier) (rows : List (Option (FixedRoute S))) (paths : List (List NodeId)) (best : List (Option (OpenRoute S)))
-    (old_keys keys : List (OpenRoute S)) (i : ℕ) (x : Option (OpenRoute S)) (count : length rows ≡ length best) (fixed : AreFixedBy is_sig rows paths)
-    (opened : IsOpen value is_sig c (told_by value paths rows) best old_keys) (next : IsNext c (told_by value paths rows) (best_of value best) (keys_of value keys) i) (there : x ≡ get_or best i x)
+    (old_standing standing : PureTournament) (i : ℕ) (count : length rows ≡ length best) (fixed : AreFixedBy is_sig rows paths)
+    (opened : IsOpen value is_sig c (told_by value paths rows) best old_standing) (next : IsNext c (told_by value paths rows) (best_of value best) standing i)
   where
     told : Told
     told = told_by value paths rows
@@ -73,12 +74,6 @@ module _ {S : Type 0} (value : S → PureValue) (is_sig : S → Type 0) (c : Pur
     pub row_within : i < length rows
     row_within = let l = best_within in omega arith
 
-    read : option_map (key_of value) x ≡ Some key_at_i.0
-    read = sym (ap (option_map (key_of value)) (found-read best i x best_within there)) ∙ (sym (found-map (key_of value) best i) ∙ key_at_i.1)
-
-    pub never_none : x ≡ None → ⊥
-    never_none e = some_none (option_map (key_of value) x) key_at_i.0 (ap (option_map (key_of value)) e) read
-
     no_row : found_at rows i ≡ None
     no_row = from_none (fixed_route value paths) (found_at rows i) (sym (found-map (fixed_route value paths) rows i) ∙ next.is_open)
 
@@ -86,14 +81,14 @@ module _ {S : Type 0} (value : S → PureValue) (is_sig : S → Type 0) (c : Pur
     few_paths few = let one = one_none rows i row_within no_row in let room = fixed.room in omega arith
 
     -- the route that is taken
-    module _ (route : OpenRoute S) (is : x ≡ Some route) where
+    module _ (route : OpenRoute S) (is : found_at best i ≡ Some route) where
       key : RouteKey
       key = key_of value route
 
       here : found_at (best_of value best) i ≡ Some (key_of value route)
-      here = found-map (key_of value) best i ∙ ap (option_map (key_of value)) (found-read best i x best_within there ∙ is)
+      here = found-map (key_of value) best i ∙ ap (option_map (key_of value)) is
 
-      at_best : IsBestAt c (told_by value paths rows) (keys_of value old_keys) i (key_of value route)
+      at_best : IsBestAt c (told_by value paths rows) i (key_of value route)
       at_best = opened.queue.bests i (key_of value route) here
 
       pub node_is : route.place.node.0 ≡ i
@@ -158,7 +153,7 @@ module _ {S : Type 0} (value : S → PureValue) (is_sig : S → Type 0) (c : Pur
           bests_within : i < length (best_of value best)
           bests_within = omega (arith, best_within, length-map best (option_map (key_of value)))
 
-          same_route : (k : ℕ) (b : RouteKey) → (k == i) ≡ false → IsBestAt c (told_by value paths rows) (keys_of value old_keys) k b
+          same_route : (k : ℕ) (b : RouteKey) → (k == i) ≡ false → IsBestAt c (told_by value paths rows) k b
               → route_of (with_told (told_by value paths rows) i r) b ≡ route_of (told_by value paths rows) b
           same_route k b apart at_b = rw apart_next refl
             where
@@ -218,9 +213,9 @@ module _ {S : Type 0} (value : S → PureValue) (is_sig : S → Type 0) (c : Pur
               more = rw paths_is (length-append paths ((route.place.node ∷ path_behind paths (found_at rows route.place.next.0)) ∷ []))
 
               all_sig : is_sig route.sig
-              all_sig = rw (found-read best i x best_within there ∙ is) at (opened.sigs i)
+              all_sig = rw is at (opened.sigs i)
 
-          pub open_after : IsOpen value is_sig c (told_by value new_paths new_rows) new_best keys
+          pub open_after : IsOpen value is_sig c (told_by value new_paths new_rows) new_best standing
           open_after = record {
             sigs = rw best_is (all-set (λ o. is_sig o.sig) best i None best_within opened.sigs tt);
             queue = rw (told_is, best_set) (next.queue r);

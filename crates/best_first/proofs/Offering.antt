@@ -1,68 +1,84 @@
--- What the program keeps of open routes, as it offers one and takes one out.
-use Rattle.std.proofs.Common.{◌≡◌, ℕ, ◌<◌, List, [], ◌∷◌, Option, Some, None, true, false, is_some, option_map, length, get_or, refl, sym, ap, ◌∙◌, arith}
-use Rattle.std.specs.List.{All}
-use Rattle.std.specs.List.Sorted.{IsPermutation}
+-- What the program keeps of open routes, as it takes one in and out.
+use Rattle.std.proofs.Common.{◌≡◌, ℕ, ◌<◌, List, Option, Some, None, IfSome, Bool, true, option_map, length, refl, sym, ap, ◌∙◌, arith}
 use Rattle.std.proofs.Math.ListN.{set}
-use Rattle.std.proofs.lemmas.List.{length-map, map-set}
-use Rattle.std.proofs.lemmas.List.Elements.{All-map, All-head}
-use Rattle.std.proofs.lemmas.List.Sorted.{IsPermutation-map, All-permutation, length_permutation}
-use Rattle.meta_base.specs.declared.ids.NodeId.{NodeId}
+use Rattle.std.proofs.lemmas.Bool.{false≢true}
+use Rattle.std.proofs.lemmas.List.{length-map, length-set, map-set}
+use Rattle.frontier.specs.Tournaments.{PureTournament, IsJudged, IsJudgedBut, IsJudgedWithout, IsFirstSlot}
+use Rattle.frontier.specs.Orders.{IsOrderOf}
 use Rattle.alg_model.specs.Expressions.{PureCarrier, PureValue}
+use Rattle.alg_model.specs.Carriers.{In}
 use Rattle.net_graph.specs.Tables.{Told}
-use Rattle.best_first.specs.declared.fixed.FixedRoute.{FixedRoute}
 use Rattle.best_first.specs.declared.route.OpenRoute.{OpenRoute}
-use Rattle.best_first.specs.Found.{found_at}
-use Rattle.best_first.specs.Keys.{is_first, beats, key_of, key_at, keys_of, best_of}
-use Rattle.best_first.specs.Fixed.{fixed_route, told_by}
-use Rattle.best_first.specs.Queue.{IsKept, IsQueue, IsOffered, IsNext}
-use Rattle.best_first.proofs.Places.{found-map, found-read, mapped_none, from_none}
-use Rattle.best_first.proofs.Queues.{dead_queue, empty_queue, next_is}
+use Rattle.best_first.specs.Found.{found-map, found_at, AllFound}
+use Rattle.best_first.specs.KeyOrder.{found_in, slots_asymmetric, slots_transitive}
+use Rattle.best_first.specs.Keys.{beats, key_of, best_of, precedes}
+use Rattle.best_first.specs.Queue.{IsRanked, IsOpen, IsNext}
+use Rattle.best_first.proofs.Places.{found_within}
+use Rattle.best_first.proofs.Queues.{raise_asks, replay_asks, next_is}
 
-some_of : {X : Type 0} (o : Option X) → is_some o ≡ true → (x : X) × (o ≡ Some x)
-some_of None e = absurd (cc)
-some_of (Some x) e = (x, refl)
-
--- a route that beats its node's best is the best, and a key of the same value is kept
-pub offer_taken : {S : Type 0} (value : S → PureValue) (c : PureCarrier) (sig : S) (key : OpenRoute S) (best : List (Option (OpenRoute S))) (keys new_keys : List (OpenRoute S))
-    → beats c (key_of value key) (found_at (best_of value best) key.place.node.0) ≡ true → value sig ≡ value key.sig → IsPermutation (key ∷ keys) new_keys
-    → IsOffered c (key_of value key) (best_of value best) (keys_of value keys) (best_of value (set best key.place.node.0 (Some record { sig = sig; place = key.place }))) (keys_of value new_keys)
-offer_taken value c sig key best keys new_keys better same p = rw better (
-  map-set (option_map (key_of value)) best key.place.node.0 (Some record { sig = sig; place = key.place }) ∙ ap (λ v. set (best_of value best) key.place.node.0 (Some (key_at key.place v))) same,
-  IsPermutation-map (key_of value) (key ∷ keys) new_keys p,
-)
-
--- a key that is taken out
-module _ {S : Type 0} (value : S → PureValue) (c : PureCarrier) (rows : List (Option (FixedRoute S))) (paths : List (List NodeId)) (best : List (Option (OpenRoute S))) (keys rest : List (OpenRoute S))
-    (key : OpenRoute S) (count : length rows ≡ length best) (p : IsPermutation keys (key ∷ rest)) (q : IsQueue c (told_by value paths rows) (best_of value best) (keys_of value keys))
+module _ {S : Type 0} (value : S → PureValue) (is_sig : S → Type 0) (c : PureCarrier) (sig_in : (s : S) → is_sig s → In c (value s))
+    (best : List (Option (OpenRoute S))) (sigs : AllFound (λ o. is_sig o.sig) best) (t : PureTournament) (ranked : IsRanked c (best_of value best) t)
   where
-    mapped : IsPermutation (keys_of value keys) (key_of value key ∷ keys_of value rest)
-    mapped = IsPermutation-map (key_of value) keys (key ∷ rest) p
+    pub count : t.count ≡ length best
+    count = ranked.count ∙ length-map best (option_map (key_of value))
 
-    pub pop_within : key.place.node.0 < length rows
-    pop_within =
-        let kept = All-head (IsKept c (told_by value paths rows) (best_of value best)) (key_of value key) (keys_of value rest)
-        (All-permutation (IsKept c (told_by value paths rows) (best_of value best)) (keys_of value keys) (key_of value key ∷ keys_of value rest) mapped q.others) in
-        let within = kept.within in
-        omega (arith, within, length-map best (option_map (key_of value)))
+    -- the node's best is written
+    pub written : (i : ℕ) (o : Option (OpenRoute S)) → best_of value (set best i o) ≡ set (best_of value best) i (option_map (key_of value) o)
+    written i o = map-set (option_map (key_of value)) best i o
 
-    pub pop_smaller : length rest < length keys
-    pop_smaller = let e = length_permutation keys (key ∷ rest) p in omega arith
+    -- and no other has changed
+    pub taken_judged : (i : ℕ) → i < length best → IsJudgedWithout (precedes c (best_of value (set best i None))) t i
+    taken_judged i within = rw (written i None) (replay_asks c (best_of value best) i None (omega (arith, within, length-map best (option_map (key_of value)))) t ranked.judged)
 
-    told_key : (x : Option (FixedRoute S)) → x ≡ get_or rows key.place.node.0 x → told_by value paths rows key.place.node.0 ≡ option_map (fixed_route value paths) x
-    told_key x there = found-map (fixed_route value paths) rows key.place.node.0 ∙ ap (option_map (fixed_route value paths)) (found-read rows key.place.node.0 x pop_within there)
+    pub better_judged : (route : OpenRoute S) → route.place.node.0 < length best → is_sig route.sig
+        → beats c (key_of value route) (found_at (best_of value best) route.place.node.0) ≡ true
+        → IsJudgedBut (precedes c (best_of value (set best route.place.node.0 (Some route)))) t route.place.node.0
+    better_judged route within is better =
+        rw (written route.place.node.0 (Some route))
+        (raise_asks c (best_of value best) route.place.node.0 (key_of value route) (omega (arith, within, length-map best (option_map (key_of value)))) (sig_in route.sig is)
+        (found_in value is_sig c sig_in best sigs) better t ranked.judged)
 
-    pub pop_dead : (x : Option (FixedRoute S)) → x ≡ get_or rows key.place.node.0 x → is_some x ≡ true → IsQueue c (told_by value paths rows) (best_of value best) (keys_of value rest)
-    pop_dead x there some =
-        let row = some_of x some in
-        dead_queue c (told_by value paths rows) (best_of value best) (key_of value key) (keys_of value keys) (keys_of value rest) (fixed_route value paths row.0)
-        (told_key x there ∙ ap (option_map (fixed_route value paths)) row.1) mapped q
+    pub still_counted : (i : ℕ) (o : Option (OpenRoute S)) → t.count ≡ length (best_of value (set best i o))
+    still_counted i o = count ∙ sym (length-map (set best i o) (option_map (key_of value)) ∙ length-set best i o)
 
-    pub pop_next : (x : Option (FixedRoute S)) → x ≡ get_or rows key.place.node.0 x → is_some x ≡ false → All (λ other. is_first c (key_of value other) (key_of value key) ≡ false) keys
-        → IsNext c (told_by value paths rows) (best_of value best) (keys_of value rest) key.place.node.0
-    pop_next x there none least =
-        next_is c (told_by value paths rows) (best_of value best) (key_of value key) (keys_of value keys) (keys_of value rest)
-        (told_key x there ∙ mapped_none (fixed_route value paths) x none) mapped (All-map (λ other. is_first c other (key_of value key) ≡ false) (key_of value) keys least) q
+-- what the tournament's first slot says
+module _ {S : Type 0} (value : S → PureValue) (is_sig : S → Type 0) (c : PureCarrier) (sig_in : (s : S) → is_sig s → In c (value s))
+    (best : List (Option (OpenRoute S))) (sigs : AllFound (λ o. is_sig o.sig) best) (t : PureTournament) (ranked : IsRanked c (best_of value best) t) (slot : ℕ)
+    (first : (before : ℕ → ℕ → Bool) → IsOrderOf t.count before → IsJudged before t → IsFirstSlot before t.count slot)
+  where
+    pub first_of_all : IsFirstSlot (precedes c (best_of value best)) (length best) slot
+    first_of_all k h = first (precedes c (best_of value best)) laws ranked.judged k (omega (arith, h, count value is_sig c sig_in best sigs t ranked))
+      where
+        laws : IsOrderOf t.count (precedes c (best_of value best))
+        laws = record {
+          asymmetric = λ k m h l. slots_asymmetric value is_sig c sig_in best sigs k m;
+          transitive = λ k m n h l i. slots_transitive value is_sig c sig_in best sigs k m n;
+        }
 
-pub pop_empty : {S : Type 0} (value : S → PureValue) (c : PureCarrier) (told : Told) (best : List (Option (OpenRoute S))) (keys : List (OpenRoute S)) → keys ≡ []
-    → IsQueue c told (best_of value best) (keys_of value keys) → (k : ℕ) → found_at best k ≡ None
-pop_empty value c told best keys none q k = from_none (key_of value) (found_at best k) (sym (found-map (key_of value) best k) ∙ empty_queue c told (best_of value best) (keys_of value keys) (rw none refl) q k)
+    pub none_when_first_lacks : found_at best slot ≡ None → (k : ℕ) → found_at best k ≡ None
+    none_when_first_lacks lacks k = by (found_at best k) refl
+      where
+        by : (o : Option (OpenRoute S)) → found_at best k ≡ o → found_at best k ≡ None
+        by None e = e
+        by (Some route) e =
+            let key : found_at (best_of value best) k ≡ Some (key_of value route) = found-map (key_of value) best k ∙ ap (option_map (key_of value)) e in
+            let no_key : found_at (best_of value best) slot ≡ None = found-map (key_of value) best slot ∙ ap (option_map (key_of value)) lacks in
+            absurd (false≢true (sym (rw (key, no_key) at (first_of_all k (found_within best k route e)))))
+
+-- each best route stands at its node
+pub at_their_nodes : {S : Type 0} (value : S → PureValue) (is_sig : S → Type 0) (c : PureCarrier) (told : Told) (best : List (Option (OpenRoute S))) (t : PureTournament) → IsOpen value is_sig c told best t
+    → (k : ℕ) → IfSome (found_at best k) (λ o. o.place.node.0 ≡ k)
+at_their_nodes {S = S} value is_sig c told best t opened k = by (found_at best k) refl
+  where
+    by : (o : Option (OpenRoute S)) → found_at best k ≡ o → IfSome o (λ o. o.place.node.0 ≡ k)
+    by None e = tt
+    by (Some route) e = (opened.queue.bests k (key_of value route) (found-map (key_of value) best k ∙ ap (option_map (key_of value)) e)).node
+
+-- the best route of all was taken out
+pub next_taken : {S : Type 0} (value : S → PureValue) (is_sig : S → Type 0) (c : PureCarrier) (told : Told) (best new_best : List (Option (OpenRoute S))) (t new_t : PureTournament) (route : OpenRoute S)
+    → IsOpen value is_sig c told best t → found_at best route.place.node.0 ≡ Some route → IsFirstSlot (precedes c (best_of value best)) (length best) route.place.node.0
+    → new_best ≡ set best route.place.node.0 None → IsRanked c (best_of value new_best) new_t → IsNext c told (best_of value best) new_t route.place.node.0
+next_taken value is_sig c told best new_best t new_t route opened there first taken ranked =
+    next_is c told (best_of value best) t new_t route.place.node.0 (rw (length-map best (option_map (key_of value))) first) opened.queue (key_of value route)
+    (found-map (key_of value) best route.place.node.0 ∙ ap (option_map (key_of value)) there)
+    (rw (taken, map-set (option_map (key_of value)) best route.place.node.0 None) at ranked)

@@ -15,11 +15,6 @@ use Rattle.net_graph.specs.declared.route.RouteRow.{RouteRow}
 use Rattle.net_graph.specs.ArcLaws.{find-filter}
 use Rattle.best_first.specs.Found.{found_at, AllFound, none_count, own_offer, row_from, rows_from}
 
-pub found-map : {X Y : Type 0} (f : X → Y) (xs : List (Option X)) (k : ℕ) → found_at (map (option_map f) xs) k ≡ option_map f (found_at xs k)
-found-map f [] k = refl
-found-map f (x ∷ xs) zero = refl
-found-map f (x ∷ xs) (suc k) = found-map f xs k
-
 pub found-read : {X : Type 0} (xs : List (Option X)) (k : ℕ) (x : Option X) → k < length xs → x ≡ get_or xs k x → found_at xs k ≡ x
 found-read xs k x l e = rw (slice_get-get_or xs k x l, ← e) refl
 

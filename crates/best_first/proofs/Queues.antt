@@ -1,34 +1,19 @@
--- What keeps the best open routes and their keys in order.
-use Rattle.std.proofs.Common.{◌≡◌, ℕ, ◌<◌, zero, suc, List, [], ◌∷◌, Option, Some, None, Bool, true, false, ◌==◌, if◌then◌else◌, option_map, length, refl, sym, ap, ◌∙◌, arith, ◌⊎◌, inl, inr}
-use Rattle.std.specs.List.{All, Contains}
-use Rattle.std.specs.List.Sorted.{IsPermutation}
+-- What keeps the best open routes and the nodes' standing in order.
+use Rattle.std.proofs.Common.{◌≡◌, ◌≢◌, ℕ, ◌<◌, ◌/◌, List, Option, Some, None, Bool, true, false, ◌==◌, if◌then◌else◌, option_map, length, refl, sym, ap, ◌∙◌, arith, inl, inr, IfSome}
 use Rattle.std.proofs.Math.ListN.{set}
-use Rattle.std.proofs.lemmas.List.{length-set}
-use Rattle.std.proofs.lemmas.List.Elements.{All-contains, All-cons, All-head, All-tail, All-weaker}
-use Rattle.std.proofs.lemmas.List.Sorted.{All-permutation, Contains-permutation}
-use Rattle.std.proofs.lemmas.Bool.{false≢true}
+use Rattle.std.proofs.lemmas.Bool.{cases_eq, false≢true}
 use Rattle.std.proofs.lemmas.Bool.Decides.{nat_tests}
+use Rattle.frontier.specs.Tournaments.{PureTournament, winner_at, IsJudged, IsJudgedBut, IsJudgedWithout, IsFirstSlot}
 use Rattle.alg_model.specs.Expressions.{PureCarrier}
 use Rattle.alg_model.specs.Carriers.{In}
 use Rattle.net_graph.specs.Routes.{PureRoute, Better, is_less, is_better}
 use Rattle.net_graph.specs.Tables.{Told}
-use Rattle.best_first.specs.Found.{found_at, better_of}
+use Rattle.best_first.specs.Found.{found-map, found_at, better_of}
 use Rattle.best_first.specs.KeyOrder.{asymmetric, transitive}
-use Rattle.best_first.specs.Keys.{RouteKey, is_first, beats, route_of, routes_of, IsBehind, IsShaped}
-use Rattle.best_first.specs.Queue.{IsBestAt, IsNoBetter, IsKept, IsQueue, IsOffered, IsNext, with_told}
-use Rattle.best_first.proofs.Places.{found-map, found-set, from_some}
+use Rattle.best_first.specs.Keys.{RouteKey, is_first, is_ahead, precedes, beats, route_of, routes_of, IsBehind, IsShaped}
+use Rattle.best_first.specs.Queue.{IsBestAt, IsRanked, IsQueue, IsOffered, IsNext, with_told}
+use Rattle.best_first.proofs.Places.{found-set, found_within, from_some}
 use Rattle.best_first.proofs.KeyRoutes.{first_agree}
-
--- a key is the first or among the others
-among_cons : (x : RouteKey) (xs : List RouteKey) (y : RouteKey) → Contains (x ∷ xs) y → (x ≡ y) ⊎ Contains xs y
-among_cons x xs y (zero, l, e) = inl e
-among_cons x xs y (suc k, l, e) = inr (k, omega arith, e)
-
-here : (x : RouteKey) (xs : List RouteKey) → Contains (x ∷ xs) x
-here x xs = (0, omega arith, refl)
-
-later : (x : RouteKey) (xs : List RouteKey) (y : RouteKey) → Contains xs y → Contains (x ∷ xs) y
-later x xs y (k, l, e) = (suc k, omega arith, e)
 
 some_none : {X Y : Type 0} (o : Option X) (x : X) → o ≡ None → o ≡ Some x → Y
 some_none o x e f = absurd (cc)
@@ -37,104 +22,66 @@ some_none o x e f = absurd (cc)
 pub open-found : (told : Told) (best : List (Option RouteKey)) (k : ℕ) → found_at (routes_of told best) k ≡ option_map (route_of told) (found_at best k)
 open-found told best k = found-map (route_of told) best k
 
+-- with another best of node i
+module _ (c : PureCarrier) (best : List (Option RouteKey)) (i : ℕ) (o : Option RouteKey) (within : i < length best) where
+  elsewhere : (k : ℕ) → k ≢ i → found_at (set best i o) k ≡ found_at best k
+  elsewhere k n = found-set best i k o within ∙ (let e : (k == i) ≡ false = grind (arith, nat_tests) in rw e refl)
+
+  there : found_at (set best i o) i ≡ o
+  there = found-set best i i o within ∙ (let e : (i == i) ≡ true = grind (arith, nat_tests) in rw e refl)
+
+  -- only matches of node i may be judged otherwise
+  pub replay_asks : (t : PureTournament) → IsJudged (precedes c best) t → IsJudgedWithout (precedes c (set best i o)) t i
+  replay_asks t judged k more long n m =
+      rw (elsewhere (winner_at t.winners k) n, elsewhere (winner_at t.winners (k / 2)) m) (judged k more long)
+
+-- with a better one, only those that node i lost
+module _ (c : PureCarrier) (best : List (Option RouteKey)) (i : ℕ) (key : RouteKey) (within : i < length best) (key_in : In c key.value)
+    (all_in : (k : ℕ) → IfSome (found_at best k) (λ b. In c b.value)) (better : beats c key (found_at best i) ≡ true)
+  where
+    still_behind : (o : Option RouteKey) → IfSome o (λ b. In c b.value) → is_ahead c o (found_at best i) ≡ false → is_ahead c o (Some key) ≡ false
+    still_behind None h e = refl
+    still_behind (Some b) h e = by (found_at best i) (all_in i) better e
+      where
+        by : (p : Option RouteKey) → IfSome p (λ b. In c b.value) → beats c key p ≡ true → is_ahead c (Some b) p ≡ false → is_first c b key ≡ false
+        by None g f e = absurd (cc)
+        by (Some l) g f e = transitive c key l b key_in g h (asymmetric c key l key_in g f) e
+
+    pub raise_asks : (t : PureTournament) → IsJudged (precedes c best) t → IsJudgedBut (precedes c (set best i (Some key))) t i
+    raise_asks t judged k more long n = elim (cases_eq (winner_at t.winners (k / 2)) i) [
+      | inl e ↦
+          let was : is_ahead c (found_at best (winner_at t.winners k)) (found_at best i) ≡ false = rw e at (judged k more long) in
+          rw (elsewhere c best i (Some key) within (winner_at t.winners k) n, e, there c best i (Some key) within) (still_behind (found_at best (winner_at t.winners k)) (all_in (winner_at t.winners k)) was)
+      | inr m ↦ rw (elsewhere c best i (Some key) within (winner_at t.winners k) n, elsewhere c best i (Some key) within (winner_at t.winners (k / 2)) m) (judged k more long)
+    ]
+
 -- an offer that was made keeps the order
-module _ (c : PureCarrier) (told : Told) (key : RouteKey) (best : List (Option RouteKey)) (keys : List RouteKey) (new_best : List (Option RouteKey)) (new_keys : List RouteKey)
-    (within : key.node < length best) (is_open : told key.node ≡ None) (shaped : IsShaped told key) (value_in : In c key.value) (q : IsQueue c told best keys)
+module _ (c : PureCarrier) (told : Told) (key : RouteKey) (best : List (Option RouteKey)) (t : PureTournament) (new_best : List (Option RouteKey))
+    (within : key.node < length best) (is_open : told key.node ≡ None) (shaped : IsShaped told key) (value_in : In c key.value) (q : IsQueue c told best t)
   where
     at_node : (k : ℕ) → found_at (set best key.node (Some key)) k ≡ (if k == key.node then Some key else found_at best k)
     at_node k = found-set best key.node k (Some key) within
 
-    itself : (key.node == key.node) ≡ true
-    itself = grind (arith, nat_tests)
-
-    not_first : (b : RouteKey) (x : RouteKey) → found_at best key.node ≡ Some b → is_first c key b ≡ true → IsNoBetter c told best x → x.node ≡ key.node → is_first c x key ≡ false
-    not_first b x e f n same =
-        let there : found_at best key.node ≡ Some n.than = rw same at n.at_node in
-        let one : n.than ≡ b = cc in
-        let b_in = (q.bests key.node b e).value_in in
-        transitive c key b x value_in b_in n.value_in (asymmetric c key b value_in b_in f) (rw one at n.behind)
-
-    kept_taken : beats c key (found_at best key.node) ≡ true → (x : RouteKey) → IsKept c told best x → IsKept c told (set best key.node (Some key)) x
-    kept_taken f x k = record {
-      within = (let w = k.within in omega (arith, length-set {A = Option RouteKey}));
-      no_better = λ none. by (k.no_better none) (x.node == key.node) refl (found_at best key.node) refl;
-    }
+    bests_taken : (k : ℕ) (b : RouteKey) → found_at (set best key.node (Some key)) k ≡ Some b → IsBestAt c told k b
+    bests_taken k b e = by (k == key.node) refl (sym (at_node k) ∙ e)
       where
-        by : IsNoBetter c told best x → (b : Bool) → (x.node == key.node) ≡ b → (o : Option RouteKey) → found_at best key.node ≡ o → IsNoBetter c told (set best key.node (Some key)) x
-        by n false g o e = record {
-          shaped = n.shaped;
-          value_in = n.value_in;
-          than = n.than;
-          at_node = at_node x.node ∙ rw g n.at_node;
-          behind = n.behind;
-        }
-        by n true g None e =
-            let same : x.node ≡ key.node = grind (arith, nat_tests) in
-            some_none (found_at best key.node) n.than e (rw same at n.at_node)
-        by n true g (Some b) e =
-            let same : x.node ≡ key.node = grind (arith, nat_tests) in
-            record {
-              shaped = n.shaped;
-              value_in = n.value_in;
-              than = key;
-              at_node = at_node x.node ∙ rw g refl;
-              behind = not_first b x e (rw e at f) n same;
-            }
-
-    own_kept : IsKept c told (set best key.node (Some key)) key
-    own_kept = record {
-      within = omega (arith, within, length-set {A = Option RouteKey});
-      no_better = λ none. record {
-        shaped = shaped;
-        value_in = value_in;
-        than = key;
-        at_node = at_node key.node ∙ rw itself refl;
-        behind = not_itself (is_first c key key) refl;
-      };
-    }
-      where
-        not_itself : (b : Bool) → is_first c key key ≡ b → is_first c key key ≡ false
-        not_itself true e = asymmetric c key key value_in value_in e
-        not_itself false e = e
-
-    taken_queue : beats c key (found_at best key.node) ≡ true → IsPermutation (key ∷ keys) new_keys → IsQueue c told (set best key.node (Some key)) new_keys
-    taken_queue f p = record {
-      bests = λ k b e. at_k k b (k == key.node) refl (sym (at_node k) ∙ e);
-      others = All-permutation (IsKept c told (set best key.node (Some key))) (key ∷ keys) new_keys p
-          (All-cons (IsKept c told (set best key.node (Some key))) key keys own_kept (All-weaker (IsKept c told best) (IsKept c told (set best key.node (Some key))) (kept_taken f) keys q.others));
-    }
-      where
-        at_k : (k : ℕ) (b : RouteKey) (t : Bool) → (k == key.node) ≡ t → (if k == key.node then Some key else found_at best k) ≡ Some b → IsBestAt c told new_keys k b
-        at_k k b true g e =
+        by : (t : Bool) → (k == key.node) ≡ t → (if k == key.node then Some key else found_at best k) ≡ Some b → IsBestAt c told k b
+        by true g e =
             let same : k ≡ key.node = grind (arith, nat_tests) in
             let one : Some key ≡ Some b = rw g at e in
             let is : key ≡ b = cc in
-            rw (← is, same) record {
-              node = refl;
-              is_open = is_open;
-              shaped = shaped;
-              value_in = value_in;
-              kept = Contains-permutation (key ∷ keys) new_keys key p (here key keys);
-            }
-        at_k k b false g e =
-            let old = q.bests k b (rw g at e) in
-            record {
-              node = old.node;
-              is_open = old.is_open;
-              shaped = old.shaped;
-              value_in = old.value_in;
-              kept = Contains-permutation (key ∷ keys) new_keys b p (later key keys b old.kept);
-            }
+            rw (← is, same) record { node = refl; is_open = is_open; shaped = shaped; value_in = value_in }
+        by false g e = q.bests k b (rw g at e)
 
-    pub offered_queue : IsOffered c key best keys new_best new_keys → IsQueue c told new_best new_keys
-    offered_queue o = by (beats c key (found_at best key.node)) refl o
+    pub offered_queue : (new_t : PureTournament) → IsOffered c key best new_best → IsRanked c new_best new_t → IsQueue c told new_best new_t
+    offered_queue new_t o ranked = record { bests = by (beats c key (found_at best key.node)) refl o; ranked = ranked }
       where
-        by : (t : Bool) → beats c key (found_at best key.node) ≡ t → IsOffered c key best keys new_best new_keys → IsQueue c told new_best new_keys
-        by true f o = let h = rw f at o in rw h.0 (taken_queue f h.1)
-        by false f o = let h = rw f at o in rw (h.0, h.1) q
+        by : (t : Bool) → beats c key (found_at best key.node) ≡ t → IsOffered c key best new_best → (k : ℕ) (b : RouteKey) → found_at new_best k ≡ Some b → IsBestAt c told k b
+        by true f o = let h = rw f at o in rw h bests_taken
+        by false f o = let h = rw f at o in rw h q.bests
 
     -- the node has the better of what was open and what was offered
-    pub offered_found : IsOffered c key best keys new_best new_keys → (k : ℕ) → found_at (routes_of told new_best) k
+    pub offered_found : IsOffered c key best new_best → (k : ℕ) → found_at (routes_of told new_best) k
         ≡ (if k == key.node then better_of c (found_at (routes_of told best) k) (Some (route_of told key)) else found_at (routes_of told best) k)
     offered_found o k = open-found told new_best k ∙ (by (k == key.node) refl (beats c key (found_at best key.node)) refl o ∙ ap (λ x. if k == key.node then better_of c x (Some (route_of told key)) else x) (sym (open-found told best k)))
       where
@@ -149,52 +96,22 @@ module _ (c : PureCarrier) (told : Told) (key : RouteKey) (best : List (Option R
             cases true = refl
             cases false = refl
 
-        by : (s : Bool) → (k == key.node) ≡ s → (t : Bool) → beats c key (found_at best key.node) ≡ t → IsOffered c key best keys new_best new_keys
+        by : (s : Bool) → (k == key.node) ≡ s → (t : Bool) → beats c key (found_at best key.node) ≡ t → IsOffered c key best new_best
             → option_map (route_of told) (found_at new_best k) ≡ (if k == key.node then better_of c (option_map (route_of told) (found_at best k)) (Some (route_of told key)) else option_map (route_of told) (found_at best k))
         by true g true f o =
             let h = rw f at o in
             let same : k ≡ key.node = grind (arith, nat_tests) in
-            rw (g, h.0, at_node k, g, same, better (found_at best key.node) refl, f) refl
+            rw (g, h, at_node k, g, same, better (found_at best key.node) refl, f) refl
         by true g false f o =
             let h = rw f at o in
             let same : k ≡ key.node = grind (arith, nat_tests) in
-            rw (g, h.0, same, better (found_at best key.node) refl, f) refl
+            rw (g, h, same, better (found_at best key.node) refl, f) refl
         by false g true f o =
             let h = rw f at o in
-            rw (g, h.0, at_node k, g) refl
+            rw (g, h, at_node k, g) refl
         by false g false f o =
             let h = rw f at o in
-            rw (g, h.0) refl
-
--- a key of a node that is fixed may go
-pub dead_queue : (c : PureCarrier) (told : Told) (best : List (Option RouteKey)) (key : RouteKey) (keys rest : List RouteKey) (r : PureRoute) → told key.node ≡ Some r
-    → IsPermutation keys (key ∷ rest) → IsQueue c told best keys → IsQueue c told best rest
-dead_queue c told best key keys rest r fixed p q = record {
-  bests = λ k b e. at_k k b (q.bests k b e);
-  others = All-tail (IsKept c told best) key rest (All-permutation (IsKept c told best) keys (key ∷ rest) p q.others);
-}
-  where
-    at_k : (k : ℕ) (b : RouteKey) → IsBestAt c told keys k b → IsBestAt c told rest k b
-    at_k k b old = record {
-      node = old.node;
-      is_open = old.is_open;
-      shaped = old.shaped;
-      value_in = old.value_in;
-      kept = elim (among_cons key rest b (Contains-permutation keys (key ∷ rest) b p old.kept)) [
-        | inl same ↦
-            let none : told key.node ≡ None = rw (same, old.node) old.is_open in
-            some_none (told key.node) r none fixed
-        | inr m ↦ m
-      ];
-    }
-
--- without a key nothing is open
-pub empty_queue : (c : PureCarrier) (told : Told) (best : List (Option RouteKey)) (keys : List RouteKey) → keys ≡ [] → IsQueue c told best keys → (k : ℕ) → found_at best k ≡ None
-empty_queue c told best keys none q k = by (found_at best k) refl
-  where
-    by : (o : Option RouteKey) → found_at best k ≡ o → found_at best k ≡ None
-    by None e = e
-    by (Some b) e = let there = rw none at (q.bests k b e).kept in absurd (omega (arith, there.1))
+            rw (g, h) refl
 
 shaped_more : (told : Told) (i : ℕ) (r : PureRoute) (k : RouteKey) → told i ≡ None → IsShaped told k → IsShaped (with_told told i r) k
 shaped_more told i r k none (inl own) = inl own
@@ -206,80 +123,43 @@ shaped_more told i r k none (inr b) = inr (by (k.next == i) refl)
         some_none (told i) b.next none (rw same at b.is_told)
     by false e = record { next = b.next; is_told = rw e b.is_told; begins = b.begins; size = b.size }
 
--- the key that comes first among those of nodes that aren't fixed tells the best node
-module _ (c : PureCarrier) (told : Told) (best : List (Option RouteKey)) (key : RouteKey) (keys rest : List RouteKey) (is_open : told key.node ≡ None)
-    (p : IsPermutation keys (key ∷ rest)) (least : All (λ other. is_first c other key ≡ false) keys) (q : IsQueue c told best keys)
-  where
-    popped : IsKept c told best key
-    popped = All-head (IsKept c told best) key rest (All-permutation (IsKept c told best) keys (key ∷ rest) p q.others)
+-- the node that no node comes before tells the best route
+module _ (c : PureCarrier) (told : Told) (best : List (Option RouteKey)) (t new_t : PureTournament) (i : ℕ) (first : IsFirstSlot (precedes c best) (length best) i) (q : IsQueue c told best t) where
+  module _ (than : RouteKey) (here : found_at best i ≡ Some than) where
+    than_at : IsBestAt c told i than
+    than_at = q.bests i than here
 
-    behind : IsNoBetter c told best key
-    behind = popped.no_better is_open
-
-    than_at : IsBestAt c told keys key.node behind.than
-    than_at = q.bests key.node behind.than behind.at_node
-
-    unbeaten : (k : ℕ) (s : PureRoute) → found_at (routes_of told best) k ≡ Some s → ¬ Better c s (route_of told behind.than)
+    unbeaten : (k : ℕ) (s : PureRoute) → found_at (routes_of told best) k ≡ Some s → ¬ Better c s (route_of told than)
     unbeaten k s e better =
         let from = from_some (route_of told) (found_at best k) s (sym (open-found told best k) ∙ e) in
         let b = from.0 in
         let at_b = q.bests k b from.1 in
         let none : told b.node ≡ None = rw at_b.node at_b.is_open in
-        let none_than : told behind.than.node ≡ None = rw than_at.node is_open in
-        let first = All-contains (λ other. is_first c other key ≡ false) keys b least at_b.kept in
-        let order : is_first c b behind.than ≡ false = transitive c behind.than key b than_at.value_in behind.value_in at_b.value_in behind.behind first in
-        let same = first_agree c told b behind.than none none_than at_b.shaped than_at.shaped in
-        let worse : is_better c (route_of told b) (route_of told behind.than) ≡ false = sym same ∙ order in
-        let is_less_then : Better c (route_of told b) (route_of told behind.than) = rw from.2 at better in
-        let yes_better : is_better c (route_of told b) (route_of told behind.than) ≡ true = ap is_less is_less_then in
+        let none_than : told than.node ≡ None = rw than_at.node than_at.is_open in
+        let order : is_first c b than ≡ false = rw (from.1, here) at (first k (found_within best k b from.1)) in
+        let same = first_agree c told b than none none_than at_b.shaped than_at.shaped in
+        let worse : is_better c (route_of told b) (route_of told than) ≡ false = sym same ∙ order in
+        let is_less_then : Better c (route_of told b) (route_of told than) = rw from.2 at better in
+        let yes_better : is_better c (route_of told b) (route_of told than) ≡ true = ap is_less is_less_then in
         false≢true (sym worse ∙ yes_better)
 
-    next_queue : (r : PureRoute) → IsQueue c (with_told told key.node r) (set best key.node None) rest
-    next_queue r = record {
-      bests = λ k b e. at_k k b (k == key.node) refl (sym (found-set best key.node k None within) ∙ e);
-      others = All-weaker (IsKept c told best) (IsKept c (with_told told key.node r) (set best key.node None)) kept rest
-          (All-tail (IsKept c told best) key rest (All-permutation (IsKept c told best) keys (key ∷ rest) p q.others));
-    }
+    next_bests : (r : PureRoute) (k : ℕ) (b : RouteKey) → found_at (set best i None) k ≡ Some b → IsBestAt c (with_told told i r) k b
+    next_bests r k b e = by (k == i) refl (sym (found-set best i k None (found_within best i than here)) ∙ e)
       where
-        within : key.node < length best
-        within = popped.within
-
-        at_k : (k : ℕ) (b : RouteKey) (t : Bool) → (k == key.node) ≡ t → (if k == key.node then None else found_at best k) ≡ Some b → IsBestAt c (with_told told key.node r) rest k b
-        at_k k b true g e = absurd (let f : None ≡ Some b = rw g at e in cc)
-        at_k k b false g e =
+        by : (t : Bool) → (k == i) ≡ t → (if k == i then None else found_at best k) ≡ Some b → IsBestAt c (with_told told i r) k b
+        by true g e = absurd (let f : None ≡ Some b = rw g at e in cc)
+        by false g e =
             let old = q.bests k b (rw g at e) in
             record {
               node = old.node;
               is_open = rw g old.is_open;
-              shaped = shaped_more told key.node r b is_open old.shaped;
+              shaped = shaped_more told i r b than_at.is_open old.shaped;
               value_in = old.value_in;
-              kept = elim (among_cons key rest b (Contains-permutation keys (key ∷ rest) b p old.kept)) [
-                | inl same ↦ absurd (false≢true (sym g ∙ (let n : k ≡ key.node = sym old.node ∙ ap (λ (x : RouteKey). x.node) (sym same) in grind (arith, nat_tests))))
-                | inr m ↦ m
-              ];
             }
 
-        kept : (x : RouteKey) → IsKept c told best x → IsKept c (with_told told key.node r) (set best key.node None) x
-        kept x k = record {
-          within = (let w = k.within in omega (arith, length-set {A = Option RouteKey}));
-          no_better = λ none. by (x.node == key.node) refl none;
-        }
-          where
-            by : (t : Bool) → (x.node == key.node) ≡ t → with_told told key.node r x.node ≡ None → IsNoBetter c (with_told told key.node r) (set best key.node None) x
-            by true g none = absurd (let f : Some r ≡ None = rw g at none in cc)
-            by false g none =
-                let n = k.no_better (rw g at none) in
-                record {
-                  shaped = shaped_more told key.node r x is_open n.shaped;
-                  value_in = n.value_in;
-                  than = n.than;
-                  at_node = found-set best key.node x.node None within ∙ rw g n.at_node;
-                  behind = n.behind;
-                }
-
-    pub next_is : IsNext c told best rest key.node
-    next_is = record {
-      is_open = is_open;
-      best_of_all = (route_of told behind.than, open-found told best key.node ∙ ap (option_map (route_of told)) behind.at_node, unbeaten);
-      queue = next_queue;
+    pub next_is : IsRanked c (set best i None) new_t → IsNext c told best new_t i
+    next_is ranked = record {
+      is_open = than_at.is_open;
+      best_of_all = (route_of told than, open-found told best i ∙ ap (option_map (route_of told)) here, unbeaten);
+      queue = λ r. record { bests = next_bests r; ranked = ranked };
     }

@@ -1,5 +1,6 @@
 -- What is found on the way to a table: for each node a route, or none.
-use Rattle.std.specs.Prelude.{◌≡◌, ℕ, ◌+◌, List, [], ◌∷◌, Bool, cond, Option, Some, None, is_some, option_map, option_and_then, IfSome, slice_get}
+use Rattle.std.specs.Prelude.{◌≡◌, ℕ, ◌+◌, List, [], ◌∷◌, Bool, cond, Option, Some, None, is_some, option_map, option_and_then, IfSome, slice_get, map, zero, suc}
+use Rattle.std.proofs.Common.{refl}
 use Rattle.alg_model.specs.Expressions.{PureCarrier, PureValue}
 use Rattle.alg_model.specs.Actions.{held}
 use Rattle.net_graph.specs.Nets.{PureNet, origin_value}
@@ -10,6 +11,12 @@ use Rattle.net_graph.specs.Tables.{PureRow}
 -- what was found for the node, if anything was
 abbrev pub found_at : {X : Type 0} → List (Option X) → ℕ → Option X
 found_at {X} found k = option_and_then (λ (o : Option X). o) (slice_get found k)
+
+-- the same of what is made of each
+pub found-map : {X Y : Type 0} (f : X → Y) (xs : List (Option X)) (k : ℕ) → found_at (map (option_map f) xs) k ≡ option_map f (found_at xs k)
+found-map f [] k = refl
+found-map f (x ∷ xs) zero = refl
+found-map f (x ∷ xs) (suc k) = found-map f xs k
 
 -- what was found for a node has the property
 abbrev pub AllFound : {X : Type 0} → (X → Type 0) → List (Option X) → Type 0

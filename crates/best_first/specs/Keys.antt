@@ -1,5 +1,5 @@
 -- What orders open routes without their paths.
-use Rattle.std.specs.Prelude.{◌≡◌, ◌⊎◌, ℕ, ◌+◌, List, [], ◌∷◌, Bool, true, Option, Some, None, map, option_map, length}
+use Rattle.std.specs.Prelude.{◌≡◌, ◌⊎◌, ℕ, ◌+◌, List, [], ◌∷◌, Bool, true, false, Option, Some, None, map, option_map, length}
 use Rattle.std.specs.Ordering.{ordering_then, nat_cmp}
 use Rattle.std.specs.declared.cmp.Ordering.{Ordering}
 use Rattle.alg_model.specs.Expressions.{PureCarrier, PureValue}
@@ -8,6 +8,7 @@ use Rattle.net_graph.specs.Routes.{PureRoute, is_less}
 use Rattle.net_graph.specs.Tables.{Told}
 use Rattle.best_first.specs.declared.route.OpenRoute.{OpenRoute}
 use Rattle.best_first.specs.declared.route.Place.{Place}
+use Rattle.best_first.specs.Found.{found_at}
 
 -- an open route: its value, how many nodes its path has, its node, and the node behind it
 pub record RouteKey : Type 0 where
@@ -33,6 +34,16 @@ abbrev pub beats : PureCarrier → RouteKey → Option RouteKey → Bool
 beats c key None = true
 beats c key (Some best) = is_first c key best
 
+-- one key comes first, or there is it alone
+abbrev pub is_ahead : PureCarrier → Option RouteKey → Option RouteKey → Bool
+is_ahead c (Some k) (Some l) = is_first c k l
+is_ahead c (Some k) None = true
+is_ahead c None o = false
+
+-- the key of one node comes before that of another, where none is last
+abbrev pub precedes : PureCarrier → List (Option RouteKey) → ℕ → ℕ → Bool
+precedes c best k m = is_ahead c (found_at best k) (found_at best m)
+
 -- the key of a route with this value
 abbrev pub key_at : Place → PureValue → RouteKey
 key_at place v = record { value = v; size = place.size; node = place.node.0; next = place.next.0 }
@@ -41,10 +52,7 @@ key_at place v = record { value = v; size = place.size; node = place.node.0; nex
 abbrev pub key_of : {S : Type 0} → (S → PureValue) → OpenRoute S → RouteKey
 key_of value o = key_at o.place (value o.sig)
 
--- the same of all routes of a list, and of the route or none of each node
-abbrev pub keys_of : {S : Type 0} → (S → PureValue) → List (OpenRoute S) → List RouteKey
-keys_of value routes = map (key_of value) routes
-
+-- the same of the route or none of each node
 abbrev pub best_of : {S : Type 0} → (S → PureValue) → List (Option (OpenRoute S)) → List (Option RouteKey)
 best_of value best = map (option_map (key_of value)) best
 

@@ -1,85 +1,94 @@
-ghost use Rattle.std.specs.Prelude.{◌≡◌, ◌<◌, [], ℕ, Some, None, true, length, vec_len, replicate, IfOk, OnOk, IfSome, MatchOption, option_map};
+ghost use Rattle.std.specs.Prelude.{◌≡◌, ◌<◌, ℕ, Bool, Some, None, true, false, length, vec_len, replicate, IfOk, IfSome, IfNone, option_map};
+ghost use Rattle.std.proofs.Math.ListN.{set};
+ghost use Rattle.frontier.specs.Tournaments.{IsJudged, IsFirstSlot};
 ghost use Rattle.alg_model.specs.Carriers.{carrier_of};
 ghost use Rattle.best_first.specs.Found.{found_at, AllFound};
-ghost use Rattle.best_first.specs.Keys.{key_of, key_at, keys_of, best_of, beats as beats_of};
-ghost use Rattle.best_first.specs.Fixed.{told_by};
-ghost use Rattle.best_first.specs.Queue.{IsOffered, is_wanted, IsOpen, IsNext};
+ghost use Rattle.best_first.specs.Keys.{key_of, key_at, best_of, precedes, beats as beats_of};
+ghost use Rattle.best_first.specs.Queue.{IsOffered, IsOfferedOf, IsRanked, is_wanted};
 
-use crate::fixed::Fixed;
 use crate::route::{ByRoute, OpenRoute, Place, comes_first};
 use alg_model::Algebra;
-use frontier::{Frontier, Steps};
-use meta_base::{NoMemory, NodeId};
+use frontier::{Steps, Tournament};
+use meta_base::NoMemory;
 use std::alloc::Global;
 use std::sync::ledger::{Blank, Ledger};
 
-// What is open: for each node the best route that it was offered, and keys of routes, among which are those
-// of the best ones. The key of a route that was bettered stays, and comes behind that of the better one.
+// What is open: for each node the best route that it was offered, and which node's is the best of all.
 #[derive(Drop)]
-pub(crate) struct Open<'a, A: Algebra, L: Ledger> {
+pub(crate) struct Open<A: Algebra, L: Ledger> {
     pub best: Vec<Option<OpenRoute<A::Sig>>>,
-    pub frontier: Frontier<OpenRoute<A::Sig>, ByRoute<'a, A>>,
+    pub standing: Tournament,
     // The value that was made last, or one in whose memory the next is made.
     pub spare: Option<A::Sig>,
-    // Values that are no longer wanted, in whose memory others are made.
-    pub spares: Vec<A::Sig>,
     pub steps: Steps<L>,
 }
 
-impl<'a, A: Algebra, L: Ledger> Open<'a, A, L> {
+impl<A: Algebra, L: Ledger> Open<A, L> {
     // So many nodes, nothing of which is open.
-    pub fn new(alloc: Global, algebra: &'a A, count: usize, blank: Blank) -> Result<Self, NoMemory>
+    pub fn new(alloc: Global, count: usize, blank: Blank) -> Result<Self, NoMemory>
         requires name { blank.name ≡ L.name }
         requires parts { blank.parts ≡ L.parts }
         requires some { 0 < L.parts }
-        ensures algebra { IfOk result (λ made. made.frontier.order.algebra.now ≡ algebra.now) }
         ensures best { IfOk result (λ made. made.best.items ≡ replicate count None) }
-        ensures keys { IfOk result (λ made. made.frontier.keys ≡ []) }
+        ensures count { IfOk result (λ made. made.standing.count ≡ count) }
+        ensures judged { (before : ℕ → ℕ → Bool) → ((k m : ℕ) → k < count → m < count → before k m ≡ false) →
+            IfOk result (λ made. IsJudged before made.standing) }
     {
         let mut best = Vec::with_capacity(alloc, count)?;
         for _made in 0..count {
             best.push(None)?;
         }
-        let frontier = Frontier::with_room(alloc, ByRoute { algebra }, count)?;
         Ok(Open {
             best,
-            frontier,
+            standing: Tournament::new(alloc, count)?,
             spare: None,
-            spares: Vec::with_capacity(alloc, count)?,
             steps: Steps::new(blank),
         })
     }
 
-    // Keeps the route where it is better than the node's best.
-    pub fn offer(
-        &mut self,
-        alloc: Global,
-        algebra: &A,
-        route: OpenRoute<A::Sig>,
-    ) -> Result<(), NoMemory>
-        requires algebra { self.old.frontier.order.algebra.now ≡ algebra.now }
+    // Offers the route, which is kept where it is better than its node's best.
+    pub fn offer(&mut self, algebra: &A, route: OpenRoute<A::Sig>)
         requires node { route.place.node.0 < vec_len self.old.best }
         requires sig { A.is_sig algebra.now route.sig }
         requires sigs { AllFound (λ o. A.is_sig algebra.now o.sig) self.old.best.items }
-        ensures algebra { self.new.frontier.order ≡ self.old.frontier.order }
+        requires ranked { IsRanked (carrier_of (A.expression algebra.now))
+            (best_of (A.sig_value algebra.now) self.old.best.items) self.old.standing }
         ensures count { vec_len self.new.best ≡ vec_len self.old.best }
         ensures sigs { AllFound (λ o. A.is_sig algebra.now o.sig) self.new.best.items }
+        ensures ranked { IsRanked (carrier_of (A.expression algebra.now))
+            (best_of (A.sig_value algebra.now) self.new.best.items) self.new.standing }
         ensures offered { let value = A.sig_value algebra.now in
-            OnOk result (IsOffered (carrier_of (A.expression algebra.now)) (key_of value route)
-            (best_of value self.old.best.items) (keys_of value self.old.frontier.keys)
-            (best_of value self.new.best.items) (keys_of value self.new.frontier.keys)) }
+            IsOffered (carrier_of (A.expression algebra.now)) (key_of value route)
+            (best_of value self.old.best.items) (best_of value self.new.best.items) }
     {
         let OpenRoute { sig, place } = route;
-        let key = algebra.copy(alloc, &sig)?;
         self.spare = Some(sig);
+        self.offer_spare(algebra, place);
+    }
+
+    // Offers the route there with the spare value, if there is one. It is kept where it is better than the node's
+    // best, whose value is the spare one then.
+    pub fn offer_spare(&mut self, algebra: &A, place: Place)
+        requires node { place.node.0 < vec_len self.old.best }
+        requires sig { IfSome self.old.spare (A.is_sig algebra.now) }
+        requires sigs { AllFound (λ o. A.is_sig algebra.now o.sig) self.old.best.items }
+        requires ranked { IsRanked (carrier_of (A.expression algebra.now))
+            (best_of (A.sig_value algebra.now) self.old.best.items) self.old.standing }
+        ensures count { vec_len self.new.best ≡ vec_len self.old.best }
+        ensures sigs { AllFound (λ o. A.is_sig algebra.now o.sig) self.new.best.items }
+        ensures ranked { IsRanked (carrier_of (A.expression algebra.now))
+            (best_of (A.sig_value algebra.now) self.new.best.items) self.new.standing }
+        ensures offered { let value = A.sig_value algebra.now in
+            IsOfferedOf (carrier_of (A.expression algebra.now)) place (option_map value self.old.spare)
+            (best_of value self.old.best.items) (best_of value self.new.best.items) }
+    {
         if self.wants_spare(algebra, place) {
-            self.keep_spare(algebra, OpenRoute { sig: key, place })?;
+            self.keep_spare(algebra, place);
         }
-        Ok(())
     }
 
     // Whether there is a spare value, and a route there with it is better than the node's best.
-    pub fn wants_spare(&self, algebra: &A, place: Place) -> bool
+    fn wants_spare(&self, algebra: &A, place: Place) -> bool
         requires node { place.node.0 < vec_len self.now.best }
         requires sig { IfSome self.now.spare (A.is_sig algebra.now) }
         requires sigs { AllFound (λ o. A.is_sig algebra.now o.sig) self.now.best.items }
@@ -93,61 +102,68 @@ impl<'a, A: Algebra, L: Ledger> Open<'a, A, L> {
         }
     }
 
-    // Keeps a route with the spare value as the node's best, and this key of it.
-    pub fn keep_spare(&mut self, algebra: &A, key: OpenRoute<A::Sig>) -> Result<(), NoMemory>
-        requires algebra { self.old.frontier.order.algebra.now ≡ algebra.now }
-        requires node { key.place.node.0 < vec_len self.old.best }
+    // Keeps a route with the spare value as the node's best.
+    fn keep_spare(&mut self, algebra: &A, place: Place)
+        requires node { place.node.0 < vec_len self.old.best }
         requires sig { IfSome self.old.spare (A.is_sig algebra.now) }
-        requires key { A.is_sig algebra.now key.sig }
-        requires same { let value = A.sig_value algebra.now in
-            option_map value self.old.spare ≡ Some (value key.sig) }
         requires sigs { AllFound (λ o. A.is_sig algebra.now o.sig) self.old.best.items }
+        requires ranked { IsRanked (carrier_of (A.expression algebra.now))
+            (best_of (A.sig_value algebra.now) self.old.best.items) self.old.standing }
         requires wanted { let value = A.sig_value algebra.now in
-            is_wanted (carrier_of (A.expression algebra.now)) key.place (Some (value key.sig))
+            is_wanted (carrier_of (A.expression algebra.now)) place (option_map value self.old.spare)
             (best_of value self.old.best.items) ≡ true }
-        ensures algebra { self.new.frontier.order ≡ self.old.frontier.order }
         ensures count { vec_len self.new.best ≡ vec_len self.old.best }
         ensures sigs { AllFound (λ o. A.is_sig algebra.now o.sig) self.new.best.items }
-        ensures offered { let value = A.sig_value algebra.now in
-            OnOk result (IsOffered (carrier_of (A.expression algebra.now)) (key_of value key)
-            (best_of value self.old.best.items) (keys_of value self.old.frontier.keys)
-            (best_of value self.new.best.items) (keys_of value self.new.frontier.keys)) }
+        ensures ranked { IsRanked (carrier_of (A.expression algebra.now))
+            (best_of (A.sig_value algebra.now) self.new.best.items) self.new.standing }
+        ensures best { let value = A.sig_value algebra.now in
+            best_of value self.new.best.items ≡
+            set (best_of value self.old.best.items) place.node.0
+            (option_map (key_at place) (option_map value self.old.spare)) }
     {
-        let place = key.place;
+        let node = place.node.0 as usize;
         let Some(sig) = self.spare.take() else {
             unreachable!();
         };
-        self.frontier.push(key, &mut self.steps)?;
-        let old = self.best[place.node.0 as usize].replace(OpenRoute { sig, place });
-        self.spare = sig_in(old, &mut self.spares);
-        Ok(())
+        let old = self.best[node].replace(OpenRoute { sig, place });
+        self.spare = sig_of(old);
+        let order = ByRoute {
+            algebra,
+            best: &self.best,
+        };
+        self.standing.raise(&order, node, &mut self.steps);
     }
 
-    // The node whose best route is the best of all, if a route is open. A key that comes first among those of
-    // nodes that aren't fixed is its node's best.
-    pub fn pop_node(&mut self, fixed: &Fixed<A::Sig>) -> Option<NodeId>
-        requires rows { vec_len fixed.now.rows ≡ vec_len self.old.best }
-        requires queue { let algebra = self.old.frontier.order.algebra.now in
-            IsOpen (A.sig_value algebra) (A.is_sig algebra) (carrier_of (A.expression algebra))
-            (told_by (A.sig_value algebra) fixed.now.paths fixed.now.rows.items)
-            self.old.best.items self.old.frontier.keys }
-        ensures algebra { self.new.frontier.order ≡ self.old.frontier.order }
-        ensures best { self.new.best.items ≡ self.old.best.items }
-        ensures node { let algebra = self.old.frontier.order.algebra.now in
-            MatchOption result ((k : ℕ) → found_at self.old.best.items k ≡ None)
-            (λ node. IsNext (carrier_of (A.expression algebra))
-            (told_by (A.sig_value algebra) fixed.now.paths fixed.now.rows.items)
-            (best_of (A.sig_value algebra) self.old.best.items)
-            (keys_of (A.sig_value algebra) self.new.frontier.keys) node.0) }
+    // Takes out the best route of all, if a route is open.
+    pub fn take_best(&mut self, algebra: &A) -> Option<OpenRoute<A::Sig>>
+        requires places { (k : ℕ) → IfSome (found_at self.old.best.items k) (λ o. o.place.node.0 ≡ k) }
+        requires sigs { AllFound (λ o. A.is_sig algebra.now o.sig) self.old.best.items }
+        requires ranked { IsRanked (carrier_of (A.expression algebra.now))
+            (best_of (A.sig_value algebra.now) self.old.best.items) self.old.standing }
+        ensures count { vec_len self.new.best ≡ vec_len self.old.best }
+        ensures none { IfNone result ((k : ℕ) → found_at self.old.best.items k ≡ None) }
+        ensures route { IfSome result (λ route. found_at self.old.best.items route.place.node.0 ≡ Some route) }
+        ensures first { IfSome result (λ route. IsFirstSlot (precedes (carrier_of (A.expression algebra.now))
+            (best_of (A.sig_value algebra.now) self.old.best.items)) (length self.old.best.items) route.place.node.0) }
+        ensures taken { IfSome result (λ route.
+            self.new.best.items ≡ set self.old.best.items route.place.node.0 None) }
+        ensures sigs { AllFound (λ o. A.is_sig algebra.now o.sig) self.new.best.items }
+        ensures ranked { IsRanked (carrier_of (A.expression algebra.now))
+            (best_of (A.sig_value algebra.now) self.new.best.items) self.new.standing }
     {
-        while let Some(key) = self.frontier.pop_least(&mut self.steps) {
-            let OpenRoute { sig, place } = key;
-            set_aside(sig, &mut self.spares);
-            if fixed.rows[place.node.0 as usize].is_none() {
-                return Some(place.node);
-            }
+        if self.best.is_empty() {
+            return None;
         }
-        None
+        let first = self.standing.first();
+        let Some(route) = self.best[first].take() else {
+            return None;
+        };
+        let order = ByRoute {
+            algebra,
+            best: &self.best,
+        };
+        self.standing.replay(&order, first, &mut self.steps);
+        Some(route)
     }
 }
 
@@ -170,15 +186,12 @@ fn beats<A: Algebra>(
     }
 }
 
-// The value of a route that is no longer wanted, or a spare one.
-fn sig_in<S: Drop>(route: Option<OpenRoute<S>>, spares: &mut Vec<S>) -> Option<S> {
+// The value of a route that is no longer wanted, if there was one.
+fn sig_of<S>(route: Option<OpenRoute<S>>) -> Option<S>
+    ensures { result ≡ option_map (λ o. o.sig) route }
+{
     match route {
         Some(route) => Some(route.sig),
-        None => spares.pop(),
+        None => None,
     }
-}
-
-// Adds the value to the spare ones. One that there is no memory for is dropped.
-fn set_aside<S: Drop>(sig: S, spares: &mut Vec<S>) {
-    let _ = spares.push(sig);
 }

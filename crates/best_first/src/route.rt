@@ -1,8 +1,9 @@
-ghost use Rattle.std.specs.Prelude.{◌≡◌};
+ghost use Rattle.std.specs.Prelude.{◌≡◌, ◌<◌, vec_len};
 ghost use Rattle.std.specs.Ordering.{ordering_then};
 ghost use Rattle.alg_model.specs.Carriers.{carrier_of};
 ghost use Rattle.net_graph.specs.Routes.{is_less};
-ghost use Rattle.best_first.specs.Keys.{key_of, compare_places, is_first};
+ghost use Rattle.best_first.specs.Found.{AllFound};
+ghost use Rattle.best_first.specs.Keys.{best_of, compare_places, precedes};
 
 use alg_model::Algebra;
 use frontier::{Order, Steps};
@@ -48,37 +49,35 @@ pub(crate) fn comes_first(values: Ordering, first: Place, second: Place) -> bool
     }
 }
 
-// The order of open routes in a frontier: the better one first.
+// The order of nodes by their best open routes: the better one first, and a node without one last.
 #[derive(Drop)]
-pub(crate) struct ByRoute<'a, A> {
+pub(crate) struct ByRoute<'a, A: Algebra> {
     pub algebra: &'a A,
+    pub best: &'a Vec<Option<OpenRoute<A::Sig>>>,
 }
 
-impl<'a, A: Algebra> Order<OpenRoute<A::Sig>> for ByRoute<'a, A> {
-    ghost use Rattle.best_first.specs.KeyOrder.{asymmetric as asymmetric_keys, transitive as transitive_keys};
+impl<'a, A: Algebra> Order<usize> for ByRoute<'a, A> {
+    ghost use Rattle.best_first.specs.KeyOrder.{slots_asymmetric, slots_transitive};
 
-    ghost is_before = { λ s k l. is_first (carrier_of (A.expression s.algebra.now))
-        (key_of (A.sig_value s.algebra.now) k) (key_of (A.sig_value s.algebra.now) l) };
+    ghost is_before = { λ s k m. precedes (carrier_of (A.expression s.algebra.now))
+        (best_of (A.sig_value s.algebra.now) s.best.now.items) k m };
 
-    ghost is_key = { λ s k. A.is_sig s.algebra.now k.sig };
+    ghost is_key = { λ s k. (k < vec_len s.best.now) × AllFound (λ o. A.is_sig s.algebra.now o.sig) s.best.now.items };
 
-    ghost asymmetric = { λ s a b i j. asymmetric_keys (carrier_of (A.expression s.algebra.now))
-        (key_of (A.sig_value s.algebra.now) a) (key_of (A.sig_value s.algebra.now) b)
-        (A.sig_in s.algebra.now a.sig i) (A.sig_in s.algebra.now b.sig j) };
+    ghost asymmetric = { λ s k m i j. slots_asymmetric (A.sig_value s.algebra.now) (A.is_sig s.algebra.now)
+        (carrier_of (A.expression s.algebra.now)) (A.sig_in s.algebra.now) s.best.now.items i.1 k m };
 
-    ghost transitive = { λ s a b c i j k. transitive_keys (carrier_of (A.expression s.algebra.now))
-        (key_of (A.sig_value s.algebra.now) a) (key_of (A.sig_value s.algebra.now) b)
-        (key_of (A.sig_value s.algebra.now) c) (A.sig_in s.algebra.now a.sig i)
-        (A.sig_in s.algebra.now b.sig j) (A.sig_in s.algebra.now c.sig k) };
+    ghost transitive = { λ s k m n i j l. slots_transitive (A.sig_value s.algebra.now) (A.is_sig s.algebra.now)
+        (carrier_of (A.expression s.algebra.now)) (A.sig_in s.algebra.now) s.best.now.items i.1 k m n };
 
-    fn before<L: Ledger>(
-        &self,
-        a: &OpenRoute<A::Sig>,
-        b: &OpenRoute<A::Sig>,
-        steps: &mut Steps<L>,
-    ) -> bool {
+    fn before<L: Ledger>(&self, a: &usize, b: &usize, steps: &mut Steps<L>) -> bool {
         steps.tick();
-        let values = self.algebra.order(&a.sig, &b.sig);
-        comes_first(values, a.place, b.place)
+        match (&self.best[*a], &self.best[*b]) {
+            (Some(first), Some(second)) => {
+                let values = self.algebra.order(&first.sig, &second.sig);
+                comes_first(values, first.place, second.place)
+            }
+            (first, second) => first.is_some() && second.is_none(),
+        }
     }
 }

@@ -1,4 +1,5 @@
-ghost use Rattle.std.specs.Prelude.{◌≡◌, ◌<◌, ◌≤◌, ◌+◌, ℕ, None, true, length, vec_len, IfOk, OnOk, IfNone, IfSome, OnSome, IsSomeAnd, MatchOption, option_map};
+ghost use Rattle.std.specs.Prelude.{◌≡◌, ◌<◌, ◌≤◌, ◌+◌, ℕ, Bool, None, true, false, length, vec_len, IfOk, OnOk, IfNone, IfSome, OnSome, IsSomeAnd, MatchOption, option_map};
+ghost use Rattle.frontier.specs.Tournaments.{IsJudged};
 ghost use Rattle.alg_model.specs.declared.alg.TheConstants.{MAX_VALUE_NUMBER};
 ghost use Rattle.alg_model.specs.Expressions.{PureLabel};
 ghost use Rattle.alg_model.specs.Carriers.{carrier_of};
@@ -7,10 +8,10 @@ ghost use Rattle.alg_model.specs.Bounds.{AtMost};
 ghost use Rattle.net_graph.specs.Nets.{CanBeNumbered, IsNet};
 ghost use Rattle.net_graph.specs.Tables.{carrier};
 ghost use Rattle.best_first.specs.Found.{found_at, AllFound, own_offer, made_in};
-ghost use Rattle.best_first.specs.Keys.{best_of, keys_of, routes_of};
+ghost use Rattle.best_first.specs.Keys.{best_of, routes_of};
 ghost use Rattle.best_first.specs.Fixed.{told_by, open_routes, AreFixedBy, FixesNone, FixesNext};
 ghost use Rattle.best_first.specs.Labels.{AreLabelsOf};
-ghost use Rattle.best_first.specs.Queue.{IsOpen, IsOfferedOf, no_route};
+ghost use Rattle.best_first.specs.Queue.{IsOpen, IsOfferedOf, IsRanked, no_route};
 ghost use Rattle.best_first.specs.State.{relaxed, CanSpeak, spoken};
 
 use crate::ArcLabels;
@@ -24,24 +25,25 @@ use std::alloc::Global;
 use std::sync::ledger::Ledger;
 
 // Offers to each node what its own origin gives.
-pub(crate) fn offer_own<'a, A: Algebra, L: Ledger>(
+pub(crate) fn offer_own<A: Algebra, L: Ledger>(
     alloc: Global,
     algebra: &A,
     net: &Net,
     dest: DestId,
-    search: &mut Open<'a, A, L>,
+    search: &mut Open<A, L>,
 ) -> Result<(), NoMemory>
     requires algebra { A.expression algebra.now ≡ net.now.alg.expression }
-    requires order { search.old.frontier.order.algebra.now ≡ algebra.now }
     requires net { IsNet net.now }
     requires dest { dest.0 < length net.now.dests }
     requires count { vec_len search.old.best ≡ length net.now.nodes }
     requires best { (k : ℕ) → found_at search.old.best.items k ≡ None }
-    requires keys { length search.old.frontier.keys ≡ 0 }
-    ensures order { search.new.frontier.order ≡ search.old.frontier.order }
+    requires standing { search.old.standing.count ≡ length net.now.nodes }
+    requires judged { (before : ℕ → ℕ → Bool) →
+        ((k m : ℕ) → k < length net.now.nodes → m < length net.now.nodes → before k m ≡ false) →
+        IsJudged before search.old.standing }
     ensures count { vec_len search.new.best ≡ length net.now.nodes }
     ensures queue { OnOk result (IsOpen (A.sig_value algebra.now) (A.is_sig algebra.now) (carrier net.now)
-        no_route search.new.best.items search.new.frontier.keys) }
+        no_route search.new.best.items search.new.standing) }
     ensures offers { (k : ℕ) → OnOk result (found_at (routes_of no_route
         (best_of (A.sig_value algebra.now) search.new.best.items)) k ≡ own_offer net.now dest.0 k) }
 {
@@ -55,63 +57,57 @@ pub(crate) fn offer_own<'a, A: Algebra, L: Ledger>(
                 next: node,
             },
         };
-        search.offer(alloc, algebra, route)?;
+        search.offer(algebra, route);
     }
     Ok(())
 }
 
 // Fixes the node whose best route is the best of all, if a route is open, and says which.
-pub(crate) fn fix_next<'a, A: Algebra, L: Ledger>(
+pub(crate) fn fix_next<A: Algebra, L: Ledger>(
+    algebra: &A,
     fixed: &mut Fixed<A::Sig>,
-    search: &mut Open<'a, A, L>,
+    search: &mut Open<A, L>,
 ) -> Result<Option<NodeId>, NoMemory>
     requires count { vec_len fixed.old.rows ≡ vec_len search.old.best }
     requires few { CanBeNumbered (vec_len fixed.old.rows) }
-    requires fixed { let algebra = search.old.frontier.order.algebra.now in
-        AreFixedBy (A.is_sig algebra) fixed.old.rows.items fixed.old.paths }
-    requires queue { let algebra = search.old.frontier.order.algebra.now in
-        IsOpen (A.sig_value algebra) (A.is_sig algebra) (carrier_of (A.expression algebra))
-        (told_by (A.sig_value algebra) fixed.old.paths fixed.old.rows.items)
-        search.old.best.items search.old.frontier.keys }
-    ensures order { search.new.frontier.order ≡ search.old.frontier.order }
+    requires fixed { AreFixedBy (A.is_sig algebra.now) fixed.old.rows.items fixed.old.paths }
+    requires queue { let value = A.sig_value algebra.now in
+        IsOpen value (A.is_sig algebra.now) (carrier_of (A.expression algebra.now))
+        (told_by value fixed.old.paths fixed.old.rows.items) search.old.best.items search.old.standing }
     ensures rows { OnOk result (vec_len fixed.new.rows ≡ vec_len fixed.old.rows) }
     ensures best { vec_len search.new.best ≡ vec_len search.old.best }
     ensures none { IfOk result (λ node. IfNone node (FixesNone fixed.old.rows.items fixed.old.paths
         search.old.best.items fixed.new.rows.items fixed.new.paths)) }
-    ensures next { let algebra = search.old.frontier.order.algebra.now in
-        IfOk result (λ node. IfSome node (λ node. FixesNext (A.sig_value algebra) (carrier_of (A.expression algebra))
+    ensures next { IfOk result (λ node. IfSome node (λ node.
+        FixesNext (A.sig_value algebra.now) (carrier_of (A.expression algebra.now))
         fixed.old.rows.items fixed.old.paths search.old.best.items
         fixed.new.rows.items fixed.new.paths search.new.best.items node.0)) }
-    ensures fixed { let algebra = search.old.frontier.order.algebra.now in
-        IfOk result (λ node. OnSome node (AreFixedBy (A.is_sig algebra) fixed.new.rows.items fixed.new.paths)) }
-    ensures queue { let algebra = search.old.frontier.order.algebra.now in
-        IfOk result (λ node. OnSome node (IsOpen (A.sig_value algebra) (A.is_sig algebra)
-        (carrier_of (A.expression algebra)) (told_by (A.sig_value algebra) fixed.new.paths fixed.new.rows.items)
-        search.new.best.items search.new.frontier.keys)) }
+    ensures fixed { IfOk result (λ node.
+        OnSome node (AreFixedBy (A.is_sig algebra.now) fixed.new.rows.items fixed.new.paths)) }
+    ensures queue { let value = A.sig_value algebra.now in
+        IfOk result (λ node. OnSome node (IsOpen value (A.is_sig algebra.now) (carrier_of (A.expression algebra.now))
+        (told_by value fixed.new.paths fixed.new.rows.items) search.new.best.items search.new.standing)) }
 {
-    let Some(node) = search.pop_node(fixed) else {
+    let Some(route) = search.take_best(algebra) else {
         return Ok(None);
     };
-    let Some(route) = search.best[node.0 as usize].take() else {
-        unreachable!();
-    };
+    let node = route.place.node;
     fixed.fix(route)?;
     Ok(Some(node))
 }
 
 // Offers the route of the node, which is fixed, to its listeners that are not. The clauses speak of the network,
 // and the labels are all that is read of it.
-pub(crate) fn relax<'a, A: Algebra, L: Ledger>(
+pub(crate) fn relax<A: Algebra, L: Ledger>(
     alloc: Global,
     algebra: &A,
     _net: &Net,
     labels: &ArcLabels<A::Lab>,
     fixed: &Fixed<A::Sig>,
-    search: &mut Open<'a, A, L>,
+    search: &mut Open<A, L>,
     node: NodeId,
 ) -> Result<(), NoMemory>
     requires algebra { A.expression algebra.now ≡ _net.now.alg.expression }
-    requires order { search.old.frontier.order.algebra.now ≡ algebra.now }
     requires net { IsNet _net.now }
     requires labels { AreLabelsOf (A.stands_for algebra.now) _net.now labels.now }
     requires node { node.0 < length _net.now.nodes }
@@ -122,12 +118,11 @@ pub(crate) fn relax<'a, A: Algebra, L: Ledger>(
         (CanSpeak _net.now node.0) }
     requires queue { IsOpen (A.sig_value algebra.now) (A.is_sig algebra.now) (carrier _net.now)
         (told_by (A.sig_value algebra.now) fixed.now.paths fixed.now.rows.items)
-        search.old.best.items search.old.frontier.keys }
-    ensures order { search.new.frontier.order ≡ search.old.frontier.order }
+        search.old.best.items search.old.standing }
     ensures count { vec_len search.new.best ≡ length _net.now.nodes }
     ensures queue { OnOk result (IsOpen (A.sig_value algebra.now) (A.is_sig algebra.now) (carrier _net.now)
         (told_by (A.sig_value algebra.now) fixed.now.paths fixed.now.rows.items)
-        search.new.best.items search.new.frontier.keys) }
+        search.new.best.items search.new.standing) }
     ensures routes { (k : ℕ) → let value = A.sig_value algebra.now in
         let rows = fixed.now.rows.items in let paths = fixed.now.paths in
         let told = told_by value paths rows in
@@ -150,68 +145,36 @@ pub(crate) fn relax<'a, A: Algebra, L: Ledger>(
     Ok(())
 }
 
-// Offers at the place what the label makes of the value, if it is a value. One that is kept is made once more for
-// its key, since that takes no memory where there are spare values.
-fn offer_image<'a, A: Algebra, L: Ledger>(
+// Offers at the place what the label makes of the value, if it is a value.
+fn offer_image<A: Algebra, L: Ledger>(
     alloc: Global,
     algebra: &A,
     lab: &A::Lab,
     sig: &A::Sig,
     place: Place,
-    search: &mut Open<'a, A, L>,
+    search: &mut Open<A, L>,
 ) -> Result<(), NoMemory>
     requires lab { (l : PureLabel) × A.stands_for algebra.now lab.now l }
     requires sig { A.is_sig algebra.now sig.now }
     requires small { AtMost MAX_VALUE_NUMBER (A.sig_value algebra.now sig.now) }
-    requires order { search.old.frontier.order.algebra.now ≡ algebra.now }
     requires node { place.node.0 < vec_len search.old.best }
     requires sigs { AllFound (λ o. A.is_sig algebra.now o.sig) search.old.best.items }
-    ensures order { search.new.frontier.order ≡ search.old.frontier.order }
+    requires ranked { IsRanked (carrier_of (A.expression algebra.now))
+        (best_of (A.sig_value algebra.now) search.old.best.items) search.old.standing }
     ensures count { vec_len search.new.best ≡ vec_len search.old.best }
     ensures sigs { AllFound (λ o. A.is_sig algebra.now o.sig) search.new.best.items }
+    ensures ranked { IsRanked (carrier_of (A.expression algebra.now))
+        (best_of (A.sig_value algebra.now) search.new.best.items) search.new.standing }
     ensures offered { (l : PureLabel) → A.stands_for algebra.now lab.now l →
         let value = A.sig_value algebra.now in
         OnOk result (IsOfferedOf (carrier_of (A.expression algebra.now)) place
         (App (A.expression algebra.now) l (value sig.now))
-        (best_of value search.old.best.items) (keys_of value search.old.frontier.keys)
-        (best_of value search.new.best.items) (keys_of value search.new.frontier.keys)) }
+        (best_of value search.old.best.items) (best_of value search.new.best.items)) }
 {
-    if !image_into(alloc, algebra, lab, sig, &mut search.spare)?
-        || !search.wants_spare(algebra, place)
-    {
-        return Ok(());
+    if image_into(alloc, algebra, lab, sig, &mut search.spare)? {
+        search.offer_spare(algebra, place);
     }
-    match image(alloc, algebra, lab, sig, search.spares.pop())? {
-        Some(sig) => search.keep_spare(algebra, OpenRoute { sig, place }),
-        None => Ok(()),
-    }
-}
-
-// What the label makes of the value, in the memory of the spare value if there is one, or `None` where it
-// prohibits the value.
-fn image<A: Algebra>(
-    alloc: Global,
-    algebra: &A,
-    lab: &A::Lab,
-    sig: &A::Sig,
-    spare: Option<A::Sig>,
-) -> Result<Option<A::Sig>, NoMemory>
-    requires lab { (l : PureLabel) × A.stands_for algebra.now lab.now l }
-    requires sig { A.is_sig algebra.now sig.now }
-    requires small { AtMost MAX_VALUE_NUMBER (A.sig_value algebra.now sig.now) }
-    ensures sig { IfOk result (λ image. IfSome image (A.is_sig algebra.now)) }
-    ensures image { (l : PureLabel) → A.stands_for algebra.now lab.now l → IfOk result (λ image.
-        option_map (A.sig_value algebra.now) image ≡
-        App (A.expression algebra.now) l (A.sig_value algebra.now sig.now)) }
-{
-    let Some(mut out) = spare else {
-        return algebra.apply(alloc, lab, sig);
-    };
-    if algebra.apply_into(alloc, lab, sig, &mut out)? {
-        Ok(Some(out))
-    } else {
-        Ok(None)
-    }
+    Ok(())
 }
 
 // Puts into the place what the label makes of the value: `true` where it stands there, and `false` where the

@@ -127,9 +127,9 @@ fn solve_counted<A: Algebra, L: Ledger>(
 {
     let count = net.node_count();
     let mut fixed = Fixed::new(alloc, count)?;
-    let mut search = Open::<A, L>::new(alloc, algebra, count, blank)?;
+    let mut search = Open::<A, L>::new(alloc, count, blank)?;
     offer_own(alloc, algebra, net, dest, &mut search)?;
-    while let Some(node) = fix_next(&mut fixed, &mut search)? {
+    while let Some(node) = fix_next(algebra, &mut fixed, &mut search)? {
         relax(alloc, algebra, net, labels, &fixed, &mut search, node)?;
     }
     into_table(alloc, algebra, dest, fixed)

@@ -1,9 +1,9 @@
-use Rattle.std.proofs.Common.{◌≡◌, length, option_map, refl, ◌∙◌, ap, arith}
+use Rattle.std.proofs.Common.{◌≡◌, length, option_map, ◌∙◌, ap, arith}
 use Rattle.std.proofs.lemmas.List.{length-map}
 use Rattle.net_graph.specs.Nets.{origins_of}
 use Rattle.net_graph.specs.Tables.{carrier}
 use Rattle.net_graph.specs.Views.{pure_origin}
-use Rattle.best_first.specs.Keys.{key_of, best_of, keys_of}
+use Rattle.best_first.specs.Keys.{key_of, best_of}
 use Rattle.best_first.specs.Queue.{no_route}
 use Rattle.best_first.proofs.Origins.{own_all}
 use Rattle.best_first.proofs.Speaking.{nothing_open, nothing_found, own_queue, own_found}
@@ -13,9 +13,9 @@ pub loop-origin-init : goal.loop-origin-init
 loop-origin-init g c =
     let value = g.A.Algebra.sig_value c.args.algebra.now in
     record {
-      order = refl;
       count = c.requires.count;
-      queue = nothing_open value (g.A.Algebra.is_sig c.args.algebra.now) (carrier c.args.net.now) c.args.search.now.best.items c.args.search.now.frontier.keys c.requires.best c.requires.keys;
+      queue = nothing_open value (g.A.Algebra.is_sig c.args.algebra.now) (carrier c.args.net.now) c.args.search.now.best.items c.args.search.now.standing c.requires.best (omega (arith, c.requires.count, c.requires.standing))
+          (λ before none. c.requires.judged before (λ k m h l. none k m (omega (arith, c.requires.count)) (omega (arith, c.requires.count))));
       found = nothing_found value no_route c.args.search.now.best.items c.requires.best;
     }
 
@@ -24,20 +24,21 @@ loop-origin-preserved g c =
     let value = g.A.Algebra.sig_value c.args.algebra.now in
     let net = c.args.net.now in
     let best = c.loop-origin.search.best.items in
-    let keys = c.loop-origin.search.frontier.keys in
+    let t = c.loop-origin.search.standing in
+    let new_t = c.offer.new.self.standing in
     let xs = c.origins_of-origin-items.result.now in
     let m = c.loop-origin.origin-index in
     let o = c.origin-item.result in
     let count : length (best_of value best) ≡ length net.nodes = omega (arith, c.loop-origin.invariant.count, length-map best (option_map (key_of value))) in
-    let offered = rw c.requires.algebra at c.in_ok-offer.ensures.offered in
-    let step = own_queue net c.requires.net c.args.dest.0 m xs o (value c.in_ok-sig_of.field-0) (best_of value best) (best_of value c.offer.new.self.best.items) (keys_of value keys) (keys_of value c.offer.new.self.frontier.keys)
-    c.origins_of-origin-items.ensures.origins c.origin-item.is c.loop-origin-test.true c.origins_of-origin-items.ensures.within c.in_ok-sig_of.ensures.value count c.loop-origin.invariant.queue.queue offered in
+    let offered = rw c.requires.algebra at c.offer.ensures.offered in
+    let ranked = rw c.requires.algebra at c.offer.ensures.ranked in
+    let step = own_queue net c.requires.net c.args.dest.0 m xs o (value c.in_ok-sig_of.field-0) (best_of value best) (best_of value c.offer.new.self.best.items) t new_t
+    c.origins_of-origin-items.ensures.origins c.origin-item.is c.loop-origin-test.true c.origins_of-origin-items.ensures.within c.in_ok-sig_of.ensures.value count c.loop-origin.invariant.queue.queue offered ranked in
     record {
-      order = c.in_ok-offer.ensures.algebra ∙ c.loop-origin.invariant.order;
-      count = c.in_ok-offer.ensures.count ∙ c.loop-origin.invariant.count;
-      queue = record { sigs = c.in_ok-offer.ensures.sigs; queue = step };
-      found = λ k. own_found net c.requires.net c.args.dest.0 m xs o (value c.in_ok-sig_of.field-0) (best_of value best) (best_of value c.offer.new.self.best.items) (keys_of value keys) (keys_of value c.offer.new.self.frontier.keys)
-          c.origins_of-origin-items.ensures.origins c.origin-item.is c.loop-origin-test.true c.origins_of-origin-items.ensures.within c.in_ok-sig_of.ensures.value count c.loop-origin.invariant.queue.queue offered k (c.loop-origin.invariant.found k);
+      count = c.offer.ensures.count ∙ c.loop-origin.invariant.count;
+      queue = record { sigs = c.offer.ensures.sigs; queue = step };
+      found = λ k. own_found net c.requires.net c.args.dest.0 m xs o (value c.in_ok-sig_of.field-0) (best_of value best) (best_of value c.offer.new.self.best.items) t new_t
+          c.origins_of-origin-items.ensures.origins c.origin-item.is c.loop-origin-test.true c.origins_of-origin-items.ensures.within c.in_ok-sig_of.ensures.value count c.loop-origin.invariant.queue.queue offered ranked k (c.loop-origin.invariant.found k);
     }
 
 pub returns-clause-offers : goal.returns-clause-offers

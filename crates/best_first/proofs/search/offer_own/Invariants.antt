@@ -11,8 +11,7 @@ abbrev pub invariant-loop-origin : goal.invariant-loop-origin
 invariant-loop-origin g l =
     let value = g.A.Algebra.sig_value l.algebra in
     record {
-      order : l.search.frontier.order ≡ l.fn.search.frontier.order;
       count : vec_len l.search.best ≡ length l.net.nodes;
-      queue : IsOpen value (g.A.Algebra.is_sig l.algebra) (carrier l.net) no_route l.search.best.items l.search.frontier.keys;
+      queue : IsOpen value (g.A.Algebra.is_sig l.algebra) (carrier l.net) no_route l.search.best.items l.search.standing;
       found : (k : ℕ) → found_at (routes_of no_route (best_of value l.search.best.items)) k ≡ own_so_far l.net l.fn.dest.0 l.origin-index k;
     }

@@ -6,11 +6,11 @@ use Rattle.net_graph.specs.Nets.{arcs_to}
 use Rattle.net_graph.specs.Tables.{carrier}
 use Rattle.path_store.specs.PathOf.{path_of}
 use Rattle.best_first.specs.declared.route.Place.{Place}
-use Rattle.best_first.specs.Found.{found_at}
+use Rattle.best_first.specs.Found.{found-map, found_at}
 use Rattle.best_first.specs.State.{CanSpeak, relaxed}
-use Rattle.best_first.specs.Keys.{key_of, best_of, keys_of}
+use Rattle.best_first.specs.Keys.{key_of, best_of}
 use Rattle.best_first.specs.Fixed.{fixed_route, told_by, open_routes}
-use Rattle.best_first.proofs.Places.{found-map, found-read, mapped_none, mapped_some}
+use Rattle.best_first.proofs.Places.{found-read, mapped_none, mapped_some}
 use Rattle.best_first.proofs.Listeners.{heard_by, listener_within, heard_all, step_over}
 use Rattle.best_first.proofs.Speaking.{spoken_queue, spoken_found}
 use Rattle.best_first.proofs.search.relax.Goals as goal
@@ -67,7 +67,7 @@ loop-listener-preserved g c =
     let rows = c.args.fixed.now.rows.items in
     let paths = c.args.fixed.now.paths in
     let best = c.loop-listener.search.best.items in
-    let keys = c.loop-listener.search.frontier.keys in
+    let t = c.loop-listener.search.standing in
     let r = fixed_route value paths c.route-next.result.now in
     let told : told_by value paths rows node ≡ Some r = found-map (fixed_route value paths) rows node ∙ ap (option_map (fixed_route value paths)) c.route-next.ensures in
     let can : CanSpeak net node r = rw told at c.requires.next in
@@ -91,25 +91,24 @@ loop-listener-preserved g c =
           let size : length c.path.result.now + 1 ≡ length r.path + 1 = rw c.path.ensures (let l = length-map (path_of paths c.route-next.result.now.path) (λ (n : NodeId). n.0) in omega arith) in
           let offered = rw c.requires.algebra at (w.in_ok-offer_image.ensures.offered arc.label by.is_listener.label) in
           let new_best = w.offer_image.new.search.best.items in
-          let new_keys = w.offer_image.new.search.frontier.keys in
+          let new_t = w.offer_image.new.search.standing in
+          let ranked = rw c.requires.algebra at w.in_ok-offer_image.ensures.ranked in
           let tail_within : tail < length (best_of value best) = omega (arith, tail_in, c.loop-listener.invariant.count, length-map best (option_map (key_of value))) in
           rw w.search-is record {
-            order = w.in_ok-offer_image.ensures.order ∙ c.loop-listener.invariant.order;
             count = w.in_ok-offer_image.ensures.count ∙ c.loop-listener.invariant.count;
             queue = record {
               sigs = w.in_ok-offer_image.ensures.sigs;
-              queue = spoken_queue net c.requires.net (told_by value paths rows) node m r by.arc place (best_of value best) (best_of value new_best) (keys_of value keys) (keys_of value new_keys)
-                  told can heard tail_within none size by.is_listener.node refl c.loop-listener.invariant.queue.queue offered;
+              queue = spoken_queue net c.requires.net (told_by value paths rows) node m r by.arc place (best_of value best) (best_of value new_best) t new_t
+                  told can heard tail_within none size by.is_listener.node refl c.loop-listener.invariant.queue.queue offered ranked;
             };
             found = λ k.
                 let old = rw told at (c.loop-listener.invariant.found k) in
-                rw told (spoken_found net c.requires.net (told_by value paths rows) node m r by.arc place (best_of value best) (best_of value new_best) (keys_of value keys) (keys_of value new_keys)
-                told can heard tail_within none size by.is_listener.node refl c.loop-listener.invariant.queue.queue offered (found_at (open_routes value paths rows c.args.search.now.best.items) k) k old);
+                rw told (spoken_found net c.requires.net (told_by value paths rows) node m r by.arc place (best_of value best) (best_of value new_best) t new_t
+                told can heard tail_within none size by.is_listener.node refl c.loop-listener.invariant.queue.queue offered ranked (found_at (open_routes value paths rows c.args.search.now.best.items) k) k old);
           }
       | else-is_none w ↦
           let some : is_some (told_by value paths rows tail) ≡ true = ap is_some row ∙ mapped_some (fixed_route value paths) c.index.result.now (rw w.if-is_none.false at c.is_none.ensures) in
           rw w.search-is record {
-            order = c.loop-listener.invariant.order;
             count = c.loop-listener.invariant.count;
             queue = c.loop-listener.invariant.queue;
             found = λ k.

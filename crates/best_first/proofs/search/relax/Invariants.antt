@@ -15,8 +15,7 @@ invariant-loop-listener g l =
     let paths = l.fixed.paths in
     let told = told_by value paths rows in
     record {
-      order : l.search.frontier.order ≡ l.fn.search.frontier.order;
       count : vec_len l.search.best ≡ length l._net.nodes;
-      queue : IsOpen value (g.A.Algebra.is_sig l.algebra) (carrier l._net) told l.search.best.items l.search.frontier.keys;
+      queue : IsOpen value (g.A.Algebra.is_sig l.algebra) (carrier l._net) told l.search.best.items l.search.standing;
       found : (k : ℕ) → found_at (open_routes value paths rows l.search.best.items) k ≡ relaxed (carrier l._net) (told k) (found_at (open_routes value paths rows l.fn.search.best.items) k) (spoken_so_far l._net l.fn.node.0 (told l.fn.node.0) l.listener-index k);
     }

@@ -12,6 +12,9 @@ use Rattle.best_first.proofs.solution.solve_counted.Goals as goal
 pub offer_own-requires-clause-best : goal.offer_own-requires-clause-best
 offer_own-requires-clause-best g c = λ k. rw c.in_ok-search.ensures.best (found-none c.node_count-count.result k)
 
+pub offer_own-requires-clause-judged : goal.offer_own-requires-clause-judged
+offer_own-requires-clause-judged g c = rw c.node_count-count.ensures.count at c.in_ok-search.ensures.judged
+
 pub loop-search-init : goal.loop-search-init
 loop-search-init g c =
     let value = g.A.Algebra.sig_value c.args.algebra.now in
@@ -25,7 +28,6 @@ loop-search-init g c =
     let count : length best ≡ length net.nodes = let e = c.in_ok-offer_own.ensures.count in omega arith in
     let all = ap length rows_is in
     record {
-      order = rw c.in_ok-offer_own.ensures.order c.in_ok-search.ensures.algebra;
       rows_count = (let same = length-replicate {A = Option (FixedRoute g.row.A-Sig.Denot)} (length net.nodes) None in omega arith);
       best_count = c.in_ok-offer_own.ensures.count;
       fixed = fixed_before value is_sig net c.args.dest.0 rows paths best is_net rows_is count c.in_ok-fixed.ensures.paths;
@@ -34,7 +36,7 @@ loop-search-init g c =
     }
 
 pub fix_next-requires-clause-queue : goal.fix_next-requires-clause-queue
-fix_next-requires-clause-queue g c = rw (c.loop-search.invariant.order, c.requires.algebra) c.loop-search.invariant.queue
+fix_next-requires-clause-queue g c = rw c.requires.algebra c.loop-search.invariant.queue
 
 pub relax-requires-clause-node : goal.relax-requires-clause-node
 relax-requires-clause-node g c =
@@ -50,7 +52,7 @@ relax-requires-clause-node g c =
     let new_paths = c.fix_next.new.fixed.paths in
     let taken = c.fix_next.new.search.best.items in
     let node = c.in-Some.node.0 in
-    let fixes = rw (c.in-Some.is, c.loop-search.invariant.order, c.requires.algebra) at c.in_ok-node.ensures.next in
+    let fixes = rw (c.in-Some.is, c.requires.algebra) at c.in_ok-node.ensures.next in
     node_in value net dest rows new_rows paths new_paths best taken node is_net st fixes
 
 pub relax-requires-clause-next : goal.relax-requires-clause-next
@@ -67,11 +69,11 @@ relax-requires-clause-next g c =
     let new_paths = c.fix_next.new.fixed.paths in
     let taken = c.fix_next.new.search.best.items in
     let node = c.in-Some.node.0 in
-    let fixes = rw (c.in-Some.is, c.loop-search.invariant.order, c.requires.algebra) at c.in_ok-node.ensures.next in
+    let fixes = rw (c.in-Some.is, c.requires.algebra) at c.in_ok-node.ensures.next in
     rw (told_next value net dest rows new_rows paths new_paths best taken node is_net st fixes) (speaks value net dest rows new_rows paths new_paths best taken node is_net st fixes)
 
 pub relax-requires-clause-queue : goal.relax-requires-clause-queue
-relax-requires-clause-queue g c = rw (c.in-Some.is, c.loop-search.invariant.order, c.requires.algebra) at c.in_ok-node.ensures.queue
+relax-requires-clause-queue g c = rw (c.in-Some.is, c.requires.algebra) at c.in_ok-node.ensures.queue
 
 pub loop-search-preserved : goal.loop-search-preserved
 loop-search-preserved g c =
@@ -87,15 +89,14 @@ loop-search-preserved g c =
     let new_paths = c.fix_next.new.fixed.paths in
     let taken = c.fix_next.new.search.best.items in
     let node = c.in-Some.node.0 in
-    let fixes = rw (c.in-Some.is, c.loop-search.invariant.order, c.requires.algebra) at c.in_ok-node.ensures.next in
+    let fixes = rw (c.in-Some.is, c.requires.algebra) at c.in_ok-node.ensures.next in
     let next_best = c.relax.new.search.best.items in
     let rows_count : length new_rows ≡ length net.nodes = let e = c.in_ok-node.ensures.rows in let f = c.loop-search.invariant.rows_count in omega arith in
     let best_count : length next_best ≡ length net.nodes = let e = c.in_ok-relax.ensures.count in omega arith in
     record {
-      order = rw (c.in_ok-relax.ensures.order, c.in_ok-node.ensures.order) c.loop-search.invariant.order;
       rows_count = c.in_ok-node.ensures.rows ∙ c.loop-search.invariant.rows_count;
       best_count = c.in_ok-relax.ensures.count;
-      fixed = rw (c.in-Some.is, c.loop-search.invariant.order) at c.in_ok-node.ensures.fixed;
+      fixed = rw c.in-Some.is at c.in_ok-node.ensures.fixed;
       queue = c.in_ok-relax.ensures.queue;
       state = state_next value net dest rows new_rows paths new_paths best taken node is_net st fixes next_best rows_count best_count c.in_ok-relax.ensures.routes;
     }

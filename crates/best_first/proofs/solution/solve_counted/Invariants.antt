@@ -14,11 +14,10 @@ invariant-loop-search g l =
     let rows = l.fixed.rows.items in
     let paths = l.fixed.paths in
     record {
-      order : l.search.frontier.order.algebra.now ≡ l.algebra;
       rows_count : vec_len l.fixed.rows ≡ length l.net.nodes;
       best_count : vec_len l.search.best ≡ length l.net.nodes;
       fixed : AreFixedBy is_sig rows paths;
-      queue : IsOpen value is_sig (carrier l.net) (told_by value paths rows) l.search.best.items l.search.frontier.keys;
+      queue : IsOpen value is_sig (carrier l.net) (told_by value paths rows) l.search.best.items l.search.standing;
       state : IsState l.net l.dest.0 (fixed_routes value paths rows) (open_routes value paths rows l.search.best.items);
     }
 
