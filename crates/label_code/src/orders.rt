@@ -19,6 +19,10 @@ pub fn compare_words(code: &[OrdOp], first: &[Word], second: &[Word]) -> Orderin
     requires { FitsBoth code.now first.now second.now }
     ensures { RunOrder code.now first.now second.now ≡ Some result }
 {
+    // Most orders of one number are this alone.
+    if let ([OrdOp::Less], [m, ..], [n, ..]) = (code, first, second) {
+        return m.cmp(n);
+    }
     let mut code = code;
     let mut first = first;
     let mut second = second;

@@ -52,13 +52,16 @@ fn push_route(out: &mut String, net: &Net, row: &RouteRow) -> Result<(), NoMemor
     }
 }
 
+// As many bytes as most rows have, so that few lines grow.
+const USUAL_ROW: usize = 64;
+
 /// The line of a row of a network: the node, the destination, and the value and the path of the route,
 /// or `none`. It is refused for want of memory alone.
 pub fn row_line(alloc: Global, net: &Net, row: &RouteRow) -> Result<Text, NoMemory>
     requires { IsRowOf net.now (pure_row row.now) }
     ensures { IfOk result (λ text. text ≡ row_text net.now (pure_row row.now)) }
 {
-    let mut out = String::new(alloc);
+    let mut out = String::with_capacity(alloc, USUAL_ROW)?;
     push_node(&mut out, net, row.node)?;
     out.push_str(" ")?;
     push_dest(&mut out, net, row.dest)?;
