@@ -9,11 +9,12 @@ use Rattle.alg_model.specs.Expressions.{PureCarrier, PureValue}
 use Rattle.alg_model.specs.Carriers.{In}
 use Rattle.net_graph.specs.Tables.{Told}
 use Rattle.best_first.specs.declared.route.OpenRoute.{OpenRoute}
+use Rattle.best_first.specs.declared.route.Place.{Place}
 use Rattle.best_first.specs.Found.{found-map, found_at, AllFound}
 use Rattle.best_first.specs.KeyOrder.{found_in, slots_asymmetric, slots_transitive}
-use Rattle.best_first.specs.Keys.{beats, key_of, best_of, precedes}
-use Rattle.best_first.specs.Queue.{IsRanked, IsOpen, IsNext}
-use Rattle.best_first.proofs.Places.{found_within}
+use Rattle.best_first.specs.Keys.{key_of, best_of, precedes, key_at}
+use Rattle.best_first.specs.Queue.{IsRanked, IsOpen, IsNext, is_wanted}
+use Rattle.best_first.proofs.Places.{all-set, found_within}
 use Rattle.best_first.proofs.Queues.{raise_asks, replay_asks, next_is}
 
 module _ {S : Type 0} (value : S → PureValue) (is_sig : S → Type 0) (c : PureCarrier) (sig_in : (s : S) → is_sig s → In c (value s))
@@ -30,13 +31,29 @@ module _ {S : Type 0} (value : S → PureValue) (is_sig : S → Type 0) (c : Pur
     pub taken_judged : (i : ℕ) → i < length best → IsJudgedWithout (precedes c (best_of value (set best i None))) t i
     taken_judged i within = rw (written i None) (replay_asks c (best_of value best) i None (omega (arith, within, length-map best (option_map (key_of value)))) t ranked.judged)
 
-    pub better_judged : (route : OpenRoute S) → route.place.node.0 < length best → is_sig route.sig
-        → beats c (key_of value route) (found_at (best_of value best) route.place.node.0) ≡ true
-        → IsJudgedBut (precedes c (best_of value (set best route.place.node.0 (Some route)))) t route.place.node.0
-    better_judged route within is better =
-        rw (written route.place.node.0 (Some route))
-        (raise_asks c (best_of value best) route.place.node.0 (key_of value route) (omega (arith, within, length-map best (option_map (key_of value)))) (sig_in route.sig is)
-        (found_in value is_sig c sig_in best sigs) better t ranked.judged)
+    -- the route there with the spare value is kept
+    pub better_judged : (place : Place) (spare : Option S) → place.node.0 < length best → IfSome spare is_sig → is_wanted c place (option_map value spare) (best_of value best) ≡ true
+        → IsJudgedBut (precedes c (best_of value (set best place.node.0 (option_map (λ sig. record { sig = sig; place = place }) spare)))) t place.node.0
+    better_judged place None within is wanted = absurd (false≢true wanted)
+    better_judged place (Some sig) within is wanted =
+        rw (written place.node.0 (Some record { sig = sig; place = place }))
+        (raise_asks c (best_of value best) place.node.0 (key_at place (value sig)) (omega (arith, within, length-map best (option_map (key_of value)))) (sig_in sig is)
+        (found_in value is_sig c sig_in best sigs) wanted t ranked.judged)
+
+    pub kept_sigs : (place : Place) (spare : Option S) → place.node.0 < length best → IfSome spare is_sig → AllFound (λ o. is_sig o.sig) (set best place.node.0 (option_map (λ sig. record { sig = sig; place = place }) spare))
+    kept_sigs place spare within is = all-set (λ o. is_sig o.sig) best place.node.0 (option_map (λ sig. record { sig = sig; place = place }) spare) within sigs (by spare is)
+      where
+        by : (o : Option S) → IfSome o is_sig → IfSome (option_map {U = OpenRoute S} (λ sig. record { sig = sig; place = place }) o) (λ o. is_sig o.sig)
+        by None h = tt
+        by (Some sig) h = h
+
+    pub kept_best : (place : Place) (spare : Option S) → best_of value (set best place.node.0 (option_map (λ sig. record { sig = sig; place = place }) spare))
+        ≡ set (best_of value best) place.node.0 (option_map (key_at place) (option_map value spare))
+    kept_best place spare = written place.node.0 (option_map (λ sig. record { sig = sig; place = place }) spare) ∙ ap (set (best_of value best) place.node.0) (by spare)
+      where
+        by : (o : Option S) → option_map (key_of value) (option_map (λ sig. record { sig = sig; place = place }) o) ≡ option_map (key_at place) (option_map value o)
+        by None = refl
+        by (Some sig) = refl
 
     pub still_counted : (i : ℕ) (o : Option (OpenRoute S)) → t.count ≡ length (best_of value (set best i o))
     still_counted i o = count ∙ sym (length-map (set best i o) (option_map (key_of value)) ∙ length-set best i o)

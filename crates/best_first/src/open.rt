@@ -1,4 +1,4 @@
-ghost use Rattle.std.specs.Prelude.{◌≡◌, ◌<◌, ℕ, Bool, Some, None, true, false, length, vec_len, replicate, IfOk, IfSome, IfNone, option_map};
+ghost use Rattle.std.specs.Prelude.{◌≡◌, ◌≢◌, ◌<◌, ℕ, Bool, Some, None, true, false, length, vec_len, replicate, IfOk, IfSome, IfNone, option_map};
 ghost use Rattle.std.proofs.Math.ListN.{set};
 ghost use Rattle.frontier.specs.Tournaments.{IsJudged, IsFirstSlot};
 ghost use Rattle.alg_model.specs.Carriers.{carrier_of};
@@ -122,11 +122,7 @@ impl<A: Algebra, L: Ledger> Open<A, L> {
             (option_map (key_at place) (option_map value self.old.spare)) }
     {
         let node = place.node.0 as usize;
-        let Some(sig) = self.spare.take() else {
-            unreachable!();
-        };
-        let old = self.best[node].replace(OpenRoute { sig, place });
-        self.spare = sig_of(old);
+        exchange(&mut self.best[node], &mut self.spare, place);
         let order = ByRoute {
             algebra,
             best: &self.best,
@@ -186,12 +182,23 @@ fn beats<A: Algebra>(
     }
 }
 
-// The value of a route that is no longer wanted, if there was one.
-fn sig_of<S>(route: Option<OpenRoute<S>>) -> Option<S>
-    ensures { result ≡ option_map (λ o. o.sig) route }
+// Makes a route there of the spare value, and what the route had before the spare value.
+fn exchange<S: Drop>(best: &mut Option<OpenRoute<S>>, spare: &mut Option<S>, place: Place)
+    requires { spare.old ≢ None }
+    ensures best { best.new ≡ option_map (λ sig. record { sig = sig; place = place }) spare.old }
+    ensures spare { spare.new ≡ option_map (λ o. o.sig) best.old }
 {
-    match route {
-        Some(route) => Some(route.sig),
-        None => None,
+    match best {
+        Some(best) => {
+            if let Some(spare) = spare {
+                std::mem::swap(&mut best.sig, spare);
+            }
+            best.place = place;
+        }
+        None => {
+            if let Some(sig) = spare.take() {
+                *best = Some(OpenRoute { sig, place });
+            }
+        }
     }
 }

@@ -53,7 +53,7 @@ fn push_route(out: &mut String, net: &Net, row: &RouteRow) -> Result<(), NoMemor
 }
 
 // As many bytes as most rows have, so that few lines grow.
-const USUAL_ROW: usize = 64;
+const USUAL_ROW: usize = 256;
 
 /// The line of a row of a network: the node, the destination, and the value and the path of the route,
 /// or `none`. It is refused for want of memory alone.
