@@ -70,6 +70,21 @@ impl Words {
         }
     }
 
+    // Adds a word where the row has no room in place.
+    fn push_elsewhere(&mut self, alloc: Global, word: Word) -> Result<(), NoMemory>
+        ensures { OnOk result (self.new ≡ self.old ++ word ∷ []) }
+    {
+        match &mut self.store {
+            Store::Here(short) => {
+                let mut more = Vec::from_slice(alloc, &short.words[..short.len])?;
+                more.push(word)?;
+                self.store = Store::There(more);
+            }
+            Store::There(words) => words.push(word)?,
+        }
+        Ok(())
+    }
+
     /// A row of the same words. It takes memory where they are more than [`HERE`].
     pub fn copy(&self, alloc: Global) -> Result<Words, NoMemory>
         ensures { IfOk result (λ copied. copied ≡ self.now) }
@@ -90,15 +105,10 @@ impl Output for Words {
             Store::Here(short) if short.len < HERE => {
                 short.words[short.len] = word;
                 short.len += 1;
+                Ok(())
             }
-            Store::Here(short) => {
-                let mut more = Vec::from_slice(alloc, &short.words)?;
-                more.push(word)?;
-                self.store = Store::There(more);
-            }
-            Store::There(words) => words.push(word)?,
+            _ => self.push_elsewhere(alloc, word),
         }
-        Ok(())
     }
 
     fn extend(&mut self, alloc: Global, words: &[Word]) -> Result<(), NoMemory> {

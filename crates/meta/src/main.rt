@@ -12,7 +12,7 @@ use std::process::ExitCode;
 use std::rt::{Env, Files};
 use std::sync::Wait;
 use std::thread::Threads;
-use std::{env, io};
+use std::{env, io, mem};
 
 // Why there are no words.
 enum WordsError {
@@ -52,8 +52,8 @@ fn carry_out<R: AllocGlobal + Files + Print + Threads + Wait + Sync>(
     let mut shelf = FileShelf::new(rt);
     let ended = run_meta(rt, words, &mut shelf, out, &OpenGate);
     let status = status(&ended.answer);
-    // By a call: a drop in place is proved here, field by field.
-    drop(ended);
+    // The process ends, and all its memory with it: giving back what was found piece by piece takes a tenth of a run.
+    mem::forget(ended);
     status
 }
 
