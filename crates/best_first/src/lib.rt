@@ -1,7 +1,7 @@
 //! Link state: the table of routes to a destination that generalised Dijkstra makes, best first, over any
 //! algebra, and the laws of such tables: that there is one at most, and that no walk beats it where
 //! labels are monotone and isotone. It stands on `net_graph` and `alg_model`; `path_store` keeps the paths
-//! of its routes, and `frontier` the keys of those that are open.
+//! of its routes, and `frontier` tells which open one is the best.
 #![tactic(auto)]
 
 mod fixed;

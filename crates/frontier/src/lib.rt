@@ -1,5 +1,6 @@
-//! The keys of a search's open routes, of which the least is taken first: a binary heap over an order that its
-//! user gives, whose comparisons are counted. It knows no algebra and no network.
+//! What a search looks at next, by an order that its user gives and whose comparisons are counted: keys in a binary
+//! heap, of which the least is taken first, or slots in a tournament, of which the first is known. It knows no algebra
+//! and no network.
 #![tactic(auto)]
 
 mod heap;
