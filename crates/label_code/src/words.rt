@@ -71,6 +71,7 @@ impl Words {
     }
 
     // Adds a word where the row has no room in place.
+    #[cold]
     fn push_elsewhere(&mut self, alloc: Global, word: Word) -> Result<(), NoMemory>
         ensures { OnOk result (self.new ≡ self.old ++ word ∷ []) }
     {
@@ -100,6 +101,7 @@ impl Words {
 impl Output for Words {
     ghost written = { λ s. s };
 
+    #[inline(always)]
     fn push(&mut self, alloc: Global, word: Word) -> Result<(), NoMemory> {
         match &mut self.store {
             Store::Here(short) if short.len < HERE => {
