@@ -23,7 +23,9 @@ use Rattle.meta_base.specs.NodePaths.{numbers}
 use Rattle.net_graph.specs.RouteOrder.{not_better_trans, better_asymmetric}
 use Rattle.path_vector.specs.declared.neighbour.Neighbour.{Neighbour}
 use Rattle.path_vector.specs.declared.known.Known.{Known}
-use Rattle.path_vector.specs.Known.{better_of, entry_of, known_route, heard_by, IsNeighbour, AreNeighbours}
+use Rattle.std.specs.Borrow.{Bor}
+use Rattle.meta_base.specs.declared.ids.NodeId.{NodeId}
+use Rattle.path_vector.specs.Known.{better_of, entry_of, known_route, offered_route, placed, heard_by, IsNeighbour, AreNeighbours}
 
 -- ---- one more route
 
@@ -363,6 +365,12 @@ offers_known {S = S} value net a k node p o tail path among image = rw (tail, pa
     by : (o : Option S) → option_map {U = PureRoute} (λ s. record { value = value s; path = node ∷ numbers k.path }) o ≡ option_map {U = PureRoute} (λ v. record { value = v; path = node ∷ numbers k.path }) (option_map value o)
     by None = refl
     by (Some s) = refl
+
+-- the offer whose value stands in a place is a route where a value stands there
+pub placed_routes : {S : Type 0} (value : S → PureValue) (node : ℕ) (b : Bor (List NodeId)) (place : Option S)
+    → option_map {U = PureRoute} (offered_route value node) (placed (Some b) place) ≡ option_map {U = PureRoute} (λ s. record { value = value s; path = node ∷ numbers b.now }) place
+placed_routes value node b None = refl
+placed_routes value node b (Some s) = refl
 
 -- and of one that passes it the arc makes nothing
 pub passing_offers_none : {S : Type 0} (value : S → PureValue) (net : PureNet) (a : PureArc) (k : Known S) (node : ℕ) → a.tail ≡ node → is_among (numbers k.path) node ≡ true → offer_by net a (known_route value k) ≡ None

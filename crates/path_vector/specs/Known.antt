@@ -1,6 +1,7 @@
 -- Routes in an algebra's own form, and what a node offers itself by them. Sigs stand for values by `value`.
-use Rattle.std.specs.Prelude.{◌≡◌, ℕ, ◌==◌, true, List, [], ◌∷◌, Option, Some, None, cond, find, length, option_map, option_and_then, slice_get}
+use Rattle.std.specs.Prelude.{◌≡◌, ℕ, ◌==◌, Bool, true, false, List, [], ◌∷◌, Option, Some, None, cond, find, length, option_map, option_and_then, slice_get}
 use Rattle.std.proofs.Math.ListN.{set}
+use Rattle.std.specs.Borrow.{Bor}
 use Rattle.alg_model.specs.Expressions.{PureCarrier, PureValue, PureLabel}
 use Rattle.meta_base.specs.declared.ids.NodeId.{NodeId}
 use Rattle.meta_base.specs.NodePaths.{numbers}
@@ -23,6 +24,15 @@ module _ {S : Type 0} (value : S → PureValue) where
   -- what an offer to a node stands for
   abbrev pub offered_route : ℕ → Offer S → PureRoute
   offered_route node o = route_through node o.sig o.behind.now
+
+-- the offer whose value stands in a place, by what lies behind the node on its path
+abbrev pub placed : {S : Type 0} → Option (Bor (List NodeId)) → Option S → Option (Offer S)
+placed behind place = option_and_then (λ b. option_map (λ s. record { sig = s; behind = b }) place) behind
+
+-- the value in a place, if it was put there
+abbrev pub standing : {S : Type 0} → Bool → Option S → Option S
+standing true place = place
+standing false place = None
 
 -- the entry for a destination of what was heard, or of the rows
 abbrev pub entry_of : {X : Type 0} → List (Option X) → ℕ → Option X

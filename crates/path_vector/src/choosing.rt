@@ -5,7 +5,7 @@ ghost use Rattle.path_vector.specs.Node.{choice};
 
 use crate::known::Known;
 use crate::neighbour::Neighbour;
-use crate::offer::{Offer, better_offer, offer_of, taken_by};
+use crate::offer::{Offer, keep_better, offer_into, taken_by};
 use alg_model::Algebra;
 use meta_base::{DestId, NoMemory, NodeId};
 use net_graph::Net;
@@ -57,8 +57,8 @@ pub(crate) fn choose<A: Algebra>(
 {
     let mut best = own_offer(alloc, algebra, own)?;
     for neighbour in neighbours {
-        let next = offer_of(alloc, algebra, net, node, neighbour, dest, spare)?;
-        best = better_offer(algebra, best, next, spare);
+        let behind = offer_into(alloc, algebra, net, node, neighbour, dest, spare)?;
+        keep_better(algebra, &mut best, behind, spare);
     }
     match best {
         Some(offer) => Ok(Some(taken_by(alloc, node, offer)?)),

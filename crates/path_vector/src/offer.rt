@@ -6,7 +6,8 @@ ghost use Rattle.alg_model.specs.Carriers.{carrier_of};
 ghost use Rattle.alg_model.specs.Expressions.{PureLabel};
 ghost use Rattle.net_graph.specs.Nets.{PureArc, PureNet, IsNet};
 ghost use Rattle.net_graph.specs.Routes.{is_better};
-ghost use Rattle.path_vector.specs.Known.{entry_of, known_route, offered_route, route_through, better_of, IsNeighbour};
+ghost use Rattle.path_vector.specs.Known.{entry_of, known_route, offered_route, placed, standing, route_through};
+ghost use Rattle.path_vector.specs.Known.{better_of, IsNeighbour};
 ghost use Rattle.path_vector.specs.Node.{offer_by};
 
 use crate::known::Known;
@@ -19,63 +20,62 @@ use net_graph::Net;
 use path_store::compare;
 use std::alloc::Global;
 use std::cmp::Ordering;
+use std::mem::swap;
 
 // A route that a node is offered: its value, and the path of the neighbour that it goes by. There is none behind
-// the node where the offer is its own origin's.
+// the node where the offer is its own origin's. Values of offers are made in one place after another, and one is taken
+// from there only where its offer is the best so far.
 #[derive(Drop)]
 pub(crate) struct Offer<'p, S> {
     pub sig: S,
     pub behind: &'p [NodeId],
 }
 
-// What the label makes of the value, in the memory of the spare value if there is one, or `None` where it prohibits
-// the value. Then the spare value stays.
-fn image<A: Algebra>(
+// What the label makes of the value, put into `place`, in the memory of the value that stands there. True where it
+// stands there, and false where the label prohibits the value.
+fn image_into<A: Algebra>(
     alloc: Global,
     algebra: &A,
     lab: &A::Lab,
     sig: &A::Sig,
-    spare: &mut Option<A::Sig>,
-) -> Result<Option<A::Sig>, NoMemory>
+    place: &mut Option<A::Sig>,
+) -> Result<bool, NoMemory>
     requires lab { (l : PureLabel) × A.stands_for algebra.now lab.now l }
     requires sig { A.is_sig algebra.now sig.now }
     requires small { AtMost MAX_VALUE_NUMBER (A.sig_value algebra.now sig.now) }
-    ensures sig { IfOk result (λ image. IfSome image (A.is_sig algebra.now)) }
-    ensures image { (l : PureLabel) → A.stands_for algebra.now lab.now l → IfOk result (λ image.
-        option_map (A.sig_value algebra.now) image ≡
+    ensures sig { IfOk result (λ placed. IfSome (standing placed place.new) (A.is_sig algebra.now)) }
+    ensures image { (l : PureLabel) → A.stands_for algebra.now lab.now l → IfOk result (λ placed.
+        option_map (A.sig_value algebra.now) (standing placed place.new) ≡
         App (A.expression algebra.now) l (A.sig_value algebra.now sig.now)) }
 {
-    let Some(mut out) = spare.take() else {
-        return algebra.apply(alloc, lab, sig);
-    };
-    if algebra.apply_into(alloc, lab, sig, &mut out)? {
-        return Ok(Some(out));
+    if let Some(out) = place {
+        return algebra.apply_into(alloc, lab, sig, out);
     }
-    *spare = Some(out);
-    Ok(None)
+    *place = algebra.apply(alloc, lab, sig)?;
+    Ok(place.is_some())
 }
 
-// What the neighbour offers the node for a destination, if what was heard of it makes a route. Its value is made in
-// the memory of the spare one.
-pub(crate) fn offer_of<'p, A: Algebra>(
+// What the neighbour offers the node for a destination, if what was heard of it makes a route: its value is put into
+// `place`, and what lies behind the node on its path is lent.
+pub(crate) fn offer_into<'p, A: Algebra>(
     alloc: Global,
     algebra: &A,
     net: &Net,
     node: NodeId,
     neighbour: &'p Neighbour<A::Lab, A::Sig>,
     dest: DestId,
-    spare: &mut Option<A::Sig>,
-) -> Result<Option<Offer<'p, A::Sig>>, NoMemory>
+    place: &mut Option<A::Sig>,
+) -> Result<Option<&'p [NodeId]>, NoMemory>
     requires algebra { A.expression algebra.now ≡ net.now.alg.expression }
     requires net { IsNet net.now }
     requires dest { dest.0 < length net.now.dests }
     requires neighbour { (a : PureArc) × IsNeighbour (A.stands_for algebra.now) (A.is_sig algebra.now)
         (A.sig_value algebra.now) net.now a neighbour.now }
-    ensures sig { IfOk result (λ offer. IfSome offer (λ o. A.is_sig algebra.now o.sig)) }
+    ensures sig { IfOk result (λ behind. IfSome (placed behind place.new) (λ o. A.is_sig algebra.now o.sig)) }
     ensures offer { (a : PureArc) → a.tail ≡ node.0 → IsNeighbour (A.stands_for algebra.now)
         (A.is_sig algebra.now) (A.sig_value algebra.now) net.now a neighbour.now →
-        let value = A.sig_value algebra.now in IfOk result (λ offer.
-        option_map (offered_route value node.0) offer ≡ option_and_then (offer_by net.now a)
+        let value = A.sig_value algebra.now in IfOk result (λ behind.
+        option_map (offered_route value node.0) (placed behind place.new) ≡ option_and_then (offer_by net.now a)
         (option_map (known_route value) (entry_of neighbour.now.heard.items dest.0))) }
 {
     let Some(known) = &neighbour.heard[dest.0 as usize] else {
@@ -84,12 +84,25 @@ pub(crate) fn offer_of<'p, A: Algebra>(
     if passes(known.path.as_slice(), node) {
         return Ok(None);
     }
-    match image(alloc, algebra, &neighbour.label, &known.sig, spare)? {
-        Some(sig) => Ok(Some(Offer {
-            sig,
-            behind: known.path.as_slice(),
-        })),
-        None => Ok(None),
+    if image_into(alloc, algebra, &neighbour.label, &known.sig, place)? {
+        return Ok(Some(known.path.as_slice()));
+    }
+    Ok(None)
+}
+
+// The offer whose value stands in the place, which is empty then.
+pub(crate) fn take_offer<'p, S>(
+    behind: Option<&'p [NodeId]>,
+    place: &mut Option<S>,
+) -> Option<Offer<'p, S>>
+    ensures { result ≡ placed behind.entry place.old }
+{
+    match behind {
+        Some(behind) => Some(Offer {
+            sig: place.take()?,
+            behind,
+        }),
+        None => None,
     }
 }
 
@@ -115,37 +128,32 @@ pub(crate) fn is_first<A: Algebra>(
     }
 }
 
-// Keeps the value of an offer that lost, so that the next one is made in its memory.
-pub(crate) fn set_aside<S: Drop>(offer: Offer<'_, S>, spare: &mut Option<S>) {
-    *spare = Some(offer.sig);
-}
-
-// The better of two offers to a node; the first, where neither is better. The value of the other one is kept.
-pub(crate) fn better_offer<'p, A: Algebra>(
+// Lets the better of two offers to a node be the best; the first, where neither is better. The value of the next one
+// stands in the place, and there stays the value of the other.
+pub(crate) fn keep_better<'p, A: Algebra>(
     algebra: &A,
-    best: Option<Offer<'p, A::Sig>>,
-    next: Option<Offer<'p, A::Sig>>,
-    spare: &mut Option<A::Sig>,
-) -> Option<Offer<'p, A::Sig>>
-    requires best { IfSome best (λ o. A.is_sig algebra.now o.sig) }
-    requires next { IfSome next (λ o. A.is_sig algebra.now o.sig) }
-    ensures sig { IfSome result (λ o. A.is_sig algebra.now o.sig) }
+    best: &mut Option<Offer<'p, A::Sig>>,
+    behind: Option<&'p [NodeId]>,
+    place: &mut Option<A::Sig>,
+)
+    requires best { IfSome best.old (λ o. A.is_sig algebra.now o.sig) }
+    requires next { IfSome (placed behind place.old) (λ o. A.is_sig algebra.now o.sig) }
+    ensures sig { IfSome best.new (λ o. A.is_sig algebra.now o.sig) }
     ensures better { (node : ℕ) → let value = A.sig_value algebra.now in
-        option_map (offered_route value node) result ≡ better_of (carrier_of (A.expression algebra.now))
-        (option_map (offered_route value node) best.entry) (option_map (offered_route value node) next.entry) }
+        option_map (offered_route value node) best.new ≡ better_of (carrier_of (A.expression algebra.now))
+        (option_map (offered_route value node) best.old)
+        (option_map (offered_route value node) (placed behind.entry place.old)) }
 {
-    match (best, next) {
-        (Some(best), Some(next)) => {
-            if is_first(algebra, &next.sig, next.behind, &best.sig, best.behind) {
-                set_aside(best, spare);
-                Some(next)
-            } else {
-                set_aside(next, spare);
-                Some(best)
-            }
-        }
-        (Some(best), None) => Some(best),
-        (None, next) => next,
+    let Some(first) = best else {
+        *best = take_offer(behind, place);
+        return;
+    };
+    let (Some(behind), Some(next)) = (behind, place) else {
+        return;
+    };
+    if is_first(algebra, next, behind, &first.sig, first.behind) {
+        swap(&mut first.sig, next);
+        first.behind = behind;
     }
 }
 

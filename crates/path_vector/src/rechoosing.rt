@@ -3,7 +3,7 @@ ghost use Rattle.alg_model.specs.Carriers.{carrier_of};
 ghost use Rattle.meta_base.specs.NodePaths.{numbers};
 ghost use Rattle.net_graph.specs.Nets.{PureArc, IsNet, arcs_from, origin_value};
 ghost use Rattle.path_vector.specs.Changes.{HasSigs, IsChange};
-ghost use Rattle.path_vector.specs.Known.{known_route, offered_route, heard_by, AreNeighbours};
+ghost use Rattle.path_vector.specs.Known.{known_route, offered_route, placed, heard_by, AreNeighbours};
 ghost use Rattle.path_vector.specs.Node.{begins_with, choice, same_row};
 ghost use Rattle.path_vector.specs.Settling.{goes_by, is_worse, Settles};
 ghost use Rattle.path_vector.specs.Updates.{pure_update};
@@ -11,7 +11,7 @@ ghost use Rattle.path_vector.specs.Updates.{pure_update};
 use crate::choosing::choose;
 use crate::known::{Known, are_same, told_of};
 use crate::neighbour::Neighbour;
-use crate::offer::{Offer, is_first, offer_of, set_aside, taken_by};
+use crate::offer::{is_first, offer_into, take_offer, taken_by};
 use crate::paths::{behind, is_second};
 use crate::telling::told;
 use crate::update::Update;
@@ -103,27 +103,29 @@ fn goes_by<A: Algebra>(_algebra: &A, row: &Option<Known<A::Sig>>, neighbour: Nod
     }
 }
 
-// Whether there is a row, and the offer is worse, or there is none.
+// Whether there is a row, and the offer whose value stands in the place is worse, or there is none.
 fn is_worse<A: Algebra>(
     algebra: &A,
     node: NodeId,
-    offer: &Option<Offer<'_, A::Sig>>,
+    behind_offer: Option<&[NodeId]>,
+    place: &Option<A::Sig>,
     row: &Option<Known<A::Sig>>,
 ) -> bool
-    requires offer { IfSome offer.now (λ o. A.is_sig algebra.now o.sig) }
+    requires offer { IfSome (placed behind_offer place.now) (λ o. A.is_sig algebra.now o.sig) }
     requires row { IfSome row.now (λ k. A.is_sig algebra.now k.sig) }
     requires begins { IfSome row.now (λ k. begins_with node.0 (numbers k.path) ≡ true) }
     ensures { let value = A.sig_value algebra.now in
         result ≡ is_worse (carrier_of (A.expression algebra.now))
-        (option_map (offered_route value node.0) offer.now) (option_map (known_route value) row.now) }
+        (option_map (offered_route value node.0) (placed behind_offer.entry place.now))
+        (option_map (known_route value) row.now) }
 {
-    match (offer, row) {
-        (_, None) => false,
-        (None, Some(_)) => true,
-        (Some(offer), Some(row)) => {
+    match (behind_offer, place, row) {
+        (_, _, None) => false,
+        (Some(behind_offer), Some(sig), Some(row)) => {
             let behind_row = behind(row.path.as_slice());
-            is_first(algebra, &row.sig, behind_row, &offer.sig, offer.behind)
+            is_first(algebra, &row.sig, behind_row, sig, behind_offer)
         }
+        (None, _, Some(_)) | (_, None, Some(_)) => true,
     }
 }
 
@@ -161,18 +163,15 @@ pub(crate) fn rechoose<A: Algebra>(
         (choice net.now dest.0 node.0 (heard_by value neighbours.now))) }
 {
     let neighbour = &neighbours[net.place_of(arc)];
-    let offer = offer_of(alloc, algebra, net, node, neighbour, dest, spare)?;
-    if is_worse(algebra, node, &offer, before) {
-        if let Some(offer) = offer {
-            set_aside(offer, spare);
-        }
+    let behind_offer = offer_into(alloc, algebra, net, node, neighbour, dest, spare)?;
+    if is_worse(algebra, node, behind_offer, spare, before) {
         if !goes_by(algebra, before, net.arc(arc).head) {
             return Ok(None);
         }
         let row = choose(alloc, algebra, net, node, own, neighbours, dest, spare)?;
         return change_of(alloc, algebra, net, node, before, row, dest, clock);
     }
-    let Some(offer) = offer else {
+    let Some(offer) = take_offer(behind_offer, spare) else {
         return Ok(None);
     };
     let row = Some(taken_by(alloc, node, offer)?);

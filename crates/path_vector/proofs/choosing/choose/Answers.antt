@@ -1,6 +1,6 @@
 use Rattle.std.proofs.Common.{◌≡◌, ◌+◌, ◌≤◌, suc, length, slice_get, Some, sym, ap, refl, ◌∙◌, arith}
 use Rattle.std.proofs.lemmas.Option.{slice_get-get_or}
-use Rattle.path_vector.specs.Known.{known_route, offered_route, better_of}
+use Rattle.path_vector.specs.Known.{known_route, offered_route, placed, better_of}
 use Rattle.std.specs.Prelude.{option_map}
 use Rattle.alg_model.specs.Carriers.{carrier_of}
 use Rattle.net_graph.specs.Routes.{PureRoute}
@@ -19,8 +19,8 @@ loop-neighbour-init g c =
           ∙ own_best (A.stands_for s) (A.is_sig s) (A.sig_value s) c.args.net.now c.requires.net c.args.node.0 c.args.dest.0 c.args.neighbours.now c.requires.neighbours c.args.own.now c.requires.origin;
     }
 
-pub offer_of-requires-clause-neighbour : goal.offer_of-requires-clause-neighbour
-offer_of-requires-clause-neighbour g c =
+pub offer_into-requires-clause-neighbour : goal.offer_into-requires-clause-neighbour
+offer_into-requires-clause-neighbour g c =
     let A = g.A.Algebra in
     let s = c.args.algebra.now in
     let ns = c.args.neighbours.now in
@@ -40,14 +40,15 @@ loop-neighbour-preserved g c =
     let m = c.neighbour-item.result in
     let at : slice_get ns k ≡ Some m = slice_get-get_or ns k m c.loop-neighbour-test.true ∙ ap (λ z. Some z) (sym c.neighbour-item.is) in
     let there = neighbour_at (A.stands_for s) (A.is_sig s) (A.sig_value s) net _ ns k m c.requires.neighbours at in
-    let offer = c.in_ok-next.ensures.offer there.0 (tail_is net i k there.0 there.1) there.2 in
+    let offer = c.in_ok-behind.ensures.offer there.0 (tail_is net i k there.0 there.1) there.2 in
+    let offered = placed c.in_ok-behind.behind c.offer_into.new.place in
     let next : suc k ≡ k + 1 = omega arith in
     let routed = option_map {U = PureRoute} (offered_route (A.sig_value s) i) in
     record {
-      sig = c.better_offer-best.ensures.sig;
-      best = c.better_offer-best.ensures.better i
-          ∙ ap (λ z. better_of (carrier_of z) (routed c.loop-neighbour.best) (routed c.in_ok-next.next)) c.requires.algebra
-          ∙ ap (λ z. better_of (carrier net) z (routed c.in_ok-next.next)) c.loop-neighbour.invariant.best
+      sig = c.keep_better.ensures.sig;
+      best = c.keep_better.ensures.better i
+          ∙ ap (λ z. better_of (carrier_of z) (routed c.loop-neighbour.best) (routed offered)) c.requires.algebra
+          ∙ ap (λ z. better_of (carrier net) z (routed offered)) c.loop-neighbour.invariant.best
           ∙ ap (λ z. better_of (carrier net) (best_of (carrier net) (firsts (A.sig_value s) net i c.args.dest.0 ns k)) z) offer
           ∙ sym (best_next (A.stands_for s) (A.is_sig s) (A.sig_value s) net c.requires.net i c.args.dest.0 ns c.requires.neighbours k there.0 m there.1 at)
           ∙ ap (λ z. best_of (carrier net) (firsts (A.sig_value s) net i c.args.dest.0 ns z)) next;

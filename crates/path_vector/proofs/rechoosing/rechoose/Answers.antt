@@ -5,7 +5,7 @@ use Rattle.net_graph.specs.Nets.{PureArc}
 use Rattle.net_graph.specs.Views.{pure_arc}
 use Rattle.net_graph.specs.Routes.{PureRoute}
 use Rattle.path_vector.specs.Changes.{IsChange}
-use Rattle.path_vector.specs.Known.{known_route, offered_route, heard_by}
+use Rattle.path_vector.specs.Known.{known_route, offered_route, placed, heard_by}
 use Rattle.path_vector.specs.Node.{offer_by}
 use Rattle.path_vector.specs.Settling.{goes_by}
 use Rattle.path_vector.proofs.Hearings.{heard_there, neighbour_is, neighbour_there}
@@ -34,8 +34,8 @@ offset_bounds-neighbours-place_of g c =
 pub arc-requires : goal.arc-requires
 arc-requires g c = slice_get_within c.args.net.now.arcs c.args.arc.0 c.requires.settles.0 c.requires.settles.1
 
-pub offer_of-requires-clause-neighbour : goal.offer_of-requires-clause-neighbour
-offer_of-requires-clause-neighbour g c =
+pub offer_into-requires-clause-neighbour : goal.offer_into-requires-clause-neighbour
+offer_into-requires-clause-neighbour g c =
     let A = g.A.Algebra in
     let s = c.args.algebra.now in
     let ns = c.args.neighbours.now in
@@ -64,10 +64,10 @@ returns-then-not-goes_by-clause-change g c =
     let dest = c.args.dest.0 in
     let heard = heard_by value ns in
     let row : Option PureRoute = option_map (known_route value) c.args.before.now in
-    let offer : Option PureRoute = option_map (offered_route value i) c.in_ok-offer.offer in
+    let offer : Option PureRoute = option_map (offered_route value i) (placed c.in_ok-behind_offer.behind_offer c.offer_into.new.place) in
     let is_it = neighbour_is (A.stands_for s) (A.is_sig s) (A.sig_value s) c.args.net.now c.args.node.0 c.requires.net ns c.requires.neighbours c.args.arc.0 c.place_of.result c.args.dest.0
     c.requires.settles.0 c.requires.settles.1 c.requires.settles.2 c.place_of.ensures c.requires.dest m here in
-    let offered : offer ≡ option_and_then (offer_by net a) (heard a.id dest) = c.in_ok-offer.ensures.offer a c.requires.settles.2 is_it
+    let offered : offer ≡ option_and_then (offer_by net a) (heard a.id dest) = c.in_ok-behind_offer.ensures.offer a c.requires.settles.2 is_it
     ∙ ap (option_and_then (offer_by net a)) (sym (heard_there (A.stands_for s) (A.is_sig s) (A.sig_value s) c.args.net.now c.args.node.0 c.requires.net ns c.requires.neighbours c.args.arc.0 c.place_of.result c.args.dest.0
     c.requires.settles.0 c.requires.settles.1 c.requires.settles.2 c.place_of.ensures c.requires.dest m here)) in
     let worse = rw c.requires.algebra at (sym c.is_worse.ensures ∙ c.if-is_worse.true) in
@@ -75,8 +75,8 @@ returns-then-not-goes_by-clause-change g c =
     let other : goes_by a.head row ≡ false = ap (λ z. goes_by z row) (sym head) ∙ (sym c.goes_by.ensures ∙ c.if-not-goes_by.true) in
     row_chosen net dest i heard a row offer c.requires.settles.3 offered worse other
 
-pub returns-in_default-offer-clause-change : goal.returns-in_default-offer-clause-change
-returns-in_default-offer-clause-change g c =
+pub returns-in_default-clause-change : goal.returns-in_default-clause-change
+returns-in_default-clause-change g c =
     let A = g.A.Algebra in
     let s = c.args.algebra.now in
     let ns = c.args.neighbours.now in
@@ -91,14 +91,14 @@ returns-in_default-offer-clause-change g c =
     let dest = c.args.dest.0 in
     let heard = heard_by value ns in
     let row : Option PureRoute = option_map (known_route value) c.args.before.now in
-    let offer : Option PureRoute = option_map (offered_route value i) c.in_ok-offer.offer in
+    let offer : Option PureRoute = option_map (offered_route value i) (placed c.in_ok-behind_offer.behind_offer c.offer_into.new.place) in
     let is_it = neighbour_is (A.stands_for s) (A.is_sig s) (A.sig_value s) c.args.net.now c.args.node.0 c.requires.net ns c.requires.neighbours c.args.arc.0 c.place_of.result c.args.dest.0
     c.requires.settles.0 c.requires.settles.1 c.requires.settles.2 c.place_of.ensures c.requires.dest m here in
-    let offered : offer ≡ option_and_then (offer_by net a) (heard a.id dest) = c.in_ok-offer.ensures.offer a c.requires.settles.2 is_it
+    let offered : offer ≡ option_and_then (offer_by net a) (heard a.id dest) = c.in_ok-behind_offer.ensures.offer a c.requires.settles.2 is_it
     ∙ ap (option_and_then (offer_by net a)) (sym (heard_there (A.stands_for s) (A.is_sig s) (A.sig_value s) c.args.net.now c.args.node.0 c.requires.net ns c.requires.neighbours c.args.arc.0 c.place_of.result c.args.dest.0
     c.requires.settles.0 c.requires.settles.1 c.requires.settles.2 c.place_of.ensures c.requires.dest m here)) in
     let worse = rw c.requires.algebra at (sym c.is_worse.ensures ∙ c.if-is_worse.false) in
-    none_chosen net dest i heard a row offer c.requires.settles.3 offered (rw c.in_default-offer.is refl) worse
+    none_chosen net dest i heard a row offer c.requires.settles.3 offered (ap (option_map (offered_route value i)) (sym c.take_offer.ensures ∙ c.in_default.is)) worse
 
 pub returns-clause-change : goal.returns-clause-change
 returns-clause-change g c =
@@ -116,12 +116,12 @@ returns-clause-change g c =
     let dest = c.args.dest.0 in
     let heard = heard_by value ns in
     let row : Option PureRoute = option_map (known_route value) c.args.before.now in
-    let offer : Option PureRoute = option_map (offered_route value i) c.in_ok-offer.offer in
+    let offer : Option PureRoute = option_map (offered_route value i) (placed c.in_ok-behind_offer.behind_offer c.offer_into.new.place) in
     let is_it = neighbour_is (A.stands_for s) (A.is_sig s) (A.sig_value s) c.args.net.now c.args.node.0 c.requires.net ns c.requires.neighbours c.args.arc.0 c.place_of.result c.args.dest.0
     c.requires.settles.0 c.requires.settles.1 c.requires.settles.2 c.place_of.ensures c.requires.dest m here in
-    let offered : offer ≡ option_and_then (offer_by net a) (heard a.id dest) = c.in_ok-offer.ensures.offer a c.requires.settles.2 is_it
+    let offered : offer ≡ option_and_then (offer_by net a) (heard a.id dest) = c.in_ok-behind_offer.ensures.offer a c.requires.settles.2 is_it
     ∙ ap (option_and_then (offer_by net a)) (sym (heard_there (A.stands_for s) (A.is_sig s) (A.sig_value s) c.args.net.now c.args.node.0 c.requires.net ns c.requires.neighbours c.args.arc.0 c.place_of.result c.args.dest.0
     c.requires.settles.0 c.requires.settles.1 c.requires.settles.2 c.place_of.ensures c.requires.dest m here)) in
     let worse = rw c.requires.algebra at (sym c.is_worse.ensures ∙ c.if-is_worse.false) in
-    let taken : option_map (known_route value) (Some c.in_ok-taken_by.field-0) ≡ offer = rw (c.in_ok-taken_by.ensures.sig, c.in_ok-taken_by.ensures.path, c.in-Some-offer.is) refl in
+    let taken : option_map (known_route value) (Some c.in_ok-taken_by.field-0) ≡ offer = rw (c.in_ok-taken_by.ensures.sig, c.in_ok-taken_by.ensures.path, sym c.take_offer.ensures ∙ c.in-Some.is) refl in
     subst (λ z. IfOk c.change_of-2.result (IsChange value net i dest c.args.clock row z)) (taken ∙ sym (offer_chosen net dest i heard a row offer c.requires.settles.3 offered worse)) c.change_of-2.ensures.change
