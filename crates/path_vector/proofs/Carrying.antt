@@ -1,7 +1,7 @@
--- The neighbours of a node that begins: those that said nothing yet, and those that were heard before a change.
-use Rattle.std.proofs.Common.{◌≡◌, ℕ, ◌<◌, ◌==◌, List, [], ◌∷◌, ◌++◌, Bool, true, false, cond, length, map, slice_get, Option, Some, None, refl, sym, ap, subst, ◌∙◌, arith}
+-- The neighbours of a node that begins, which were heard before a change.
+use Rattle.std.proofs.Common.{◌≡◌, ℕ, ◌<◌, ◌==◌, zero, suc, ◌+◌, ◌≤◌, List, [], ◌∷◌, ◌++◌, Bool, true, false, cond, length, map, slice_get, Option, Some, None, refl, sym, ap, subst, ◌∙◌, arith}
 use Rattle.std.specs.Prelude.{find, option_map, option_and_then, position, get_or, IfSome}
-use Rattle.std.proofs.Math.ListN.{set}
+use Rattle.std.proofs.Math.ListN.{drop, set, take}
 use Rattle.std.proofs.Math.Path.{fun_ext}
 use Rattle.std.proofs.lemmas.Bool.Decides.{nat_tests}
 use Rattle.std.proofs.lemmas.Option.{slice_get-map, slice_get-get_or, slice_get_within}
@@ -14,14 +14,14 @@ use Rattle.net_graph.specs.Nets.{PureArc, PureNet, IsNet, IsArcOf, is_arc_betwee
 use Rattle.net_graph.specs.Views.{pure_arc}
 use Rattle.net_graph.specs.declared.parts.Arc.{Arc}
 use Rattle.net_graph.specs.Routes.{PureRoute}
-use Rattle.path_vector.specs.declared.neighbour.Neighbour.{Neighbour}
+use Rattle.path_vector.specs.Columns.{HasEntries}
 use Rattle.path_vector.specs.Choosing.{IsArcThere, arc_is_found, arc_stands, found_there}
 use Rattle.path_vector.specs.Delivering.{same_arcs}
 use Rattle.path_vector.specs.Items.{IsItem, item_at, item_passed, item_there, none_found, of_all}
 use Rattle.path_vector.specs.Telling.{id_is_place}
-use Rattle.path_vector.specs.Known.{entry_of, heard_by, known_route, IsNeighbour, AreNeighbours}
+use Rattle.path_vector.specs.Known.{entry_of, heard_by, known_route, IsNeighbour, AreNeighbours, Listened}
 use Rattle.path_vector.specs.Node.{heard_before, may_be_of, same_arc}
-use Rattle.path_vector.proofs.Choices.{append_nothing, as_many, ids_from_apart, neighbour_at, neighbour_found, tail_is}
+use Rattle.path_vector.proofs.Choices.{as_many, ids_from_apart, neighbour_at, neighbour_found, tail_is, take_next, take_whole}
 use Rattle.path_vector.proofs.Hearings.{heard_set, neighbours_set}
 
 find_first : {X : Type 0} (p : X → Bool) (xs ys : List X) (x : X) → find p xs ≡ Some x → find p (xs ++ ys) ≡ Some x
@@ -40,37 +40,28 @@ find_next p (y ∷ xs) ys e = by (p y) refl e (find_next p xs ys)
     by true f g more = absurd (cc)
     by false f g more = rw f (more g)
 
-module _ {L S : Type 0} (value : S → PureValue) (ns : List (Neighbour L S)) (n : Neighbour L S) where
-  abbrev is_at : ℕ → Neighbour L S → Bool
+module _ {L S : Type 0} (value : S → PureValue) (ns : List (Listened L S)) (n : Listened L S) where
+  abbrev is_at : ℕ → Listened L S → Bool
   is_at a m = m.arc.0 == a
 
-  abbrev said : ℕ → Option (Neighbour L S) → Option PureRoute
-  said dest o = option_and_then (λ (m : Neighbour L S). option_map (known_route value) (entry_of m.heard.items dest)) o
+  abbrev said : ℕ → Option (Listened L S) → Option PureRoute
+  said dest o = option_and_then (λ (m : Listened L S). option_map (known_route value) (entry_of m.heard dest)) o
 
   -- what is heard of neighbours and one more, who says nothing or is at another arc
   pub heard_otherwise : (a dest : ℕ) → said dest (cond (n.arc.0 == a) (Some n) None) ≡ None → heard_by value (ns ++ n ∷ []) a dest ≡ heard_by value ns a dest
   heard_otherwise a dest e = by (find (is_at a) ns) refl
     where
-      by : (o : Option (Neighbour L S)) → find (is_at a) ns ≡ o → heard_by value (ns ++ n ∷ []) a dest ≡ heard_by value ns a dest
+      by : (o : Option (Listened L S)) → find (is_at a) ns ≡ o → heard_by value (ns ++ n ∷ []) a dest ≡ heard_by value ns a dest
       by None f = rw (find_next (is_at a) ns (n ∷ []) f, f) e
       by (Some m) f = rw (find_first (is_at a) ns (n ∷ []) m f, f) refl
 
   -- and the last one is heard, where no other one is at its arc
-  pub heard_last : (a dest : ℕ) → (n.arc.0 == a) ≡ true → ((m : Neighbour L S) → find (is_at a) ns ≡ Some m → m ≡ n) → heard_by value (ns ++ n ∷ []) a dest ≡ option_map (known_route value) (entry_of n.heard.items dest)
+  pub heard_last : (a dest : ℕ) → (n.arc.0 == a) ≡ true → ((m : Listened L S) → find (is_at a) ns ≡ Some m → m ≡ n) → heard_by value (ns ++ n ∷ []) a dest ≡ option_map (known_route value) (entry_of n.heard dest)
   heard_last a dest e alone = by (find (is_at a) ns) refl
     where
-      by : (o : Option (Neighbour L S)) → find (is_at a) ns ≡ o → heard_by value (ns ++ n ∷ []) a dest ≡ option_map (known_route value) (entry_of n.heard.items dest)
+      by : (o : Option (Listened L S)) → find (is_at a) ns ≡ o → heard_by value (ns ++ n ∷ []) a dest ≡ option_map (known_route value) (entry_of n.heard dest)
       by None f = rw (find_next (is_at a) ns (n ∷ []) f, e) refl
       by (Some m) f = rw (find_first (is_at a) ns (n ∷ []) m f, alone m f) refl
-
--- nothing is heard of one more who says nothing
-pub silent_more : {L S : Type 0} (value : S → PureValue) (ns : List (Neighbour L S)) (n : Neighbour L S) → ((a dest : ℕ) → heard_by value ns a dest ≡ None) → ((dest : ℕ) → entry_of n.heard.items dest ≡ None)
-    → (a dest : ℕ) → heard_by value (ns ++ n ∷ []) a dest ≡ None
-silent_more value ns n all none a dest = heard_otherwise value ns n a dest (by (n.arc.0 == a)) ∙ all a dest
-  where
-    by : (b : Bool) → option_and_then (λ (m : Neighbour _ _). option_map (known_route value) (entry_of m.heard.items dest)) (cond b (Some n) None) ≡ None
-    by true = ap (option_map (known_route value)) (none dest)
-    by false = refl
 
 -- the arc at a place of those from a node
 pub arc_there : (arcs : List Arc) (all : List PureArc) (k : ℕ) (a : Arc) → map pure_arc arcs ≡ all → k < length arcs → a ≡ get_or arcs k a → slice_get all k ≡ Some (pure_arc a)
@@ -84,39 +75,42 @@ small_label net i k a n e =
     let item = (item_passed (λ (b : PureArc). b.tail == i) net.arcs a (item_at (arcs_from net i) k a e)).0 in
     label_at_most_more (greatest_number net.alg.edition) MAX_LABEL_NUMBER a.label (greatest_is_bounded net.alg.edition) (of_all (IsArcOf net.alg (length net.nodes)) net.arcs a n.arcs_in item).bound
 
-pub push_split : {X : Type 0} (xs ys : List X) (x : X) → (xs ++ x ∷ []) ++ ys ≡ xs ++ x ∷ ys
-push_split [] ys x = refl
-push_split (y ∷ xs) ys x = ap (λ z. y ∷ z) (push_split xs ys x)
+parted : {X : Type 0} (xs : List X) (k : ℕ) (x : X) → slice_get xs k ≡ Some x → take k xs ++ x ∷ drop (suc k) xs ≡ xs
+parted [] k x e = absurd (cc)
+parted (y ∷ xs) zero x e =
+    let same : y ≡ x = cc in
+    ap (λ z. z ∷ xs) (sym same)
+parted (y ∷ xs) (suc k) x e = ap (λ z. y ∷ z) (parted xs k x e)
 
 module _ {L S : Type 0} (stands_for : L → PureLabel → Type 0) (is_sig : S → Type 0) (value : S → PureValue) where
-  pub neighbours_more : (net : PureNet) (arcs : List PureArc) (ns : List (Neighbour L S)) (a : PureArc) (n : Neighbour L S) → AreNeighbours stands_for is_sig value net arcs ns → IsNeighbour stands_for is_sig value net a n
-      → AreNeighbours stands_for is_sig value net (arcs ++ a ∷ []) (ns ++ n ∷ [])
-  neighbours_more net [] [] a n are is = (is, tt)
-  neighbours_more net [] (m ∷ ns) a n are is = absurd are
-  neighbours_more net (b ∷ arcs) [] a n are is = absurd are
-  neighbours_more net (b ∷ arcs) (m ∷ ns) a n are is = (are.0, neighbours_more net arcs ns a n are.1 is)
-
   -- ---- neighbours that are heard before a change, one after another
 
-  module _ (before net : PureNet) (old_net : IsNet before) (new_net : IsNet net) (same : net ≡ record before { arcs = net.arcs }) (i : ℕ) (old done left : List (Neighbour L S)) (x : Neighbour L S)
-      (are : AreNeighbours stands_for is_sig value before (arcs_from before i) old) (split : done ++ x ∷ left ≡ old)
+  module _ (before net : PureNet) (old_net : IsNet before) (new_net : IsNet net) (same : net ≡ record before { arcs = net.arcs }) (i : ℕ) (old : List (Listened L S)) (k : ℕ) (x : Listened L S)
+      (are : AreNeighbours stands_for is_sig value before (arcs_from before i) old) (there : slice_get old k ≡ Some x)
     where
-      after_done : (xs : List (Neighbour L S)) → slice_get (xs ++ x ∷ left) (length xs) ≡ Some x
-      after_done [] = refl
-      after_done (y ∷ xs) = after_done xs
+      -- those that are done, and those that are left behind the next
+      abbrev pub done : List (Listened L S)
+      done = take k old
 
-      there : slice_get old (length done) ≡ Some x
-      there = subst (λ z. slice_get z (length done) ≡ Some x) split (after_done done)
+      abbrev left : List (Listened L S)
+      left = drop (suc k) old
+
+      split : done ++ x ∷ left ≡ old
+      split = parted old k x there
 
       -- the arc of the next neighbour
-      pub next_arc : (z : PureArc) × (slice_get (arcs_from before i) (length done) ≡ Some z) × IsNeighbour stands_for is_sig value before z x
-      next_arc = neighbour_at stands_for is_sig value before (arcs_from before i) old (length done) x are there
+      pub next_arc : (z : PureArc) × (slice_get (arcs_from before i) k ≡ Some z) × IsNeighbour stands_for is_sig value before z x
+      next_arc = neighbour_at stands_for is_sig value before (arcs_from before i) old k x are there
 
       abbrev pub arc : PureArc
       arc = next_arc.0
 
       arc_item : IsItem arc before.arcs
-      arc_item = (item_passed (λ (b : PureArc). b.tail == i) before.arcs arc (item_at (arcs_from before i) (length done) arc next_arc.1)).0
+      arc_item = (item_passed (λ (b : PureArc). b.tail == i) before.arcs arc (item_at (arcs_from before i) k arc next_arc.1)).0
+
+      -- it has an entry for each destination, of which both networks have the same
+      pub entries_before : length x.heard ≡ length net.dests
+      entries_before = next_arc.2.count ∙ ap (λ (z : PureNet). length z.dests) (sym same)
 
       number : x.arc.0 ≡ arc.id
       number = next_arc.2.arc
@@ -125,14 +119,14 @@ module _ {L S : Type 0} (stands_for : L → PureLabel → Type 0) (is_sig : S �
       next_stands = subst (λ z. slice_get before.arcs z ≡ Some arc) (sym number) (arc_stands before arc old_net arc_item)
 
       pub next_tail : arc.tail ≡ i
-      next_tail = tail_is before i (length done) arc next_arc.1
+      next_tail = tail_is before i k arc next_arc.1
 
-      here : (dest : ℕ) → heard_by value (done ++ x ∷ []) arc.id dest ≡ option_map (known_route value) (entry_of x.heard.items dest)
+      here : (dest : ℕ) → heard_by value (done ++ x ∷ []) arc.id dest ≡ option_map (known_route value) (entry_of x.heard dest)
       here dest =
           let test : (x.arc.0 == arc.id) ≡ true = (let e = number in grind (arith, nat_tests)) in
           heard_last value done x arc.id dest test (λ m f.
-          let first : find (λ (y : Neighbour L S). y.arc.0 == arc.id) old ≡ Some m = subst (λ z. find (λ (y : Neighbour L S). y.arc.0 == arc.id) z ≡ Some m) split (find_first (λ (y : Neighbour L S). y.arc.0 == arc.id) done (x ∷ left) m f) in
-          let found : find (λ (y : Neighbour L S). y.arc.0 == arc.id) old ≡ Some x = neighbour_found stands_for is_sig value before (arcs_from before i) old (length done) arc x are (ids_from_apart before i old_net.arc_ids) next_arc.1 there in
+          let first : find (λ (y : Listened L S). y.arc.0 == arc.id) old ≡ Some m = subst (λ z. find (λ (y : Listened L S). y.arc.0 == arc.id) z ≡ Some m) split (find_first (λ (y : Listened L S). y.arc.0 == arc.id) done (x ∷ left) m f) in
+          let found : find (λ (y : Listened L S). y.arc.0 == arc.id) old ≡ Some x = neighbour_found stands_for is_sig value before (arcs_from before i) old k arc x are (ids_from_apart before i old_net.arc_ids) next_arc.1 there in
           cc)
 
       elsewhere : (a dest : ℕ) → (x.arc.0 == a) ≡ false → heard_by value (done ++ x ∷ []) a dest ≡ heard_by value done a dest
@@ -171,7 +165,7 @@ module _ {L S : Type 0} (stands_for : L → PureLabel → Type 0) (is_sig : S �
 
       -- and where one joins them, the neighbour at it has heard what the next one said
       module _ (y : PureArc) (place : ℕ) (found : find (is_arc_between arc.tail arc.head) net.arcs ≡ Some y) (placed : slice_get (arcs_from net y.tail) place ≡ Some y)
-          (ns : List (Neighbour L S)) (now_are : AreNeighbours stands_for is_sig value net (arcs_from net i) ns) (m : Neighbour L S) (m_there : slice_get ns place ≡ Some m)
+          (ns : List (Listened L S)) (now_are : AreNeighbours stands_for is_sig value net (arcs_from net i) ns) (m : Listened L S) (m_there : slice_get ns place ≡ Some m)
         where
           joins : IsArcThere net arc.tail arc.head y
           joins = found_there net arc.tail arc.head y new_net found
@@ -185,7 +179,7 @@ module _ {L S : Type 0} (stands_for : L → PureLabel → Type 0) (is_sig : S �
               let one : is.0 ≡ y = (let e = sym is.1 ∙ placed_here in cc) in
               subst (λ z. IsNeighbour stands_for is_sig value net z m) one is.2
 
-          abbrev pub now : Neighbour L S
+          abbrev pub now : Listened L S
           now = record m { heard = x.heard }
 
           neighbour_now : IsNeighbour stands_for is_sig value net y now
@@ -210,7 +204,7 @@ module _ {L S : Type 0} (stands_for : L → PureLabel → Type 0) (is_sig : S �
               same_between = subst (λ z. find (is_arc_between z y.head) before.arcs ≡ Some arc) (sym joins.tail)
                   (subst (λ z. find (is_arc_between arc.tail z) before.arcs ≡ Some arc) (sym joins.head) (arc_is_found before arc old_net arc_item))
 
-              by : (b : Bool) → (a == y.id) ≡ b → cond b (option_map (known_route value) (entry_of x.heard.items dest)) (heard_by value ns a dest) ≡ heard_before before net (heard_by value (done ++ x ∷ [])) a dest
+              by : (b : Bool) → (a == y.id) ≡ b → cond b (option_map (known_route value) (entry_of x.heard dest)) (heard_by value ns a dest) ≡ heard_before before net (heard_by value (done ++ x ∷ [])) a dest
               by true e =
                   let place_is : a ≡ y.id = grind (arith, nat_tests) in
                   sym (rw (place_is, joins.stands, same_between) (here dest))
@@ -233,10 +227,14 @@ module _ {L S : Type 0} (stands_for : L → PureLabel → Type 0) (is_sig : S �
                           let place_is : a ≡ y.id = omega arith in
                           absurd (let here : (a == y.id) ≡ true = grind (arith, nat_tests) in cc)
 
+      -- the number of the arc that joins the nodes of the next neighbour's is one of the network's
+      pub id_within : (b : PureArc) (id : ℕ) → Some id ≡ position (is_arc_between b.tail b.head) net.arcs → id < length net.arcs
+      id_within b id between = (found_at_place (is_arc_between b.tail b.head) net.arcs id (sym between)).1
+
       -- the arc that joins the nodes of the next neighbour's, by its number, and the neighbour there
       module _ (b : PureArc) (b_stands : slice_get before.arcs x.arc.0 ≡ Some b) (id place : ℕ) (between : Some id ≡ position (is_arc_between b.tail b.head) net.arcs)
           (placed : IfSome (slice_get net.arcs id) (λ (w : PureArc). slice_get (arcs_from net w.tail) place ≡ Some w))
-          (ns : List (Neighbour L S)) (now_are : AreNeighbours stands_for is_sig value net (arcs_from net i) ns)
+          (ns : List (Listened L S)) (now_are : AreNeighbours stands_for is_sig value net (arcs_from net i) ns)
         where
           same_next : b ≡ arc
           same_next = let e = sym b_stands ∙ next_stands in cc
@@ -260,11 +258,17 @@ module _ {L S : Type 0} (stands_for : L → PureLabel → Type 0) (is_sig : S �
           place_within = subst (λ z. place < z) (as_many stands_for is_sig value net (arcs_from net i) ns now_are)
               (slice_get_within (arcs_from net i) place joined.0 (subst (λ z. slice_get (arcs_from net z) place ≡ Some joined.0) tail_here here_placed))
 
-          neighbour_there : (m : Neighbour L S) × (slice_get ns place ≡ Some m)
+          neighbour_there : (m : Listened L S) × (slice_get ns place ≡ Some m)
           neighbour_there = item_there ns place place_within
 
+          -- the neighbour there has an entry for each destination
+          pub entries_there : HasEntries place (length net.dests) ns
+          entries_there =
+              let is = neighbour_at stands_for is_sig value net (arcs_from net i) ns place neighbour_there.0 now_are neighbour_there.1 in
+              (neighbour_there.0, neighbour_there.1, is.2.count)
+
           -- what the neighbours are once the one at that place has heard all that
-          module _ (new : List (Neighbour L S)) (is : (n : Neighbour L S) → slice_get ns place ≡ Some n → new ≡ set ns place (record n { heard = x.heard })) where
+          module _ (new : List (Listened L S)) (is : (n : Listened L S) → slice_get ns place ≡ Some n → new ≡ set ns place (record n { heard = x.heard })) where
             pub still_neighbours : AreNeighbours stands_for is_sig value net (arcs_from net i) new
             still_neighbours = subst (AreNeighbours stands_for is_sig value net (arcs_from net i)) (sym (is neighbour_there.0 neighbour_there.1))
                 (neighbours_joined joined.0 place found here_placed ns now_are neighbour_there.0 neighbour_there.1)
@@ -281,12 +285,14 @@ module _ {L S : Type 0} (stands_for : L → PureLabel → Type 0) (is_sig : S �
         pub nothing_joins : find (is_arc_between arc.tail arc.head) net.arcs ≡ None
         nothing_joins = nothing_at_place (is_arc_between arc.tail arc.head) net.arcs (subst (λ (z : PureArc). position (is_arc_between z.tail z.head) net.arcs ≡ None) same_one (sym none))
 
-pub is_nothing : {X : Type 0} (xs : List X) → length xs ≡ 0 → xs ≡ []
-is_nothing [] e = refl
-is_nothing (x ∷ xs) e = absurd (omega arith)
-
 -- once all are done
-pub all_heard : {L S : Type 0} (value : S → PureValue) (before net : PureNet) (old done ns : List (Neighbour L S)) → done ++ [] ≡ old
-    → ((a dest : ℕ) → heard_by value ns a dest ≡ heard_before before net (heard_by value done) a dest) → heard_by value ns ≡ heard_before before net (heard_by value old)
-all_heard value before net old done ns e heard =
-    fun_ext (λ a. fun_ext (λ dest. heard a dest)) ∙ ap (λ z. heard_before before net (heard_by value z)) (sym (append_nothing done) ∙ e)
+pub all_heard : {L S : Type 0} (value : S → PureValue) (before net : PureNet) (old : List (Listened L S)) (k : ℕ) (ns : List (Listened L S)) → length old ≤ k
+    → ((a dest : ℕ) → heard_by value ns a dest ≡ heard_before before net (heard_by value (take k old)) a dest) → heard_by value ns ≡ heard_before before net (heard_by value old)
+all_heard value before net old k ns past heard =
+    fun_ext (λ a. fun_ext (λ dest. heard a dest)) ∙ ap (λ z. heard_before before net (heard_by value z)) (take_whole old k past)
+
+-- one more is done
+pub one_more : {X : Type 0} (P : List X → Type 0) (xs : List X) (k : ℕ) (x : X) → slice_get xs k ≡ Some x → P (take k xs ++ x ∷ []) → P (take (k + 1) xs)
+one_more P xs k x e p =
+    let next : suc k ≡ k + 1 = omega arith in
+    subst (λ z. P (take z xs)) next (subst P (sym (take_next xs k x e)) p)

@@ -21,11 +21,10 @@ use Rattle.net_graph.specs.Tables.{is_among}
 use Rattle.alg_model.specs.Application.{App}
 use Rattle.meta_base.specs.NodePaths.{numbers}
 use Rattle.net_graph.specs.RouteOrder.{not_better_trans, better_asymmetric}
-use Rattle.path_vector.specs.declared.neighbour.Neighbour.{Neighbour}
 use Rattle.path_vector.specs.declared.known.Known.{Known}
 use Rattle.std.specs.Borrow.{Bor}
 use Rattle.meta_base.specs.declared.ids.NodeId.{NodeId}
-use Rattle.path_vector.specs.Known.{better_of, entry_of, known_route, offered_route, placed, heard_by, IsNeighbour, AreNeighbours}
+use Rattle.path_vector.specs.Known.{better_of, entry_of, known_route, offered_route, placed, heard_by, IsNeighbour, AreNeighbours, MayOffer, Listened}
 
 -- ---- one more route
 
@@ -170,7 +169,7 @@ ids_apart n (a ∷ arcs) p are = by (p a) (ids_apart (n + 1) arcs p are.1)
 
 module _ {L S : Type 0} (stands_for : L → PureLabel → Type 0) (is_sig : S → Type 0) (value : S → PureValue) (net : PureNet) where
   -- the arc of a neighbour
-  pub neighbour_at : (arcs : List PureArc) (ns : List (Neighbour L S)) (k : ℕ) (n : Neighbour L S) → AreNeighbours stands_for is_sig value net arcs ns
+  pub neighbour_at : (arcs : List PureArc) (ns : List (Listened L S)) (k : ℕ) (n : Listened L S) → AreNeighbours stands_for is_sig value net arcs ns
       → slice_get ns k ≡ Some n → (a : PureArc) × (slice_get arcs k ≡ Some a) × IsNeighbour stands_for is_sig value net a n
   neighbour_at [] [] k n are e = absurd (cc)
   neighbour_at [] (m ∷ ns) k n are e = absurd are
@@ -181,8 +180,8 @@ module _ {L S : Type 0} (stands_for : L → PureLabel → Type 0) (is_sig : S �
   neighbour_at (a ∷ arcs) (m ∷ ns) (suc k) n are e = neighbour_at arcs ns k n are.1 e
 
   -- the neighbour at an arc is found by the arc's number
-  pub neighbour_found : (arcs : List PureArc) (ns : List (Neighbour L S)) (k : ℕ) (a : PureArc) (n : Neighbour L S) → AreNeighbours stands_for is_sig value net arcs ns
-      → AreDistinct (λ (a b : PureArc). a.id == b.id) arcs → slice_get arcs k ≡ Some a → slice_get ns k ≡ Some n → find (λ (m : Neighbour L S). m.arc.0 == a.id) ns ≡ Some n
+  pub neighbour_found : (arcs : List PureArc) (ns : List (Listened L S)) (k : ℕ) (a : PureArc) (n : Listened L S) → AreNeighbours stands_for is_sig value net arcs ns
+      → AreDistinct (λ (a b : PureArc). a.id == b.id) arcs → slice_get arcs k ≡ Some a → slice_get ns k ≡ Some n → find (λ (m : Listened L S). m.arc.0 == a.id) ns ≡ Some n
   neighbour_found [] ns k a n are apart e f = absurd (cc)
   neighbour_found (b ∷ arcs) [] k a n are apart e f = absurd are
   neighbour_found (b ∷ arcs) (m ∷ ns) zero a n are apart e f =
@@ -235,43 +234,43 @@ entry_inside {X = X} xs i x e = by (slice_get xs i) refl e
     by (Some z) f g = slice_get_within xs i z f
 
 -- what an arc offers, and the offers of the node's own origin and of the first arcs
-abbrev pub offered_on : {L S : Type 0} → (S → PureValue) → PureNet → ℕ → List (Neighbour L S) → PureArc → Option PureRoute
+abbrev pub offered_on : {L S : Type 0} → (S → PureValue) → PureNet → ℕ → List (Listened L S) → PureArc → Option PureRoute
 offered_on value net dest ns a = option_and_then (offer_by net a) (heard_by value ns a.id dest)
 
-abbrev pub firsts : {L S : Type 0} → (S → PureValue) → PureNet → ℕ → ℕ → List (Neighbour L S) → ℕ → List PureRoute
+abbrev pub firsts : {L S : Type 0} → (S → PureValue) → PureNet → ℕ → ℕ → List (Listened L S) → ℕ → List PureRoute
 firsts value net i dest ns k = own_offers net dest i ++ filter_map (offered_on value net dest ns) (take k (arcs_from net i))
 
 module _ {L S : Type 0} (stands_for : L → PureLabel → Type 0) (is_sig : S → Type 0) (value : S → PureValue) (net : PureNet) where
   -- what was heard on an arc may be its speaker's
-  pub heard_may_be : (arcs : List PureArc) (ns : List (Neighbour L S)) (b dest : ℕ) (r : PureRoute) → AreNeighbours stands_for is_sig value net arcs ns
+  pub heard_may_be : (arcs : List PureArc) (ns : List (Listened L S)) (b dest : ℕ) (r : PureRoute) → AreNeighbours stands_for is_sig value net arcs ns
       → heard_by value ns b dest ≡ Some r → (a : PureArc) × IsItem a arcs × (a.id ≡ b) × (may_be_of net a.head r ≡ true) × (dest < length net.dests)
   heard_may_be [] [] b dest r are e = absurd (cc)
   heard_may_be [] (n ∷ ns) b dest r are e = absurd are
   heard_may_be (a ∷ arcs) [] b dest r are e = absurd are
   heard_may_be (a ∷ arcs) (n ∷ ns) b dest r are e = by (n.arc.0 == b) refl e (λ f. heard_may_be arcs ns b dest r are.1 f)
     where
-      known : (o : Option (Known S)) → entry_of n.heard.items dest ≡ o → option_map (known_route value) o ≡ Some r → (may_be_of net a.head r ≡ true) × (dest < length net.dests)
+      known : (o : Option (Known S)) → entry_of n.heard dest ≡ o → option_map (known_route value) o ≡ Some r → (may_be_of net a.head r ≡ true) × (dest < length net.dests)
       known None f g = absurd (cc)
       known (Some k) f g =
           let same : known_route value k ≡ r = cc in
-          (subst (λ z. may_be_of net a.head z ≡ true) same (are.0.known dest k f).1, subst (λ z. dest < z) are.0.count (entry_inside n.heard.items dest k f))
+          (subst (λ z. may_be_of net a.head z ≡ true) same (are.0.known dest k f).1, subst (λ z. dest < z) are.0.count (entry_inside n.heard dest k f))
 
-      by : (t : Bool) → (n.arc.0 == b) ≡ t → option_and_then (λ (m : Neighbour L S). option_map (known_route value) (entry_of m.heard.items dest)) (cond t (Some n) (find (λ (m : Neighbour L S). m.arc.0 == b) ns)) ≡ Some r
+      by : (t : Bool) → (n.arc.0 == b) ≡ t → option_and_then (λ (m : Listened L S). option_map (known_route value) (entry_of m.heard dest)) (cond t (Some n) (find (λ (m : Listened L S). m.arc.0 == b) ns)) ≡ Some r
           → (heard_by value ns b dest ≡ Some r → (x : PureArc) × IsItem x arcs × (x.id ≡ b) × (may_be_of net x.head r ≡ true) × (dest < length net.dests))
           → (x : PureArc) × IsItem x (a ∷ arcs) × (x.id ≡ b) × (may_be_of net x.head r ≡ true) × (dest < length net.dests)
       by true f g more =
           let number = are.0.arc in
           let same : a.id ≡ b = grind (arith, nat_tests) in
-          (let k = known (entry_of n.heard.items dest) refl g in (a, inl refl, same, k.0, k.1))
+          (let k = known (entry_of n.heard dest) refl g in (a, inl refl, same, k.0, k.1))
       by false f g more = let found = more g in (found.0, inr found.1, found.2, found.3, found.4)
 
-  pub as_many : (arcs : List PureArc) (ns : List (Neighbour L S)) → AreNeighbours stands_for is_sig value net arcs ns → length arcs ≡ length ns
+  pub as_many : (arcs : List PureArc) (ns : List (Listened L S)) → AreNeighbours stands_for is_sig value net arcs ns → length arcs ≡ length ns
   as_many [] [] are = refl
   as_many [] (n ∷ ns) are = absurd are
   as_many (a ∷ arcs) [] are = absurd are
   as_many (a ∷ arcs) (n ∷ ns) are = ap (λ z. suc z) (as_many arcs ns are.1)
 
-  module _ (n : IsNet net) (i dest : ℕ) (ns : List (Neighbour L S)) (are : AreNeighbours stands_for is_sig value net (arcs_from net i) ns) where
+  module _ (n : IsNet net) (i dest : ℕ) (ns : List (Listened L S)) (are : AreNeighbours stands_for is_sig value net (arcs_from net i) ns) where
     heard_in : (a : PureArc) (r : PureRoute) → heard_by value ns a.id dest ≡ Some r → In (carrier net) r.value
     heard_in a r e =
         let found = heard_may_be (arcs_from net i) ns a.id dest r are e in
@@ -289,14 +288,14 @@ module _ {L S : Type 0} (stands_for : L → PureLabel → Type 0) (is_sig : S �
         all_in r (subst (λ z. IsItem r z) whole (item_left (firsts value net i dest ns k) (filter_map (offered_on value net dest ns) (drop k arcs)) r it))
 
     -- the best of the offers so far, with that of one more arc
-    pub best_next : (k : ℕ) (a : PureArc) (m : Neighbour L S) → slice_get (arcs_from net i) k ≡ Some a → slice_get ns k ≡ Some m
-        → best_of (carrier net) (firsts value net i dest ns (suc k)) ≡ better_of (carrier net) (best_of (carrier net) (firsts value net i dest ns k)) (option_and_then (offer_by net a) (option_map (known_route value) (entry_of m.heard.items dest)))
+    pub best_next : (k : ℕ) (a : PureArc) (m : Listened L S) → slice_get (arcs_from net i) k ≡ Some a → slice_get ns k ≡ Some m
+        → best_of (carrier net) (firsts value net i dest ns (suc k)) ≡ better_of (carrier net) (best_of (carrier net) (firsts value net i dest ns k)) (option_and_then (offer_by net a) (option_map (known_route value) (entry_of m.heard dest)))
     best_next k a m e f = rw (← on_arc) (by (offered_on value net dest ns a) refl)
       where
-        found : find (λ (x : Neighbour L S). x.arc.0 == a.id) ns ≡ Some m
+        found : find (λ (x : Listened L S). x.arc.0 == a.id) ns ≡ Some m
         found = neighbour_found stands_for is_sig value net (arcs_from net i) ns k a m are (ids_from_apart net i n.arc_ids) e f
 
-        on_arc : offered_on value net dest ns a ≡ option_and_then (offer_by net a) (option_map (known_route value) (entry_of m.heard.items dest))
+        on_arc : offered_on value net dest ns a ≡ option_and_then (offer_by net a) (option_map (known_route value) (entry_of m.heard dest))
         on_arc = rw found refl
 
         more : firsts value net i dest ns (suc k) ≡ firsts value net i dest ns k ++ filter_map (offered_on value net dest ns) (a ∷ [])
@@ -355,6 +354,14 @@ tail_is net i k a e =
 -- what stands at a place of the entries
 pub entry_is : {X : Type 0} (xs : List (Option X)) (i : ℕ) (x : Option X) → i < length xs → x ≡ get_or xs i x → entry_of xs i ≡ x
 entry_is xs i x l e = ap (λ z. option_and_then (λ y. y) z) (slice_get-get_or xs i x l) ∙ sym e
+
+-- what a neighbour is asked for, where its label and what was heard of it are read
+pub may_offer : {L S : Type 0} (stands_for : L → PureLabel → Type 0) (is_sig : S → Type 0) (value : S → PureValue) (net : PureNet) (a : PureArc) (n : Listened L S) (dest : ℕ) (l : L) (known : Option (Known S))
+    → IsNeighbour stands_for is_sig value net a n → l ≡ n.label → entry_of n.heard dest ≡ known → MayOffer stands_for is_sig value net a l known
+may_offer stands_for is_sig value net a n dest l known is e f = record {
+  label = rw e is.label;
+  route = λ x h. is.known dest x (f ∙ h);
+}
 
 -- what a label makes of a known route that doesn't pass the node is what the arc offers
 pub offers_known : {S : Type 0} (value : S → PureValue) (net : PureNet) (a : PureArc) (k : Known S) (node : ℕ) (p : List ℕ) (o : Option S) → a.tail ≡ node → p ≡ numbers k.path

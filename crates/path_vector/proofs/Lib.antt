@@ -2,12 +2,16 @@ pub mod Beginnings
 pub mod Bounds
 pub mod Carrying
 pub mod Choices
+pub mod Columns
 pub mod Hearings
 pub mod PathMarks
+pub mod Moving
 pub mod NodeRows
 pub mod Nodes
 pub mod Owns
 pub mod PathTests
 pub mod Rechoosings
 pub mod Settling
+pub mod Silence
+pub mod Stores
 pub mod Tellings

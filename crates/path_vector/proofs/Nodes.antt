@@ -15,8 +15,7 @@ use Rattle.net_graph.specs.Views.{pure_route}
 use Rattle.net_graph.specs.Routes.{PureRoute}
 use Rattle.node_core.specs.Machine.{changed_at}
 use Rattle.path_vector.specs.declared.known.Known.{Known}
-use Rattle.path_vector.specs.declared.neighbour.Neighbour.{Neighbour}
-use Rattle.path_vector.specs.Known.{AreNeighbours, entry_of, heard_by, known_route}
+use Rattle.path_vector.specs.Known.{AreNeighbours, entry_of, heard_by, known_route, Listened}
 use Rattle.path_vector.specs.Node.{Begin, PureUpdate, PvState, best_of, carried, choice, heard_before, heard_with, new_node, offers_to, same_row, taken, told_on}
 use Rattle.path_vector.specs.Nodes.{PureNode, heard_in, heard_lists, row_list, state_of}
 use Rattle.path_vector.specs.State.{IsKept, row_routes}
@@ -44,18 +43,18 @@ module _ {S : Type 0} (value : S → PureValue) where
       by d false = refl
 
 module _ {L S : Type 0} (value : S → PureValue) where
-  heard_entry : (ns : List (Neighbour L S)) (a dest : ℕ) → heard_in (heard_lists value ns) a dest ≡ heard_by value ns a dest
+  heard_entry : (ns : List (Listened L S)) (a dest : ℕ) → heard_in (heard_lists value ns) a dest ≡ heard_by value ns a dest
   heard_entry [] a dest = refl
   heard_entry (n ∷ ns) a dest = by (n.arc.0 == a) refl (heard_entry ns a dest)
     where
       by : (b : Bool) → (n.arc.0 == a) ≡ b → heard_in (heard_lists value ns) a dest ≡ heard_by value ns a dest → heard_in (heard_lists value (n ∷ ns)) a dest ≡ heard_by value (n ∷ ns) a dest
-      by true e more = rw e (entry_mapped (known_route value) n.heard.items dest)
+      by true e more = rw e (entry_mapped (known_route value) n.heard dest)
       by false e more = rw e more
 
-  pub heard_is : (ns : List (Neighbour L S)) → heard_in (heard_lists value ns) ≡ heard_by value ns
+  pub heard_is : (ns : List (Listened L S)) → heard_in (heard_lists value ns) ≡ heard_by value ns
   heard_is ns = fun_ext (λ a. fun_ext (λ dest. heard_entry ns a dest))
 
-  pub kept_with_row : (stands_for : L → PureLabel → Type 0) (is_sig : S → Type 0) (net : PureNet) (number : ℕ) (own : List (Option S)) (ns : List (Neighbour L S)) (rows : List (Option (Known S)))
+  pub kept_with_row : (stands_for : L → PureLabel → Type 0) (is_sig : S → Type 0) (net : PureNet) (number : ℕ) (own : List (Option S)) (ns : List (Listened L S)) (rows : List (Option (Known S)))
       (dest : ℕ) (row : Option (Known S)) → IsKept stands_for is_sig value net number own ns rows → dest < length rows → IfSome row (λ k. is_sig k.sig) → IsKept stands_for is_sig value net number own ns (set rows dest row)
   kept_with_row stands_for is_sig net number own ns rows dest row kept l sig =
       record {
@@ -75,7 +74,7 @@ module _ {L S : Type 0} (value : S → PureValue) where
 
 -- what a node keeps, on a network that differs in its arcs alone
 pub kept_on : {L S : Type 0} (stands_for : L → PureLabel → Type 0) (is_sig : S → Type 0) (value : S → PureValue) (old net : PureNet) → net ≡ record old { arcs = net.arcs } → (number : ℕ)
-    (own : List (Option S)) (ns new : List (Neighbour L S)) (rows : List (Option (Known S))) → IsKept stands_for is_sig value old number own ns rows
+    (own : List (Option S)) (ns new : List (Listened L S)) (rows : List (Option (Known S))) → IsKept stands_for is_sig value old number own ns rows
     → AreNeighbours stands_for is_sig value net (arcs_from net number) new → IsKept stands_for is_sig value net number own new rows
 kept_on stands_for is_sig value old net same number own ns new rows kept are = record {
   inside = subst (λ (z : PureNet). number < length z.nodes) (sym same) kept.inside;
@@ -160,7 +159,7 @@ state_with net before number begun heard rows last =
     }
 
 module _ {L S : Type 0} (value : S → PureValue) where
-  abbrev pub node_with : PureNet → Option PureNet → ℕ → Bool → List (Neighbour L S) → List (Option (Known S)) → ℕ → PureNode
+  abbrev pub node_with : PureNet → Option PureNet → ℕ → Bool → List (Listened L S) → List (Option (Known S)) → ℕ → PureNode
   node_with net before number begun ns rows last =
       record {
         net = net;
@@ -172,20 +171,20 @@ module _ {L S : Type 0} (value : S → PureValue) where
         last = last;
       }
 
-  pub state_is : (net : PureNet) (before : Option PureNet) (number : ℕ) (begun : Bool) (ns : List (Neighbour L S)) (rows : List (Option (Known S))) (last : ℕ)
+  pub state_is : (net : PureNet) (before : Option PureNet) (number : ℕ) (begun : Bool) (ns : List (Listened L S)) (rows : List (Option (Known S))) (last : ℕ)
       → state_of (node_with net before number begun ns rows last) ≡ state_with net before number begun (heard_by value ns) (row_routes value rows) last
   state_is net before number begun ns rows last =
       ap (λ h. state_with net before number begun h (entry_of (row_list value rows)) last) (heard_is value ns)
       ∙ ap (λ r. state_with net before number begun (heard_by value ns) r last) (rows_are value rows)
 
   -- a node that has heard as much is in the same state
-  pub same_heard : (net : PureNet) (before : Option PureNet) (number : ℕ) (begun : Bool) (ns new : List (Neighbour L S)) (rows : List (Option (Known S))) (last : ℕ) → heard_by value new ≡ heard_by value ns
+  pub same_heard : (net : PureNet) (before : Option PureNet) (number : ℕ) (begun : Bool) (ns new : List (Listened L S)) (rows : List (Option (Known S))) (last : ℕ) → heard_by value new ≡ heard_by value ns
       → state_of (node_with net before number begun new rows last) ≡ state_of (node_with net before number begun ns rows last)
   same_heard net before number begun ns new rows last e =
       state_is net before number begun new rows last ∙ ap (λ h. state_with net before number begun h (row_routes value rows) last) e ∙ sym (state_is net before number begun ns rows last)
 
   -- a node that heard nothing and has no rows is new
-  pub new_is : (net : PureNet) (number : ℕ) (ns : List (Neighbour L S)) (rows : List (Option (Known S))) → ((a dest : ℕ) → heard_by value ns a dest ≡ None) → ((dest : ℕ) → entry_of rows dest ≡ None)
+  pub new_is : (net : PureNet) (number : ℕ) (ns : List (Listened L S)) (rows : List (Option (Known S))) → ((a dest : ℕ) → heard_by value ns a dest ≡ None) → ((dest : ℕ) → entry_of rows dest ≡ None)
       → state_of (node_with net None number false ns rows 0) ≡ new_node net number
   new_is net number ns rows silent none =
       state_is net None number false ns rows 0
@@ -193,7 +192,7 @@ module _ {L S : Type 0} (value : S → PureValue) where
       ∙ ap (λ r. state_with net None number false (λ a dest. None) r 0) (fun_ext (λ dest. ap (option_map (known_route value)) (none dest)))
 
   -- a node with its rows that heard what it heard before is carried
-  pub carried_is : (old net : PureNet) (before : Option PureNet) (number : ℕ) (begun : Bool) (ns new : List (Neighbour L S)) (rows : List (Option (Known S))) (last : ℕ)
+  pub carried_is : (old net : PureNet) (before : Option PureNet) (number : ℕ) (begun : Bool) (ns new : List (Listened L S)) (rows : List (Option (Known S))) (last : ℕ)
       → heard_by value new ≡ heard_before old net (heard_by value ns)
       → state_of (node_with net (Some old) number false new rows 0) ≡ carried net (state_of (node_with old before number begun ns rows last))
   carried_is old net before number begun ns new rows last e =
@@ -201,14 +200,14 @@ module _ {L S : Type 0} (value : S → PureValue) where
       ∙ ap (carried net) (sym (state_is old before number begun ns rows last))
 
   -- a node with the rows that it chooses has begun
-  pub begun_is : (net : PureNet) (before : Option PureNet) (number : ℕ) (begun : Bool) (ns : List (Neighbour L S)) (rows new : List (Option (Known S))) (last : ℕ)
+  pub begun_is : (net : PureNet) (before : Option PureNet) (number : ℕ) (begun : Bool) (ns : List (Listened L S)) (rows new : List (Option (Known S))) (last : ℕ)
       → row_routes value new ≡ (λ dest. choice net dest number (heard_by value ns))
       → state_of (node_with net before number true ns new 0) ≡ (Begin (state_of (node_with net before number begun ns rows last))).0
   begun_is net before number begun ns rows new last e =
       state_is net before number true ns new 0 ∙ ap (λ r. state_with net before number true (heard_by value ns) r 0) e
       ∙ ap (λ s. (Begin s).0) (sym (state_is net before number begun ns rows last))
 
-  module _ (net : PureNet) (before : Option PureNet) (number : ℕ) (begun : Bool) (ns new : List (Neighbour L S)) (rows : List (Option (Known S))) (last : ℕ) (a : ℕ) (u : PureUpdate) (clock : ℕ)
+  module _ (net : PureNet) (before : Option PureNet) (number : ℕ) (begun : Bool) (ns new : List (Listened L S)) (rows : List (Option (Known S))) (last : ℕ) (a : ℕ) (u : PureUpdate) (clock : ℕ)
       (heard : heard_by value new ≡ heard_with (heard_by value ns) a u)
     where
       -- a node that heard an update, and has the row that it then chooses, has taken it

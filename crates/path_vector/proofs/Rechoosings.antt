@@ -9,11 +9,10 @@ use Rattle.net_graph.specs.Tables.{carrier}
 use Rattle.path_vector.specs.Choosing.{arc_stands, choice_may_be, may_be_parts}
 use Rattle.path_vector.specs.Delivering.{same_arcs}
 use Rattle.path_vector.specs.Items.{IsItem, item_passed}
-use Rattle.path_vector.specs.Known.{known_route, heard_by, AreNeighbours}
+use Rattle.path_vector.specs.Known.{known_route, heard_by, AreNeighbours, Listened}
 use Rattle.path_vector.specs.Node.{begins_with, choice, offer_by, may_be_of}
 use Rattle.path_vector.specs.Settling.{goes_by, is_worse, settled, Settles}
 use Rattle.path_vector.specs.declared.known.Known.{Known}
-use Rattle.path_vector.specs.declared.neighbour.Neighbour.{Neighbour}
 use Rattle.path_vector.proofs.Choices.{heard_may_be}
 use Rattle.path_vector.proofs.Settling.{MayBeHeard, choice_settles}
 
@@ -42,7 +41,7 @@ module _ (net : PureNet) (dest i : ℕ) (heard : ℕ → ℕ → Option PureRout
 -- ---- what was heard
 
 module _ {L S : Type 0} (stands_for : L → PureLabel → Type 0) (is_sig : S → Type 0) (value : S → PureValue) (net : PureNet) (n : IsNet net) (i : ℕ) where
-  heard_known : (dest : ℕ) (ns : List (Neighbour L S)) → AreNeighbours stands_for is_sig value net (arcs_from net i) ns
+  heard_known : (dest : ℕ) (ns : List (Listened L S)) → AreNeighbours stands_for is_sig value net (arcs_from net i) ns
       → (a : PureArc) (r : PureRoute) → IsItem a net.arcs → a.tail ≡ i → heard_by value ns a.id dest ≡ Some r → (dest < length net.dests) × (may_be_of net a.head r ≡ true)
   heard_known dest ns are a r item tail e =
       let found = heard_may_be stands_for is_sig value net (arcs_from net i) ns a.id dest r are e in
@@ -54,17 +53,17 @@ module _ {L S : Type 0} (stands_for : L → PureLabel → Type 0) (is_sig : S �
       same_number : (k : ℕ) → (k == k) ≡ true
       same_number k = grind (arith, nat_tests)
 
-  may_be_heard : (dest : ℕ) (ns : List (Neighbour L S)) → AreNeighbours stands_for is_sig value net (arcs_from net i) ns → MayBeHeard net dest i (heard_by value ns)
+  may_be_heard : (dest : ℕ) (ns : List (Listened L S)) → AreNeighbours stands_for is_sig value net (arcs_from net i) ns → MayBeHeard net dest i (heard_by value ns)
   may_be_heard dest ns are a r item tail e = (heard_known dest ns are a r item tail e).1
 
   -- a row that is the choice begins with the node
-  pub row_begins : (dest : ℕ) (ns : List (Neighbour L S)) → AreNeighbours stands_for is_sig value net (arcs_from net i) ns
+  pub row_begins : (dest : ℕ) (ns : List (Listened L S)) → AreNeighbours stands_for is_sig value net (arcs_from net i) ns
       → (row : Option (Known S)) → option_map (known_route value) row ≡ choice net dest i (heard_by value ns) → (k : Known S) → row ≡ Some k → begins_with i (known_route value k).path ≡ true
   row_begins dest ns are row e k f =
       (may_be_parts net i (known_route value k) (choice_may_be net n dest i (λ b. heard_by value ns b dest) (heard_known dest ns are) (known_route value k) (sym e ∙ ap (option_map (known_route value)) f)).1).begins
 
   -- once a route was heard on an arc, the row before and what the arc offers settle the choice
-  pub row_settles : (dest : ℕ) (ns new : List (Neighbour L S)) → AreNeighbours stands_for is_sig value net (arcs_from net i) ns → AreNeighbours stands_for is_sig value net (arcs_from net i) new
+  pub row_settles : (dest : ℕ) (ns new : List (Listened L S)) → AreNeighbours stands_for is_sig value net (arcs_from net i) ns → AreNeighbours stands_for is_sig value net (arcs_from net i) new
       → (a : PureArc) (b : ℕ) (route : Option PureRoute) → slice_get net.arcs b ≡ Some a → a.id ≡ b → a.tail ≡ i
       → heard_by value new ≡ (λ c d. cond (c == b && d == dest) route (heard_by value ns c d))
       → (row : Option PureRoute) → row ≡ choice net dest i (heard_by value ns) → Settles net dest i (heard_by value new) a row

@@ -3,12 +3,12 @@ use Rattle.std.specs.Prelude.{◌≡◌, ℕ, ◌==◌, Bool, true, false, List,
 use Rattle.std.proofs.Math.ListN.{set}
 use Rattle.std.specs.Borrow.{Bor}
 use Rattle.alg_model.specs.Expressions.{PureCarrier, PureValue, PureLabel}
+use Rattle.meta_base.specs.declared.ids.ArcId.{ArcId}
 use Rattle.meta_base.specs.declared.ids.NodeId.{NodeId}
 use Rattle.meta_base.specs.NodePaths.{numbers}
 use Rattle.net_graph.specs.Nets.{PureArc, PureNet}
 use Rattle.net_graph.specs.Routes.{PureRoute, is_better}
 use Rattle.path_vector.specs.declared.known.Known.{Known}
-use Rattle.path_vector.specs.declared.neighbour.Neighbour.{Neighbour}
 use Rattle.path_vector.specs.declared.offer.Offer.{Offer}
 use Rattle.path_vector.specs.Node.{may_be_of}
 
@@ -34,27 +34,38 @@ abbrev pub standing : {S : Type 0} → Bool → Option S → Option S
 standing true place = place
 standing false place = None
 
+-- a neighbour at an arc, and what was heard of it for each destination
+pub record Listened (L S : Type 0) : Type 0 where
+  pub arc : ArcId
+  pub label : L
+  pub heard : List (Option (Known S))
+
 -- the entry for a destination of what was heard, or of the rows
 abbrev pub entry_of : {X : Type 0} → List (Option X) → ℕ → Option X
 entry_of entries dest = option_and_then (λ x. x) (slice_get entries dest)
 
 module _ {L S : Type 0} (value : S → PureValue) where
   -- what was heard on an arc for a destination
-  abbrev pub heard_by : List (Neighbour L S) → ℕ → ℕ → Option PureRoute
-  heard_by neighbours a dest = option_and_then (λ (n : Neighbour L S). option_map (known_route value) (entry_of n.heard.items dest)) (find (λ (n : Neighbour L S). n.arc.0 == a) neighbours)
+  abbrev pub heard_by : List (Listened L S) → ℕ → ℕ → Option PureRoute
+  heard_by neighbours a dest = option_and_then (λ (n : Listened L S). option_map (known_route value) (entry_of n.heard dest)) (find (λ (n : Listened L S). n.arc.0 == a) neighbours)
 
 module _ {L S : Type 0} (stands_for : L → PureLabel → Type 0) (is_sig : S → Type 0) (value : S → PureValue) (net : PureNet) where
   -- the neighbour at an arc: the arc's label, and for each destination of the network a route that may be the
   -- speaker's, or none
-  pub record IsNeighbour (a : PureArc) (n : Neighbour L S) : Type 0 where
+  pub record IsNeighbour (a : PureArc) (n : Listened L S) : Type 0 where
     pub arc : n.arc.0 ≡ a.id
     pub label : stands_for n.label a.label
-    pub count : length n.heard.items ≡ length net.dests
-    pub known : (dest : ℕ) (k : Known S) → entry_of n.heard.items dest ≡ Some k
+    pub count : length n.heard ≡ length net.dests
+    pub known : (dest : ℕ) (k : Known S) → entry_of n.heard dest ≡ Some k
         → is_sig k.sig × (may_be_of net a.head (known_route value k) ≡ true)
 
+  -- the label is the arc's, and the route that was heard on it, if there is one, may be the speaker's
+  pub record MayOffer (a : PureArc) (l : L) (known : Option (Known S)) : Type 0 where
+    pub label : stands_for l a.label
+    pub route : (k : Known S) → known ≡ Some k → is_sig k.sig × (may_be_of net a.head (known_route value k) ≡ true)
+
   -- a neighbour for each of these arcs, in order
-  abbrev pub AreNeighbours : List PureArc → List (Neighbour L S) → Type 0
+  abbrev pub AreNeighbours : List PureArc → List (Listened L S) → Type 0
   AreNeighbours [] [] = Unit {0}
   AreNeighbours (a ∷ arcs) (n ∷ neighbours) = IsNeighbour a n × AreNeighbours arcs neighbours
   AreNeighbours [] (n ∷ neighbours) = ⊥
@@ -67,10 +78,10 @@ better_of c (Some b) None = Some b
 better_of c (Some b) (Some x) = cond (is_better c x b) (Some x) (Some b)
 
 -- the neighbour at a place has heard this for a destination, and had heard that
-pub record HasHeard {L S : Type 0} (dest : ℕ) (route earlier : Option (Known S)) (old : List (Neighbour L S)) (place : ℕ) (n : Neighbour L S) (new : List (Neighbour L S)) : Type 0 where
-  pub now : Neighbour L S
+pub record HasHeard {L S : Type 0} (dest : ℕ) (route earlier : Option (Known S)) (old : List (Listened L S)) (place : ℕ) (n : Listened L S) (new : List (Listened L S)) : Type 0 where
+  pub now : Listened L S
   pub at : new ≡ set old place now
   pub arc : now.arc ≡ n.arc
   pub label : now.label ≡ n.label
-  pub heard : now.heard.items ≡ set n.heard.items dest route
-  pub was : entry_of n.heard.items dest ≡ earlier
+  pub heard : now.heard ≡ set n.heard dest route
+  pub was : entry_of n.heard dest ≡ earlier

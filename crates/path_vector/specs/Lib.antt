@@ -2,6 +2,7 @@ pub mod Beginning
 pub mod Changes
 pub mod Choosing
 pub mod Coherent
+pub mod Columns
 pub mod Delivering
 pub mod Items
 pub mod Known

@@ -7,8 +7,7 @@ use Rattle.net_graph.specs.Codes.{coded_net}
 use Rattle.net_graph.specs.Nets.{PureNet, IsNet}
 use Rattle.net_graph.specs.Routes.{PureRoute}
 use Rattle.path_vector.specs.declared.known.Known.{Known}
-use Rattle.path_vector.specs.declared.neighbour.Neighbour.{Neighbour}
-use Rattle.path_vector.specs.Known.{known_route, entry_of, heard_by}
+use Rattle.path_vector.specs.Known.{known_route, entry_of, heard_by, Listened}
 use Rattle.path_vector.specs.Node.{PvState, choice}
 use Rattle.path_vector.specs.State.{IsKept, row_routes}
 
@@ -41,12 +40,12 @@ state_of n =
 abbrev pub row_list : {S : Type 0} → (S → PureValue) → List (Option (Known S)) → List (Option PureRoute)
 row_list value rows = map (option_map (known_route value)) rows
 
-abbrev pub heard_lists : {L S : Type 0} → (S → PureValue) → List (Neighbour L S) → List (ℕ × List (Option PureRoute))
-heard_lists value neighbours = map (λ (n : Neighbour _ _). (n.arc.0, row_list value n.heard.items)) neighbours
+abbrev pub heard_lists : {L S : Type 0} → (S → PureValue) → List (Listened L S) → List (ℕ × List (Option PureRoute))
+heard_lists value neighbours = map (λ (n : Listened _ _). (n.arc.0, row_list value n.heard)) neighbours
 
 -- a node of a network that keeps its rules, over the network's algebra; once it is begun, its rows are its choices
 pub record IsNodeOf {L S : Type 0} (stands_for : L → PureLabel → Type 0) (is_sig : S → Type 0) (value : S → PureValue) (expression : Expression) (net : PureNet) (number : ℕ) (is_begun : Bool)
-    (own : List (Option S)) (ns : List (Neighbour L S)) (rows : List (Option (Known S))) : Type 0 where
+    (own : List (Option S)) (ns : List (Listened L S)) (rows : List (Option (Known S))) : Type 0 where
   pub algebra : expression ≡ net.alg.expression
   pub is_net : IsNet net
   pub kept : IsKept stands_for is_sig value net number own ns rows

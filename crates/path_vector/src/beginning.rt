@@ -7,8 +7,8 @@ ghost use Rattle.path_vector.specs.State.{IsKept, row_routes};
 ghost use Rattle.path_vector.specs.Updates.{noted};
 
 use crate::choosing::choose;
+use crate::heard::Heard;
 use crate::known::Known;
-use crate::neighbour::Neighbour;
 use crate::rechoosing::{is_same_row, update_of};
 use crate::telling::tell_begun;
 use crate::update::Update;
@@ -26,7 +26,7 @@ pub(crate) fn begun_rows<A: Algebra>(
     before: Option<&Net>,
     node: NodeId,
     own: &[Option<A::Sig>],
-    neighbours: &[Neighbour<A::Lab, A::Sig>],
+    neighbours: &Heard<A::Lab, A::Sig>,
     rows: &[Option<Known<A::Sig>>],
 ) -> Result<(Vec<Option<Known<A::Sig>>>, Outgoing<Update>), NoMemory>
     requires algebra { A.expression algebra.now ≡ net.now.alg.expression }

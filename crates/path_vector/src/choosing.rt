@@ -3,8 +3,8 @@ ghost use Rattle.net_graph.specs.Nets.{IsNet, arcs_from, origin_value};
 ghost use Rattle.path_vector.specs.Known.{known_route, offered_route, heard_by, AreNeighbours};
 ghost use Rattle.path_vector.specs.Node.{choice};
 
+use crate::heard::Heard;
 use crate::known::Known;
-use crate::neighbour::Neighbour;
 use crate::offer::{Offer, keep_better, offer_into, taken_by};
 use alg_model::Algebra;
 use meta_base::{DestId, NoMemory, NodeId};
@@ -40,7 +40,7 @@ pub(crate) fn choose<A: Algebra>(
     net: &Net,
     node: NodeId,
     own: &Option<A::Sig>,
-    neighbours: &[Neighbour<A::Lab, A::Sig>],
+    neighbours: &Heard<A::Lab, A::Sig>,
     dest: DestId,
     spare: &mut Option<A::Sig>,
 ) -> Result<Option<Known<A::Sig>>, NoMemory>
@@ -56,8 +56,10 @@ pub(crate) fn choose<A: Algebra>(
         choice net.now dest.0 node.0 (heard_by value neighbours.now)) }
 {
     let mut best = own_offer(alloc, algebra, own)?;
-    for neighbour in neighbours {
-        let behind = offer_into(alloc, algebra, net, node, neighbour, dest, spare)?;
+    for place in 0..neighbours.count() {
+        let label = &neighbours.neighbour(place).label;
+        let known = neighbours.route(place, dest.0 as usize);
+        let behind = offer_into(alloc, algebra, net, node, label, known, spare)?;
         keep_better(algebra, &mut best, behind, spare);
     }
     match best {

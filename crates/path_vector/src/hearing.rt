@@ -1,17 +1,16 @@
 ghost use Rattle.std.specs.Prelude.{◌≡◌, ◌<◌, Some, IfOk, IfSome, OnErr, OnOk, true, length, option_map, slice_get};
-ghost use Rattle.path_vector.specs.declared.neighbour.Neighbour.{Neighbour};
 ghost use Rattle.alg_model.specs.Carriers.{carrier_of, In};
 ghost use Rattle.alg_model.specs.Views.{pure_value};
 ghost use Rattle.net_graph.specs.Nets.{PureArc, IsNet};
 ghost use Rattle.path_vector.specs.Changes.{HasSigs, IsChange};
-ghost use Rattle.path_vector.specs.Known.{known_route, heard_by, HasHeard};
+ghost use Rattle.path_vector.specs.Known.{known_route, heard_by};
 ghost use Rattle.path_vector.specs.Node.{choice, heard_with};
 ghost use Rattle.path_vector.specs.State.{IsKept, row_routes};
 ghost use Rattle.path_vector.specs.Updates.{pure_shared, pure_update};
 ghost use Rattle.path_vector.specs.Words.{fits_on};
 
+use crate::heard::Heard;
 use crate::known::{Known, known_of};
-use crate::neighbour::Neighbour;
 use crate::rechoosing::{Change, rechoose};
 use crate::shared::Shared;
 use crate::update::{SharedRoute, Update};
@@ -37,21 +36,6 @@ fn heard_route<A: Algebra>(
     }
 }
 
-// Lets the neighbour at a place hear a route, or that there is none, and gives what was heard before.
-fn hear_at<L, S>(
-    neighbours: &mut Vec<Neighbour<L, S>>,
-    place: usize,
-    dest: usize,
-    route: Option<Known<S>>,
-) -> Option<Known<S>>
-    requires place { (n : Neighbour L S) × (slice_get neighbours.old.items place ≡ Some n)
-        × (dest < length n.heard.items) }
-    ensures { (n : Neighbour L S) → slice_get neighbours.old.items place ≡ Some n →
-        HasHeard dest route result neighbours.old.items place n neighbours.new.items }
-{
-    neighbours[place].hear(dest, route)
-}
-
 // Hears an update that came on the arc, and gives the change of the row for the destination, which was the node's
 // choice before. After want of memory what was heard is as it was.
 pub(crate) fn hear<A: Algebra>(
@@ -60,7 +44,7 @@ pub(crate) fn hear<A: Algebra>(
     net: &Net,
     node: NodeId,
     own: &[Option<A::Sig>],
-    neighbours: &mut Vec<Neighbour<A::Lab, A::Sig>>,
+    neighbours: &mut Heard<A::Lab, A::Sig>,
     rows: &[Option<Known<A::Sig>>],
     arc: ArcId,
     update: &Update,
@@ -70,27 +54,27 @@ pub(crate) fn hear<A: Algebra>(
     requires algebra { A.expression algebra.now ≡ net.now.alg.expression }
     requires net { IsNet net.now }
     requires kept { IsKept (A.stands_for algebra.now) (A.is_sig algebra.now) (A.sig_value algebra.now)
-        net.now node.0 own.now neighbours.old.items rows.now }
+        net.now node.0 own.now neighbours.old rows.now }
     requires fits { (a : PureArc) × (slice_get net.now.arcs arc.0 ≡ Some a) × (a.tail ≡ node.0)
         × (fits_on net.now a (pure_update update.now) ≡ true) }
     requires chosen { let value = A.sig_value algebra.now in row_routes value rows.now update.now.dest.0 ≡
-        choice net.now update.now.dest.0 node.0 (heard_by value neighbours.old.items) }
+        choice net.now update.now.dest.0 node.0 (heard_by value neighbours.old) }
     ensures sig { IfOk result (λ change. HasSigs (A.is_sig algebra.now) change) }
     ensures kept { IsKept (A.stands_for algebra.now) (A.is_sig algebra.now) (A.sig_value algebra.now)
-        net.now node.0 own.now neighbours.new.items rows.now }
+        net.now node.0 own.now neighbours.new rows.now }
     ensures err { let value = A.sig_value algebra.now in
-        OnErr result (heard_by value neighbours.new.items ≡ heard_by value neighbours.old.items) }
-    ensures heard { let value = A.sig_value algebra.now in OnOk result (heard_by value neighbours.new.items ≡
-        heard_with (heard_by value neighbours.old.items) arc.0 (pure_update update.now)) }
+        OnErr result (heard_by value neighbours.new ≡ heard_by value neighbours.old) }
+    ensures heard { let value = A.sig_value algebra.now in OnOk result (heard_by value neighbours.new ≡
+        heard_with (heard_by value neighbours.old) arc.0 (pure_update update.now)) }
     ensures change { let value = A.sig_value algebra.now in
         IfOk result (IsChange value net.now node.0 update.now.dest.0 clock
         (row_routes value rows.now update.now.dest.0)
-        (choice net.now update.now.dest.0 node.0 (heard_by value neighbours.new.items))) }
+        (choice net.now update.now.dest.0 node.0 (heard_by value neighbours.new))) }
 {
     let dest = update.dest.0 as usize;
     let place = net.place_of(arc);
     let route = heard_route(alloc, algebra, &update.route)?;
-    let earlier = hear_at(neighbours, place, dest, route);
+    let earlier = neighbours.hear(place, dest, route);
     match rechoose(
         alloc,
         algebra,
@@ -106,7 +90,7 @@ pub(crate) fn hear<A: Algebra>(
     ) {
         Ok(change) => Ok(change),
         Err(refusal) => {
-            hear_at(neighbours, place, dest, earlier);
+            neighbours.hear(place, dest, earlier);
             Err(refusal)
         }
     }

@@ -5,6 +5,7 @@
 mod beginning;
 mod choosing;
 mod fitting;
+mod heard;
 mod hearing;
 mod known;
 mod laws;

@@ -11,10 +11,10 @@ ghost use Rattle.path_vector.specs.Words.{fits_on};
 
 use crate::beginning::begun_rows;
 use crate::fitting::fits;
+use crate::heard::{Heard, no_entries};
 use crate::hearing::hear;
 use crate::known::{Known, route_of};
-use crate::neighbour::Neighbour;
-use crate::neighbours::{carried_neighbours, no_entries, silent_neighbours};
+use crate::neighbours::{carried_neighbours, silent_neighbours};
 use crate::own::own_sigs;
 use crate::update::Update;
 use alg_model::Algebra;
@@ -38,7 +38,7 @@ pub struct PvNode<'a, A: Algebra> {
     is_begun: bool,
     // The values of its own origins, its neighbours in the order of their arcs, and its rows, by destination.
     own: Vec<Option<A::Sig>>,
-    neighbours: Vec<Neighbour<A::Lab, A::Sig>>,
+    neighbours: Heard<A::Lab, A::Sig>,
     rows: Vec<Option<Known<A::Sig>>>,
     last: u64,
     // A value that is no longer wanted, in whose memory offers are made.
@@ -58,14 +58,14 @@ impl<'a, A: Algebra> Model for PvNode<'a, A> {
       before = option_map (λ m. m.now) n.before;
       number = n.number.0;
       is_begun = n.is_begun;
-      heard = heard_lists (A.sig_value n.algebra.now) n.neighbours.items;
+      heard = heard_lists (A.sig_value n.algebra.now) n.neighbours;
       rows = row_list (A.sig_value n.algebra.now) n.rows.items;
       last = n.last;
     } };
 
     ghost invariant = { λ n. IsNodeOf (A.stands_for n.algebra.now) (A.is_sig n.algebra.now)
         (A.sig_value n.algebra.now) (A.expression n.algebra.now) n.net.now n.number.0 n.is_begun
-        n.own.items n.neighbours.items n.rows.items };
+        n.own.items n.neighbours n.rows.items };
 }
 
 impl<'a, A: Algebra> PvNode<'a, A> {

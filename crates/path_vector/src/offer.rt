@@ -6,16 +6,15 @@ ghost use Rattle.alg_model.specs.Carriers.{carrier_of};
 ghost use Rattle.alg_model.specs.Expressions.{PureLabel};
 ghost use Rattle.net_graph.specs.Nets.{PureArc, PureNet, IsNet};
 ghost use Rattle.net_graph.specs.Routes.{is_better};
-ghost use Rattle.path_vector.specs.Known.{entry_of, known_route, offered_route, placed, standing, route_through};
-ghost use Rattle.path_vector.specs.Known.{better_of, IsNeighbour};
+ghost use Rattle.path_vector.specs.Known.{known_route, offered_route, placed, standing, route_through};
+ghost use Rattle.path_vector.specs.Known.{better_of, MayOffer};
 ghost use Rattle.path_vector.specs.Node.{offer_by};
 
 use crate::known::Known;
-use crate::neighbour::Neighbour;
 use crate::paths::passes;
 use crate::shared::Shared;
 use alg_model::Algebra;
-use meta_base::{DestId, List, NoMemory, NodeId};
+use meta_base::{List, NoMemory, NodeId};
 use net_graph::Net;
 use path_store::compare;
 use std::alloc::Global;
@@ -55,36 +54,35 @@ fn image_into<A: Algebra>(
     Ok(place.is_some())
 }
 
-// What the neighbour offers the node for a destination, if what was heard of it makes a route: its value is put into
+// What a neighbour offers the node by the label of its arc, if what was heard of it makes a route: its value is put into
 // `place`, and what lies behind the node on its path is lent.
 pub(crate) fn offer_into<'p, A: Algebra>(
     alloc: Global,
     algebra: &A,
     net: &Net,
     node: NodeId,
-    neighbour: &'p Neighbour<A::Lab, A::Sig>,
-    dest: DestId,
+    label: &A::Lab,
+    known: &'p Option<Known<A::Sig>>,
     place: &mut Option<A::Sig>,
 ) -> Result<Option<&'p [NodeId]>, NoMemory>
     requires algebra { A.expression algebra.now ≡ net.now.alg.expression }
     requires net { IsNet net.now }
-    requires dest { dest.0 < length net.now.dests }
-    requires neighbour { (a : PureArc) × IsNeighbour (A.stands_for algebra.now) (A.is_sig algebra.now)
-        (A.sig_value algebra.now) net.now a neighbour.now }
+    requires said { (a : PureArc) × MayOffer (A.stands_for algebra.now) (A.is_sig algebra.now)
+        (A.sig_value algebra.now) net.now a label.now known.now }
     ensures sig { IfOk result (λ behind. IfSome (placed behind place.new) (λ o. A.is_sig algebra.now o.sig)) }
-    ensures offer { (a : PureArc) → a.tail ≡ node.0 → IsNeighbour (A.stands_for algebra.now)
-        (A.is_sig algebra.now) (A.sig_value algebra.now) net.now a neighbour.now →
+    ensures offer { (a : PureArc) → a.tail ≡ node.0 → MayOffer (A.stands_for algebra.now)
+        (A.is_sig algebra.now) (A.sig_value algebra.now) net.now a label.now known.now →
         let value = A.sig_value algebra.now in IfOk result (λ behind.
-        option_map (offered_route value node.0) (placed behind place.new) ≡ option_and_then (offer_by net.now a)
-        (option_map (known_route value) (entry_of neighbour.now.heard.items dest.0))) }
+        option_map (offered_route value node.0) (placed behind place.new) ≡
+        option_and_then (offer_by net.now a) (option_map (known_route value) known.now)) }
 {
-    let Some(known) = &neighbour.heard[dest.0 as usize] else {
+    let Some(known) = known else {
         return Ok(None);
     };
     if passes(known.path.as_slice(), node) {
         return Ok(None);
     }
-    if image_into(alloc, algebra, &neighbour.label, &known.sig, place)? {
+    if image_into(alloc, algebra, label, &known.sig, place)? {
         return Ok(Some(known.path.as_slice()));
     }
     Ok(None)

@@ -9,8 +9,8 @@ ghost use Rattle.path_vector.specs.Settling.{goes_by, is_worse, Settles};
 ghost use Rattle.path_vector.specs.Updates.{pure_update};
 
 use crate::choosing::choose;
+use crate::heard::Heard;
 use crate::known::{Known, are_same, told_of};
-use crate::neighbour::Neighbour;
 use crate::offer::{is_first, offer_into, take_offer, taken_by};
 use crate::paths::{behind, is_second};
 use crate::telling::told;
@@ -137,7 +137,7 @@ pub(crate) fn rechoose<A: Algebra>(
     net: &Net,
     node: NodeId,
     own: &Option<A::Sig>,
-    neighbours: &[Neighbour<A::Lab, A::Sig>],
+    neighbours: &Heard<A::Lab, A::Sig>,
     before: &Option<Known<A::Sig>>,
     arc: ArcId,
     dest: DestId,
@@ -162,8 +162,10 @@ pub(crate) fn rechoose<A: Algebra>(
         IfOk result (IsChange value net.now node.0 dest.0 clock (option_map (known_route value) before.now)
         (choice net.now dest.0 node.0 (heard_by value neighbours.now))) }
 {
-    let neighbour = &neighbours[net.place_of(arc)];
-    let behind_offer = offer_into(alloc, algebra, net, node, neighbour, dest, spare)?;
+    let place = net.place_of(arc);
+    let label = &neighbours.neighbour(place).label;
+    let known = neighbours.route(place, dest.0 as usize);
+    let behind_offer = offer_into(alloc, algebra, net, node, label, known, spare)?;
     if is_worse(algebra, node, behind_offer, spare, before) {
         if !goes_by(algebra, before, net.arc(arc).head) {
             return Ok(None);

@@ -20,27 +20,27 @@ heard_route-requires g c =
     let net = c.args.net.now in
     let i = c.args.node.0 in
     let kept = c.requires.kept in
-    let ns = c.args.neighbours.now.items in
+    let ns = c.args.neighbours.now in
     let update = c.args.update.now in
     let dest = update.dest.0 in
     let a = c.requires.fits.0 in
     let parts = fits_parts net a (pure_update update) c.requires.fits.3 in
     some_holds _ update.route (λ r e. rw c.requires.algebra (may_be_parts net a.head (pure_shared r) (parts.1 (pure_shared r) (ap (option_map pure_shared) e))).value_in)
 
-pub hear_at-earlier-requires : goal.hear_at-earlier-requires
-hear_at-earlier-requires g c =
+pub hear-earlier-requires : goal.hear-earlier-requires
+hear-earlier-requires g c =
     let A = g.A.Algebra in
     let s = c.args.algebra.now in
     let value = A.sig_value s in
     let net = c.args.net.now in
     let i = c.args.node.0 in
     let kept = c.requires.kept in
-    let ns = c.args.neighbours.now.items in
+    let ns = c.args.neighbours.now in
     let update = c.args.update.now in
     let dest = update.dest.0 in
     let a = c.requires.fits.0 in
     let parts = fits_parts net a (pure_update update) c.requires.fits.3 in
-    record { place = neighbour_there (A.stands_for s) (A.is_sig s) value net i c.requires.net ns kept.neighbours c.args.arc.0 c.place_of-place.result dest a c.requires.fits.1 c.requires.fits.2 c.place_of-place.ensures parts.0 }
+    neighbour_there (A.stands_for s) (A.is_sig s) value net i c.requires.net ns kept.neighbours c.args.arc.0 c.place_of-place.result dest a c.requires.fits.1 c.requires.fits.2 c.place_of-place.ensures parts.0
 
 pub rechoose-requires-clause-own : goal.rechoose-requires-clause-own
 rechoose-requires-clause-own g c =
@@ -50,7 +50,7 @@ rechoose-requires-clause-own g c =
     let net = c.args.net.now in
     let i = c.args.node.0 in
     let kept = c.requires.kept in
-    let ns = c.args.neighbours.now.items in
+    let ns = c.args.neighbours.now in
     let update = c.args.update.now in
     let dest = update.dest.0 in
     let a = c.requires.fits.0 in
@@ -67,7 +67,7 @@ rechoose-requires-clause-origin g c =
     let net = c.args.net.now in
     let i = c.args.node.0 in
     let kept = c.requires.kept in
-    let ns = c.args.neighbours.now.items in
+    let ns = c.args.neighbours.now in
     let update = c.args.update.now in
     let dest = update.dest.0 in
     let a = c.requires.fits.0 in
@@ -84,17 +84,17 @@ rechoose-requires-clause-neighbours g c =
     let net = c.args.net.now in
     let i = c.args.node.0 in
     let kept = c.requires.kept in
-    let ns = c.args.neighbours.now.items in
+    let ns = c.args.neighbours.now in
     let update = c.args.update.now in
     let dest = update.dest.0 in
     let a = c.requires.fits.0 in
     let parts = fits_parts net a (pure_update update) c.requires.fits.3 in
     let there = neighbour_there (A.stands_for s) (A.is_sig s) value net i c.requires.net ns kept.neighbours c.args.arc.0 c.place_of-place.result dest a c.requires.fits.1 c.requires.fits.2 c.place_of-place.ensures parts.0 in
     let route = c.in_ok-route.route in
-    let now = c.hear_at-earlier.new.neighbours.items in
-    let has = c.hear_at-earlier.ensures there.0 there.1 in
+    let now = c.hear-earlier.new.self in
+    let has = c.hear-earlier.ensures there.0 there.1 in
     let fit = known_fits (A.is_sig s) value net a route (option_map pure_shared update.route) c.in_ok-route.ensures.sig c.in_ok-route.ensures.route parts.1 in
-    rw c.deref.ensures.value (still_neighbours (A.stands_for s) (A.is_sig s) value net i c.requires.net ns kept.neighbours c.args.arc.0 c.place_of-place.result dest a c.requires.fits.1 c.requires.fits.2 c.place_of-place.ensures parts.0 route c.hear_at-earlier.result now has fit)
+    (still_neighbours (A.stands_for s) (A.is_sig s) value net i c.requires.net ns kept.neighbours c.args.arc.0 c.place_of-place.result dest a c.requires.fits.1 c.requires.fits.2 c.place_of-place.ensures parts.0 route c.hear-earlier.result now has fit)
 
 pub rechoose-requires-clause-before : goal.rechoose-requires-clause-before
 rechoose-requires-clause-before g c =
@@ -104,7 +104,7 @@ rechoose-requires-clause-before g c =
     let net = c.args.net.now in
     let i = c.args.node.0 in
     let kept = c.requires.kept in
-    let ns = c.args.neighbours.now.items in
+    let ns = c.args.neighbours.now in
     let update = c.args.update.now in
     let dest = update.dest.0 in
     let a = c.requires.fits.0 in
@@ -121,7 +121,7 @@ rechoose-requires-clause-begins g c =
     let net = c.args.net.now in
     let i = c.args.node.0 in
     let kept = c.requires.kept in
-    let ns = c.args.neighbours.now.items in
+    let ns = c.args.neighbours.now in
     let update = c.args.update.now in
     let dest = update.dest.0 in
     let a = c.requires.fits.0 in
@@ -138,22 +138,21 @@ rechoose-requires-clause-settles g c =
     let net = c.args.net.now in
     let i = c.args.node.0 in
     let kept = c.requires.kept in
-    let ns = c.args.neighbours.now.items in
+    let ns = c.args.neighbours.now in
     let update = c.args.update.now in
     let dest = update.dest.0 in
     let a = c.requires.fits.0 in
     let parts = fits_parts net a (pure_update update) c.requires.fits.3 in
     let there = neighbour_there (A.stands_for s) (A.is_sig s) value net i c.requires.net ns kept.neighbours c.args.arc.0 c.place_of-place.result dest a c.requires.fits.1 c.requires.fits.2 c.place_of-place.ensures parts.0 in
     let route = c.in_ok-route.route in
-    let now = c.hear_at-earlier.new.neighbours.items in
-    let has = c.hear_at-earlier.ensures there.0 there.1 in
+    let now = c.hear-earlier.new.self in
+    let has = c.hear-earlier.ensures there.0 there.1 in
     let fit = known_fits (A.is_sig s) value net a route (option_map pure_shared update.route) c.in_ok-route.ensures.sig c.in_ok-route.ensures.route parts.1 in
-    let are = still_neighbours (A.stands_for s) (A.is_sig s) value net i c.requires.net ns kept.neighbours c.args.arc.0 c.place_of-place.result dest a c.requires.fits.1 c.requires.fits.2 c.place_of-place.ensures parts.0 route c.hear_at-earlier.result now has fit in
-    let heard = heard_now (A.stands_for s) (A.is_sig s) value net i c.requires.net ns kept.neighbours c.args.arc.0 c.place_of-place.result dest a c.requires.fits.1 c.requires.fits.2 c.place_of-place.ensures parts.0 route c.hear_at-earlier.result now has in
+    let are = still_neighbours (A.stands_for s) (A.is_sig s) value net i c.requires.net ns kept.neighbours c.args.arc.0 c.place_of-place.result dest a c.requires.fits.1 c.requires.fits.2 c.place_of-place.ensures parts.0 route c.hear-earlier.result now has fit in
+    let heard = heard_now (A.stands_for s) (A.is_sig s) value net i c.requires.net ns kept.neighbours c.args.arc.0 c.place_of-place.result dest a c.requires.fits.1 c.requires.fits.2 c.place_of-place.ensures parts.0 route c.hear-earlier.result now has in
     let id = number (A.stands_for s) (A.is_sig s) value net i c.requires.net ns kept.neighbours c.args.arc.0 c.place_of-place.result dest a c.requires.fits.1 c.requires.fits.2 c.place_of-place.ensures parts.0 in
     let inside_rows : dest < length c.args.rows.now = subst (λ z. dest < z) (sym kept.row_count) parts.0 in
-    let row = entry_is c.args.rows.now dest c.index-rows-dest.result inside_rows c.index-rows-dest.is in
-    rw c.deref.ensures.value (
+    let row = entry_is c.args.rows.now dest c.index-rows-dest.result inside_rows c.index-rows-dest.is in (
       a,
       c.requires.fits.1,
       c.requires.fits.2,
@@ -161,27 +160,27 @@ rechoose-requires-clause-settles g c =
           (option_map (known_route value) c.index-rows-dest.result) (ap (option_map (known_route value)) (sym row) ∙ c.requires.chosen),
     )
 
-pub hear_at-requires : goal.hear_at-requires
-hear_at-requires g c =
+pub hear-requires : goal.hear-requires
+hear-requires g c =
     let A = g.A.Algebra in
     let s = c.args.algebra.now in
     let value = A.sig_value s in
     let net = c.args.net.now in
     let i = c.args.node.0 in
     let kept = c.requires.kept in
-    let ns = c.args.neighbours.now.items in
+    let ns = c.args.neighbours.now in
     let update = c.args.update.now in
     let dest = update.dest.0 in
     let a = c.requires.fits.0 in
     let parts = fits_parts net a (pure_update update) c.requires.fits.3 in
     let there = neighbour_there (A.stands_for s) (A.is_sig s) value net i c.requires.net ns kept.neighbours c.args.arc.0 c.place_of-place.result dest a c.requires.fits.1 c.requires.fits.2 c.place_of-place.ensures parts.0 in
     let route = c.in_ok-route.route in
-    let now = c.hear_at-earlier.new.neighbours.items in
-    let has = c.hear_at-earlier.ensures there.0 there.1 in
+    let now = c.hear-earlier.new.self in
+    let has = c.hear-earlier.ensures there.0 there.1 in
     let fit = known_fits (A.is_sig s) value net a route (option_map pure_shared update.route) c.in_ok-route.ensures.sig c.in_ok-route.ensures.route parts.1 in
-    let are = still_neighbours (A.stands_for s) (A.is_sig s) value net i c.requires.net ns kept.neighbours c.args.arc.0 c.place_of-place.result dest a c.requires.fits.1 c.requires.fits.2 c.place_of-place.ensures parts.0 route c.hear_at-earlier.result now has fit in
+    let are = still_neighbours (A.stands_for s) (A.is_sig s) value net i c.requires.net ns kept.neighbours c.args.arc.0 c.place_of-place.result dest a c.requires.fits.1 c.requires.fits.2 c.place_of-place.ensures parts.0 route c.hear-earlier.result now has fit in
     let there_now = neighbour_there (A.stands_for s) (A.is_sig s) value net i c.requires.net now are c.args.arc.0 c.place_of-place.result dest a c.requires.fits.1 c.requires.fits.2 c.place_of-place.ensures parts.0 in
-    record { place = there_now }
+    there_now
 
 pub returns-in-Ok-clause-kept : goal.returns-in-Ok-clause-kept
 returns-in-Ok-clause-kept g c =
@@ -191,22 +190,22 @@ returns-in-Ok-clause-kept g c =
     let net = c.args.net.now in
     let i = c.args.node.0 in
     let kept = c.requires.kept in
-    let ns = c.args.neighbours.now.items in
+    let ns = c.args.neighbours.now in
     let update = c.args.update.now in
     let dest = update.dest.0 in
     let a = c.requires.fits.0 in
     let parts = fits_parts net a (pure_update update) c.requires.fits.3 in
     let there = neighbour_there (A.stands_for s) (A.is_sig s) value net i c.requires.net ns kept.neighbours c.args.arc.0 c.place_of-place.result dest a c.requires.fits.1 c.requires.fits.2 c.place_of-place.ensures parts.0 in
     let route = c.in_ok-route.route in
-    let now = c.hear_at-earlier.new.neighbours.items in
-    let has = c.hear_at-earlier.ensures there.0 there.1 in
+    let now = c.hear-earlier.new.self in
+    let has = c.hear-earlier.ensures there.0 there.1 in
     let fit = known_fits (A.is_sig s) value net a route (option_map pure_shared update.route) c.in_ok-route.ensures.sig c.in_ok-route.ensures.route parts.1 in
     record {
       inside = kept.inside;
       own_count = kept.own_count;
       own_values = kept.own_values;
       own_sigs = kept.own_sigs;
-      neighbours = still_neighbours (A.stands_for s) (A.is_sig s) value net i c.requires.net ns kept.neighbours c.args.arc.0 c.place_of-place.result dest a c.requires.fits.1 c.requires.fits.2 c.place_of-place.ensures parts.0 route c.hear_at-earlier.result now has fit;
+      neighbours = still_neighbours (A.stands_for s) (A.is_sig s) value net i c.requires.net ns kept.neighbours c.args.arc.0 c.place_of-place.result dest a c.requires.fits.1 c.requires.fits.2 c.place_of-place.ensures parts.0 route c.hear-earlier.result now has fit;
       row_count = kept.row_count;
       row_sigs = kept.row_sigs;
     }
@@ -219,17 +218,17 @@ returns-in-Ok-clause-heard g c =
     let net = c.args.net.now in
     let i = c.args.node.0 in
     let kept = c.requires.kept in
-    let ns = c.args.neighbours.now.items in
+    let ns = c.args.neighbours.now in
     let update = c.args.update.now in
     let dest = update.dest.0 in
     let a = c.requires.fits.0 in
     let parts = fits_parts net a (pure_update update) c.requires.fits.3 in
     let there = neighbour_there (A.stands_for s) (A.is_sig s) value net i c.requires.net ns kept.neighbours c.args.arc.0 c.place_of-place.result dest a c.requires.fits.1 c.requires.fits.2 c.place_of-place.ensures parts.0 in
     let route = c.in_ok-route.route in
-    let now = c.hear_at-earlier.new.neighbours.items in
-    let has = c.hear_at-earlier.ensures there.0 there.1 in
+    let now = c.hear-earlier.new.self in
+    let has = c.hear-earlier.ensures there.0 there.1 in
     let fit = known_fits (A.is_sig s) value net a route (option_map pure_shared update.route) c.in_ok-route.ensures.sig c.in_ok-route.ensures.route parts.1 in
-    heard_now (A.stands_for s) (A.is_sig s) value net i c.requires.net ns kept.neighbours c.args.arc.0 c.place_of-place.result dest a c.requires.fits.1 c.requires.fits.2 c.place_of-place.ensures parts.0 route c.hear_at-earlier.result now has
+    heard_now (A.stands_for s) (A.is_sig s) value net i c.requires.net ns kept.neighbours c.args.arc.0 c.place_of-place.result dest a c.requires.fits.1 c.requires.fits.2 c.place_of-place.ensures parts.0 route c.hear-earlier.result now has
     ∙ ap (λ z. λ b d. cond (b == c.args.arc.0 && d == dest) z (heard_by value ns b d)) c.in_ok-route.ensures.route
 
 pub returns-in-Ok-clause-change : goal.returns-in-Ok-clause-change
@@ -241,8 +240,8 @@ returns-in-Ok-clause-change g c =
     let parts = fits_parts net a (pure_update c.args.update.now) c.requires.fits.3 in
     let inside_rows : dest < length c.args.rows.now = subst (λ z. dest < z) (sym c.requires.kept.row_count) parts.0 in
     let row = entry_is c.args.rows.now dest c.index-rows-dest.result inside_rows c.index-rows-dest.is in
-    let chosen = choice net dest c.args.node.0 (heard_by value c.hear_at-earlier.new.neighbours.items) in
-    subst (λ z. IsChange value net c.args.node.0 dest c.args.clock (option_map (known_route value) z) chosen c.in-Ok.change) (sym row) (rw c.deref.ensures.value at c.in-Ok.ensures.change)
+    let chosen = choice net dest c.args.node.0 (heard_by value c.hear-earlier.new.self) in
+    subst (λ z. IsChange value net c.args.node.0 dest c.args.clock (option_map (known_route value) z) chosen c.in-Ok.change) (sym row) (c.in-Ok.ensures.change)
 
 pub returns-in-Err-clause-kept : goal.returns-in-Err-clause-kept
 returns-in-Err-clause-kept g c =
@@ -252,27 +251,27 @@ returns-in-Err-clause-kept g c =
     let net = c.args.net.now in
     let i = c.args.node.0 in
     let kept = c.requires.kept in
-    let ns = c.args.neighbours.now.items in
+    let ns = c.args.neighbours.now in
     let update = c.args.update.now in
     let dest = update.dest.0 in
     let a = c.requires.fits.0 in
     let parts = fits_parts net a (pure_update update) c.requires.fits.3 in
     let there = neighbour_there (A.stands_for s) (A.is_sig s) value net i c.requires.net ns kept.neighbours c.args.arc.0 c.place_of-place.result dest a c.requires.fits.1 c.requires.fits.2 c.place_of-place.ensures parts.0 in
     let route = c.in_ok-route.route in
-    let now = c.hear_at-earlier.new.neighbours.items in
-    let has = c.hear_at-earlier.ensures there.0 there.1 in
+    let now = c.hear-earlier.new.self in
+    let has = c.hear-earlier.ensures there.0 there.1 in
     let fit = known_fits (A.is_sig s) value net a route (option_map pure_shared update.route) c.in_ok-route.ensures.sig c.in_ok-route.ensures.route parts.1 in
-    let are = still_neighbours (A.stands_for s) (A.is_sig s) value net i c.requires.net ns kept.neighbours c.args.arc.0 c.place_of-place.result dest a c.requires.fits.1 c.requires.fits.2 c.place_of-place.ensures parts.0 route c.hear_at-earlier.result now has fit in
+    let are = still_neighbours (A.stands_for s) (A.is_sig s) value net i c.requires.net ns kept.neighbours c.args.arc.0 c.place_of-place.result dest a c.requires.fits.1 c.requires.fits.2 c.place_of-place.ensures parts.0 route c.hear-earlier.result now has fit in
     let there_now = neighbour_there (A.stands_for s) (A.is_sig s) value net i c.requires.net now are c.args.arc.0 c.place_of-place.result dest a c.requires.fits.1 c.requires.fits.2 c.place_of-place.ensures parts.0 in
-    let back = c.hear_at.new.neighbours.items in
-    let has_back = c.hear_at.ensures there_now.0 there_now.1 in
-    let was_fit = earlier_fits (A.stands_for s) (A.is_sig s) value net i c.requires.net ns kept.neighbours c.args.arc.0 c.place_of-place.result dest a c.requires.fits.1 c.requires.fits.2 c.place_of-place.ensures parts.0 route c.hear_at-earlier.result now has in
+    let back = c.hear.new.self in
+    let has_back = c.hear.ensures there_now.0 there_now.1 in
+    let was_fit = earlier_fits (A.stands_for s) (A.is_sig s) value net i c.requires.net ns kept.neighbours c.args.arc.0 c.place_of-place.result dest a c.requires.fits.1 c.requires.fits.2 c.place_of-place.ensures parts.0 route c.hear-earlier.result now has in
     record {
       inside = kept.inside;
       own_count = kept.own_count;
       own_values = kept.own_values;
       own_sigs = kept.own_sigs;
-      neighbours = still_neighbours (A.stands_for s) (A.is_sig s) value net i c.requires.net now are c.args.arc.0 c.place_of-place.result dest a c.requires.fits.1 c.requires.fits.2 c.place_of-place.ensures parts.0 c.hear_at-earlier.result c.hear_at.result back has_back was_fit;
+      neighbours = still_neighbours (A.stands_for s) (A.is_sig s) value net i c.requires.net now are c.args.arc.0 c.place_of-place.result dest a c.requires.fits.1 c.requires.fits.2 c.place_of-place.ensures parts.0 c.hear-earlier.result c.hear.result back has_back was_fit;
       row_count = kept.row_count;
       row_sigs = kept.row_sigs;
     }
@@ -285,22 +284,22 @@ returns-in-Err-clause-err g c =
     let net = c.args.net.now in
     let i = c.args.node.0 in
     let kept = c.requires.kept in
-    let ns = c.args.neighbours.now.items in
+    let ns = c.args.neighbours.now in
     let update = c.args.update.now in
     let dest = update.dest.0 in
     let a = c.requires.fits.0 in
     let parts = fits_parts net a (pure_update update) c.requires.fits.3 in
     let there = neighbour_there (A.stands_for s) (A.is_sig s) value net i c.requires.net ns kept.neighbours c.args.arc.0 c.place_of-place.result dest a c.requires.fits.1 c.requires.fits.2 c.place_of-place.ensures parts.0 in
     let route = c.in_ok-route.route in
-    let now = c.hear_at-earlier.new.neighbours.items in
-    let has = c.hear_at-earlier.ensures there.0 there.1 in
+    let now = c.hear-earlier.new.self in
+    let has = c.hear-earlier.ensures there.0 there.1 in
     let fit = known_fits (A.is_sig s) value net a route (option_map pure_shared update.route) c.in_ok-route.ensures.sig c.in_ok-route.ensures.route parts.1 in
-    let are = still_neighbours (A.stands_for s) (A.is_sig s) value net i c.requires.net ns kept.neighbours c.args.arc.0 c.place_of-place.result dest a c.requires.fits.1 c.requires.fits.2 c.place_of-place.ensures parts.0 route c.hear_at-earlier.result now has fit in
+    let are = still_neighbours (A.stands_for s) (A.is_sig s) value net i c.requires.net ns kept.neighbours c.args.arc.0 c.place_of-place.result dest a c.requires.fits.1 c.requires.fits.2 c.place_of-place.ensures parts.0 route c.hear-earlier.result now has fit in
     let there_now = neighbour_there (A.stands_for s) (A.is_sig s) value net i c.requires.net now are c.args.arc.0 c.place_of-place.result dest a c.requires.fits.1 c.requires.fits.2 c.place_of-place.ensures parts.0 in
-    let back = c.hear_at.new.neighbours.items in
-    let has_back = c.hear_at.ensures there_now.0 there_now.1 in
-    let was_fit = earlier_fits (A.stands_for s) (A.is_sig s) value net i c.requires.net ns kept.neighbours c.args.arc.0 c.place_of-place.result dest a c.requires.fits.1 c.requires.fits.2 c.place_of-place.ensures parts.0 route c.hear_at-earlier.result now has in
-    put_back (heard_by value ns) (heard_by value now) (heard_by value back) c.args.arc.0 dest (option_map (known_route value) route) (option_map (known_route value) c.hear_at-earlier.result)
-    (heard_now (A.stands_for s) (A.is_sig s) value net i c.requires.net ns kept.neighbours c.args.arc.0 c.place_of-place.result dest a c.requires.fits.1 c.requires.fits.2 c.place_of-place.ensures parts.0 route c.hear_at-earlier.result now has)
-    (heard_now (A.stands_for s) (A.is_sig s) value net i c.requires.net now are c.args.arc.0 c.place_of-place.result dest a c.requires.fits.1 c.requires.fits.2 c.place_of-place.ensures parts.0 c.hear_at-earlier.result c.hear_at.result back has_back)
-    (earlier_is (A.stands_for s) (A.is_sig s) value net i c.requires.net ns kept.neighbours c.args.arc.0 c.place_of-place.result dest a c.requires.fits.1 c.requires.fits.2 c.place_of-place.ensures parts.0 route c.hear_at-earlier.result now has)
+    let back = c.hear.new.self in
+    let has_back = c.hear.ensures there_now.0 there_now.1 in
+    let was_fit = earlier_fits (A.stands_for s) (A.is_sig s) value net i c.requires.net ns kept.neighbours c.args.arc.0 c.place_of-place.result dest a c.requires.fits.1 c.requires.fits.2 c.place_of-place.ensures parts.0 route c.hear-earlier.result now has in
+    put_back (heard_by value ns) (heard_by value now) (heard_by value back) c.args.arc.0 dest (option_map (known_route value) route) (option_map (known_route value) c.hear-earlier.result)
+    (heard_now (A.stands_for s) (A.is_sig s) value net i c.requires.net ns kept.neighbours c.args.arc.0 c.place_of-place.result dest a c.requires.fits.1 c.requires.fits.2 c.place_of-place.ensures parts.0 route c.hear-earlier.result now has)
+    (heard_now (A.stands_for s) (A.is_sig s) value net i c.requires.net now are c.args.arc.0 c.place_of-place.result dest a c.requires.fits.1 c.requires.fits.2 c.place_of-place.ensures parts.0 c.hear-earlier.result c.hear.result back has_back)
+    (earlier_is (A.stands_for s) (A.is_sig s) value net i c.requires.net ns kept.neighbours c.args.arc.0 c.place_of-place.result dest a c.requires.fits.1 c.requires.fits.2 c.place_of-place.ensures parts.0 route c.hear-earlier.result now has)

@@ -14,10 +14,10 @@ invariant_of-result g c =
       algebra = c.old.invariant.algebra ∙ ap (λ (z : PureNet). z.alg.expression) (sym same);
       is_net = c.in_ok-neighbours.ensures.net;
       chosen = λ begun. absurd (cc);
-      kept = kept_on (A.stands_for s) (A.is_sig s) (A.sig_value s) old.net.now net same old.number.0 old.own.items old.neighbours.items c.in_ok-neighbours.neighbours.items old.rows.items c.old.invariant.kept c.in_ok-neighbours.ensures.neighbours;
+      kept = kept_on (A.stands_for s) (A.is_sig s) (A.sig_value s) old.net.now net same old.number.0 old.own.items old.neighbours c.in_ok-neighbours.neighbours old.rows.items c.old.invariant.kept c.in_ok-neighbours.ensures.neighbours;
     }
 
 pub returns : goal.returns
 returns g c =
     let old = c.old.inside in
-    rw (← c.old.view_is) (carried_is (g.A.Algebra.sig_value old.algebra.now) old.net.now c.args.net.now (option_map (λ m. m.now) old.before) old.number.0 old.is_begun old.neighbours.items c.in_ok-neighbours.neighbours.items old.rows.items old.last c.in_ok-neighbours.ensures.heard)
+    rw (← c.old.view_is) (carried_is (g.A.Algebra.sig_value old.algebra.now) old.net.now c.args.net.now (option_map (λ m. m.now) old.before) old.number.0 old.is_begun old.neighbours c.in_ok-neighbours.neighbours old.rows.items old.last c.in_ok-neighbours.ensures.heard)

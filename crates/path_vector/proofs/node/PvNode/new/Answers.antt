@@ -19,4 +19,4 @@ invariant_of-result g c = record {
 }
 
 pub returns : goal.returns
-returns g c = new_is (g.A.Algebra.sig_value c.args.algebra.now) c.args.net.now c.args.number.0 c.in_ok-silent_neighbours.field-0.items c.in_ok-no_entries.field-0.items c.in_ok-silent_neighbours.ensures.silent c.in_ok-no_entries.ensures.none
+returns g c = new_is (g.A.Algebra.sig_value c.args.algebra.now) c.args.net.now c.args.number.0 c.in_ok-silent_neighbours.field-0 c.in_ok-no_entries.field-0.items c.in_ok-silent_neighbours.ensures.silent c.in_ok-no_entries.ensures.none

@@ -24,7 +24,7 @@ returns-in_err-change-clause-err g c =
     let inside = c.self.inside in
     let value = g.A.Algebra.sig_value inside.algebra.now in
     on_refusal _ c.from_residual.result (
-      rw (← c.self.view_is) (same_heard value inside.net.now (option_map (λ m. m.now) inside.before) inside.number.0 inside.is_begun inside.neighbours.items c.hear.new.neighbours.items inside.rows.items inside.last c.in_err-change.ensures.err),
+      rw (← c.self.view_is) (same_heard value inside.net.now (option_map (λ m. m.now) inside.before) inside.number.0 inside.is_begun inside.neighbours c.hear.new.neighbours inside.rows.items inside.last c.in_err-change.ensures.err),
       c.requires.out,
     )
 
@@ -36,13 +36,13 @@ invariant_of-self-in_default g c =
     let number = inside.number.0 in
     let update = pure_update c.args.update.now in
     let rows = row_routes value inside.rows.items in
-    let new = heard_by value c.hear.new.neighbours.items in
+    let new = heard_by value c.hear.new.neighbours in
     let stays : choice net update.dest number new ≡ rows update.dest = rw (c.deref-2.ensures.value, c.in_default.is) at c.in_ok-change.ensures.change in
     record {
       algebra = c.self.invariant.algebra;
       is_net = c.self.invariant.is_net;
       kept = rw (c.deref.ensures.value, c.deref-2.ensures.value) at c.in_ok-change.ensures.kept;
-      chosen = λ begun dest. still_chosen net number c.args.arc.0 update (heard_by value inside.neighbours.items) new rows c.in_ok-change.ensures.heard (c.self.invariant.chosen begun) stays dest;
+      chosen = λ begun dest. still_chosen net number c.args.arc.0 update (heard_by value inside.neighbours) new rows c.in_ok-change.ensures.heard (c.self.invariant.chosen begun) stays dest;
     }
 
 pub returns-in_default-clause-node : goal.returns-in_default-clause-node
@@ -51,7 +51,7 @@ returns-in_default-clause-node g c =
     let value = g.A.Algebra.sig_value inside.algebra.now in
     let update = pure_update c.args.update.now in
     let stays = rw (c.deref-2.ensures.value, c.in_default.is) at c.in_ok-change.ensures.change in
-    rw (← c.self.view_is) (kept_is value inside.net.now (option_map (λ m. m.now) inside.before) inside.number.0 inside.is_begun inside.neighbours.items c.hear.new.neighbours.items inside.rows.items inside.last
+    rw (← c.self.view_is) (kept_is value inside.net.now (option_map (λ m. m.now) inside.before) inside.number.0 inside.is_begun inside.neighbours c.hear.new.neighbours inside.rows.items inside.last
     c.args.arc.0 update c.args.clock c.in_ok-change.ensures.heard stays)
 
 pub returns-in_default-clause-out : goal.returns-in_default-clause-out
@@ -61,10 +61,10 @@ returns-in_default-clause-out g c =
     let net = inside.net.now in
     let number = inside.number.0 in
     let update = pure_update c.args.update.now in
-    let row = choice net update.dest number (heard_by value c.hear.new.neighbours.items) in
+    let row = choice net update.dest number (heard_by value c.hear.new.neighbours) in
     let stays = rw (c.deref-2.ensures.value, c.in_default.is) at c.in_ok-change.ensures.change in
     let told : PureUpdate = record { dest = update.dest; route = row; stamp = c.args.clock } in
-    rw (← c.self.view_is) (ap (map noted) c.requires.out ∙ told_is value net (option_map (λ m. m.now) inside.before) number inside.is_begun inside.neighbours.items c.hear.new.neighbours.items inside.rows.items inside.last
+    rw (← c.self.view_is) (ap (map noted) c.requires.out ∙ told_is value net (option_map (λ m. m.now) inside.before) number inside.is_begun inside.neighbours c.hear.new.neighbours inside.rows.items inside.last
     c.args.arc.0 update c.args.clock c.in_ok-change.ensures.heard (map noted []) (nothing_told row (row_routes value inside.rows.items update.dest) (told_on (arcs_to net number) told) stays))
 
 pub invariant_of-self-2 : goal.invariant_of-self-2
@@ -78,7 +78,7 @@ invariant_of-self-2 g c =
     let update = pure_update c.args.update.now in
     let row = c.in-Some.change.row in
     let rows = row_routes value inside.rows.items in
-    let new = heard_by value c.hear.new.neighbours.items in
+    let new = heard_by value c.hear.new.neighbours in
     let fit = rw (← c.self.view_is) at c.requires.fits in
     let kept = rw (c.deref.ensures.value, c.deref-2.ensures.value) at c.in_ok-change.ensures.kept in
     let within : update.dest < length inside.rows.items = subst (λ z. update.dest < z) (sym kept.row_count) (fits_parts net fit.0 update fit.3).0 in
@@ -87,9 +87,9 @@ invariant_of-self-2 g c =
     record {
       algebra = c.self.invariant.algebra;
       is_net = c.self.invariant.is_net;
-      kept = rw c.put_row.ensures (kept_with_row value (A.stands_for s) (A.is_sig s) net number inside.own.items c.hear.new.neighbours.items inside.rows.items update.dest row kept within sig);
+      kept = rw c.put_row.ensures (kept_with_row value (A.stands_for s) (A.is_sig s) net number inside.own.items c.hear.new.neighbours inside.rows.items update.dest row kept within sig);
       chosen = λ begun dest. ap (λ z. row_routes value z dest) c.put_row.ensures ∙ ap (λ f. f dest) (rows_set value inside.rows.items update.dest row within)
-          ∙ chosen_after net number c.args.arc.0 update (heard_by value inside.neighbours.items) new rows (option_map (known_route value) row) c.in_ok-change.ensures.heard (c.self.invariant.chosen begun) change.0 dest;
+          ∙ chosen_after net number c.args.arc.0 update (heard_by value inside.neighbours) new rows (option_map (known_route value) row) c.in_ok-change.ensures.heard (c.self.invariant.chosen begun) change.0 dest;
     }
 
 pub returns-clause-node : goal.returns-clause-node
@@ -101,7 +101,7 @@ returns-clause-node g c =
     let kept = rw (c.deref.ensures.value, c.deref-2.ensures.value) at c.in_ok-change.ensures.kept in
     let within : update.dest < length inside.rows.items = subst (λ z. update.dest < z) (sym kept.row_count) (fits_parts inside.net.now fit.0 update fit.3).0 in
     let change = rw (c.deref-2.ensures.value, c.in-Some.is) at c.in_ok-change.ensures.change in
-    rw (← c.self.view_is, c.put_row.ensures) (taken_is value inside.net.now (option_map (λ m. m.now) inside.before) inside.number.0 inside.is_begun inside.neighbours.items c.hear.new.neighbours.items inside.rows.items inside.last
+    rw (← c.self.view_is, c.put_row.ensures) (taken_is value inside.net.now (option_map (λ m. m.now) inside.before) inside.number.0 inside.is_begun inside.neighbours c.hear.new.neighbours inside.rows.items inside.last
     c.args.arc.0 update c.args.clock c.in_ok-change.ensures.heard c.in-Some.change.row within change.0)
 
 pub returns-clause-out : goal.returns-clause-out
@@ -111,8 +111,8 @@ returns-clause-out g c =
     let net = inside.net.now in
     let number = inside.number.0 in
     let update = pure_update c.args.update.now in
-    let row = choice net update.dest number (heard_by value c.hear.new.neighbours.items) in
+    let row = choice net update.dest number (heard_by value c.hear.new.neighbours) in
     let told : PureUpdate = record { dest = update.dest; route = row; stamp = c.args.clock } in
     let change = rw (c.deref-2.ensures.value, c.in-Some.is) at c.in_ok-change.ensures.change in
-    rw (← c.self.view_is) (told_is value net (option_map (λ m. m.now) inside.before) number inside.is_begun inside.neighbours.items c.hear.new.neighbours.items inside.rows.items inside.last
+    rw (← c.self.view_is) (told_is value net (option_map (λ m. m.now) inside.before) number inside.is_begun inside.neighbours c.hear.new.neighbours inside.rows.items inside.last
     c.args.arc.0 update c.args.clock c.in_ok-change.ensures.heard (map noted c.in-Some.change.told) (all_told row (row_routes value inside.rows.items update.dest) (map noted c.in-Some.change.told) (told_on (arcs_to net number) told) change.1 change.2))

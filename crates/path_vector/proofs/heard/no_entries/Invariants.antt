@@ -1,6 +1,6 @@
 use Rattle.std.proofs.Common.{◌≡◌, ℕ, None, length}
 use Rattle.path_vector.specs.Known.{entry_of}
-use Rattle.path_vector.proofs.neighbours.no_entries.Given as goal
+use Rattle.path_vector.proofs.heard.no_entries.Given as goal
 
 -- no entry so far
 abbrev pub invariant-loop-dest : goal.invariant-loop-dest
