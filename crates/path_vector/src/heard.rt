@@ -91,7 +91,12 @@ impl<L, S> Heard<L, S> {
 
     // Lets the neighbour at a place say a route, or that there is none, for a destination, and gives what was heard
     // before.
-    pub(crate) fn hear(&mut self, place: usize, dest: usize, route: Option<Known<S>>) -> Option<Known<S>>
+    pub(crate) fn hear(
+        &mut self,
+        place: usize,
+        dest: usize,
+        route: Option<Known<S>>,
+    ) -> Option<Known<S>>
         requires { HasEntry place dest self.old }
         ensures { (n : Listened L S) → slice_get self.old place ≡ Some n →
             HasHeard dest route result self.old place n self.new }
