@@ -4,54 +4,28 @@ use Rattle.std.proofs.Common.{◌≡◌, ℕ, ◌≤◌, ◌<◌, ◌==◌, sym,
 use Rattle.std.specs.Prelude.{if◌then◌else◌}
 use Rattle.alg_model.specs.declared.alg.TheConstants.{MAX_INSTANCE_NUMBER}
 use Rattle.alg_model.specs.Expressions.{Expression, PureAlg, add, cap, worst, width, pref, orig, seq, simseq, tags, guard, gate}
-use Rattle.alg_model.specs.Expressions.{PureLabel, number_label, keep, symbol_label, mark, unmark, need, bar, allow, deny}
+use Rattle.alg_model.specs.Expressions.{PureLabel, number_label, symbol_label, need, bar}
 use Rattle.alg_model.specs.Views.{pure_label}
 use Rattle.alg_model.specs.Carriers.{carrier_of}
 use Rattle.alg_model.specs.Application.{IsLabel, App}
 use Rattle.alg_model.specs.Bounds.{ExpressionAtMost, LabelAtMost, greatest_number}
 use Rattle.alg_model.specs.BoundLaws.{greatest_is_bounded}
-use Rattle.alg_model.specs.Formation.{IsAlg}
+use Rattle.alg_model.specs.declared.edition.Edition.{Edition}
+use Rattle.alg_model.specs.Formation.{IsAlg, MeetsRanges}
 use Rattle.alg_classes.specs.declared.class.Class.{Class}
+use Rattle.alg_classes.specs.declared.class.Examples.{Examples}
+use Rattle.alg_classes.specs.declared.profile.Profile.{Profile}
 use Rattle.alg_classes.specs.Facts.{Fact, PureExample}
 use Rattle.alg_classes.specs.Profiles.{bit}
 use Rattle.alg_classes.specs.ClassLaws.{on_all}
-use Rattle.alg_classes.specs.Classes.{Settles, ExampleAtMost, ClassOf, pure_examples}
+use Rattle.alg_classes.specs.Classes.{Settles, IsSettledBy, ExampleAtMost, ExamplesAtMost, ClassOf, pure_examples}
 use Rattle.base_classes.specs.declared.examples.Numbers.{Numbers}
 use Rattle.base_classes.specs.Kinds.{IsBase, number_in}
 use Rattle.base_classes.specs.Profiles.{base_profile_of}
 use Rattle.base_classes.specs.Witnesses.{Witness, AreExamples, unless, failing, base_witness_of, number_witness, set_witness, guard_witness, sequence_witness, unit_witness, other_symbol}
 use Rattle.base_classes.specs.Witnesses.{add_numbers, cap_numbers, worst_numbers, width_numbers, pref_numbers, orig_numbers}
-use Rattle.base_classes.proofs.Base.{base_settled}
-
--- the numbers of a label aren't above those of its algebra
-label_bounded : (n : ℕ) (a : Expression) (l : PureLabel) → IsBase a → ExpressionAtMost n a → IsLabel a l → LabelAtMost n l
-label_bounded n (add low high) (number_label m) b e i = omega (arith, e.1, i.1)
-label_bounded n (cap top low high) (number_label m) b e i = omega (arith, e.2, i.1)
-label_bounded n (worst top low high) (number_label m) b e i = omega (arith, e.2, i.1)
-label_bounded n (width top low high) (number_label m) b e i = omega (arith, e.2, i.1)
-label_bounded n (pref top) (number_label m) b e i = omega (arith, e, i)
-label_bounded n (orig top) keep b e i = tt
-label_bounded n (seq k) (symbol_label m) b e i = omega (arith, e, i)
-label_bounded n (simseq k) (symbol_label m) b e i = omega (arith, e, i)
-label_bounded n (tags k) keep b e i = tt
-label_bounded n (tags k) (mark j) b e i = tt
-label_bounded n (tags k) (unmark j) b e i = tt
-label_bounded n (guard k) (need j) b e i = tt
-label_bounded n (guard k) (bar j) b e i = tt
-label_bounded n gate allow b e i = tt
-label_bounded n gate deny b e i = tt
-label_bounded n (add low high) l b e i = absurd i
-label_bounded n (cap top low high) l b e i = absurd i
-label_bounded n (worst top low high) l b e i = absurd i
-label_bounded n (width top low high) l b e i = absurd i
-label_bounded n (pref top) l b e i = absurd i
-label_bounded n (orig top) l b e i = absurd i
-label_bounded n (seq k) l b e i = absurd i
-label_bounded n (simseq k) l b e i = absurd i
-label_bounded n (tags k) l b e i = absurd i
-label_bounded n (guard k) l b e i = absurd i
-label_bounded n gate l b e i = absurd i
-label_bounded n a l b e i = absurd b
+use Rattle.base_classes.specs.BaseLaws.{base_settled}
+use Rattle.base_classes.specs.CandidateLaws.{label_bounded}
 
 abbrev Bounded : Witness → Type 0
 Bounded w = (k : Fact) → ExampleAtMost MAX_INSTANCE_NUMBER (Some (w k))
@@ -105,8 +79,22 @@ failing_bounded n true e h = tt
 failing_bounded n false e h = h
 
 -- an edition's greatest number is below the bound
-edition_bounded : (a : PureAlg) → greatest_number a.edition < MAX_INSTANCE_NUMBER
-edition_bounded a = omega (arith, greatest_is_bounded a.edition)
+edition_bounded : (e : Edition) → greatest_number e < MAX_INSTANCE_NUMBER
+edition_bounded e = omega (arith, greatest_is_bounded e)
+
+-- examples by the witnesses settle the facts as the table tells
+pub examples_settled : (a : Expression) (l : PureLabel) (p : Profile) (x : Examples) → IsBase a → MeetsRanges a → IsLabel a l
+    → p ≡ base_profile_of a l → AreExamples x p (base_witness_of a l) → IsSettledBy (carrier_of a) (App a l) p (pure_examples x)
+examples_settled a l p x base ranges i told e = λ k.
+    subst (λ o. Settles (carrier_of a) (App a l) k (bit p k) o) (sym (e k))
+    (subst (λ q. Settles (carrier_of a) (App a l) k (bit q k) (failing q (base_witness_of a l) k)) (sym told) (base_settled a l base ranges i k))
+
+-- and no number of them is above the bound
+pub examples_bounded : (e : Edition) (a : Expression) (l : PureLabel) (p : Profile) (x : Examples) → IsBase a → ExpressionAtMost (greatest_number e) a
+    → IsLabel a l → AreExamples x p (base_witness_of a l) → ExamplesAtMost MAX_INSTANCE_NUMBER (pure_examples x)
+examples_bounded e a l p x base small i are = λ k.
+    subst (ExampleAtMost MAX_INSTANCE_NUMBER) (sym (are k)) (failing_bounded MAX_INSTANCE_NUMBER (bit p k) (base_witness_of a l k)
+    (witness_bounded (greatest_number e) a l (edition_bounded e) base small (label_bounded (greatest_number e) a l base small i) i k))
 
 -- a copy of the label, what the table tells of it, and the examples by its witnesses make a class of it
 pub class_is : (a : PureAlg) (class : Class) (l : PureLabel) (x y : Expression) → IsAlg a → IsBase a.expression → IsLabel a.expression l
@@ -114,17 +102,13 @@ pub class_is : (a : PureAlg) (class : Class) (l : PureLabel) (x y : Expression) 
     → AreExamples class.examples class.profile (base_witness_of y l) → ClassOf a class
 class_is a class l x y is base i ex ey copied told examples =
     let p : class.profile ≡ base_profile_of a.expression l = subst (λ z. class.profile ≡ base_profile_of z l) ex told in
-    let w : Witness = base_witness_of a.expression l in
-    let e : AreExamples class.examples class.profile w = subst (λ z. AreExamples class.examples class.profile (base_witness_of z l)) ey examples in
-    let small : LabelAtMost (greatest_number a.edition) l = label_bounded (greatest_number a.edition) a.expression l base is.bound i in
+    let e : AreExamples class.examples class.profile (base_witness_of a.expression l) =
+    subst (λ z. AreExamples class.examples class.profile (base_witness_of z l)) ey examples in
     record {
       label = subst (IsLabel a.expression) (sym copied) i;
-      label_bound = subst (LabelAtMost (greatest_number a.edition)) (sym copied) small;
-      settled = λ k.
-          subst (λ m. Settles (carrier_of a.expression) (App a.expression m) k (bit class.profile k) (pure_examples class.examples k)) (sym copied)
-          (subst (λ o. Settles (carrier_of a.expression) (App a.expression l) k (bit class.profile k) o) (sym (e k))
-          (subst (λ q. Settles (carrier_of a.expression) (App a.expression l) k (bit q k) (failing q w k)) (sym p)
-          (base_settled a.expression l base is.formed.ranges i k)));
-      bound = λ k. subst (ExampleAtMost MAX_INSTANCE_NUMBER) (sym (e k)) (failing_bounded MAX_INSTANCE_NUMBER (bit class.profile k) (w k)
-          (witness_bounded (greatest_number a.edition) a.expression l (edition_bounded a) base is.bound small i k));
+      label_bound = subst (LabelAtMost (greatest_number a.edition)) (sym copied)
+          (label_bounded (greatest_number a.edition) a.expression l base is.bound i);
+      settled = subst (λ m. IsSettledBy (carrier_of a.expression) (App a.expression m) class.profile (pure_examples class.examples)) (sym copied)
+          (examples_settled a.expression l class.profile class.examples base is.formed.ranges i p e);
+      bound = examples_bounded a.edition a.expression l class.profile class.examples base is.bound i e;
     }

@@ -1,9 +1,2 @@
-pub mod Compare
-pub mod Told
-pub mod Kept
-pub mod Numbers
-pub mod Sets
-pub mod Sequences
-pub mod Base
 pub mod Bounds
 pub mod Lists

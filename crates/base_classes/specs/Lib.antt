@@ -2,3 +2,11 @@ pub mod Kinds
 pub mod Profiles
 pub mod Witnesses
 pub mod Lists
+pub mod Compare
+pub mod Told
+pub mod Kept
+pub mod Numbers
+pub mod Sets
+pub mod Sequences
+pub mod BaseLaws
+pub mod CandidateLaws

@@ -1,13 +1,19 @@
 ghost use Rattle.std.specs.Prelude.{◌≡◌, IfOk};
-ghost use Rattle.alg_model.specs.Views.{pure_label};
-ghost use Rattle.alg_model.specs.Application.{IsLabel};
-ghost use Rattle.alg_classes.specs.Classes.{ClassOf};
+ghost use Rattle.alg_model.specs.Views.{expression_of, pure_label};
+ghost use Rattle.alg_model.specs.Application.{IsLabel, App};
+ghost use Rattle.alg_model.specs.Bounds.{ExpressionAtMost, greatest_number};
+ghost use Rattle.alg_model.specs.Carriers.{carrier_of};
+ghost use Rattle.alg_model.specs.Formation.{MeetsRanges};
+ghost use Rattle.alg_model.specs.declared.alg.TheConstants.{MAX_INSTANCE_NUMBER};
+ghost use Rattle.alg_model.specs.declared.edition.Edition.{Edition};
+ghost use Rattle.alg_classes.specs.Classes.{ClassOf, ExamplesAtMost, IsSettledBy, pure_examples};
 ghost use Rattle.base_classes.specs.Kinds.{IsBase};
+ghost use Rattle.base_classes.specs.Profiles.{base_profile_of};
 
 use crate::examples::examples;
 use crate::profile::rule;
-use alg_classes::Class;
-use alg_model::{Alg, Label};
+use alg_classes::{Class, Examples};
+use alg_model::{Alg, Label, Tree};
 use meta_base::NoMemory;
 use std::alloc::Global;
 
@@ -27,4 +33,22 @@ pub fn base_class(alloc: Global, alg: &Alg, label: &Label) -> Result<Class, NoMe
         examples: examples(alloc, alg.tree(), label, &profile)?,
         profile,
     })
+}
+
+/// The examples of the facts that fail of the label, of a tree that meets the formation rule on ranges. It is
+/// refused for want of memory alone.
+///
+/// The tree is a base algebra other than a table, and the label is the algebra's. No number of the examples is
+/// above [`MAX_INSTANCE_NUMBER`](alg_model::MAX_INSTANCE_NUMBER), where those of the tree are its edition's.
+pub fn base_examples(alloc: Global, tree: &Tree, label: &Label) -> Result<Examples, NoMemory>
+    requires base { IsBase (expression_of tree.now) }
+    requires ranges { MeetsRanges (expression_of tree.now) }
+    requires label { IsLabel (expression_of tree.now) (pure_label label.now) }
+    ensures settled { IfOk result (λ x. IsSettledBy (carrier_of (expression_of tree.now))
+        (App (expression_of tree.now) (pure_label label.now))
+        (base_profile_of (expression_of tree.now) (pure_label label.now)) (pure_examples x)) }
+    ensures bound { (e : Edition) → ExpressionAtMost (greatest_number e) (expression_of tree.now) →
+        IfOk result (λ x. ExamplesAtMost MAX_INSTANCE_NUMBER (pure_examples x)) }
+{
+    examples(alloc, tree, label, &rule(tree, label))
 }

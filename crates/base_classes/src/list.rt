@@ -1,4 +1,7 @@
-ghost use Rattle.std.specs.Prelude.{◌≡◌, ℕ, ◌+◌, IfOk, OnOk};
+ghost use Rattle.std.specs.Prelude.{◌≡◌, ℕ, ◌+◌, ◌≤◌, IfNone, IfOk, IfSome, OnOk};
+ghost use Rattle.alg_model.specs.Application.{IsLabel};
+ghost use Rattle.alg_model.specs.Expressions.{number_label};
+ghost use Rattle.alg_model.specs.Formation.{MeetsRanges};
 ghost use Rattle.alg_model.specs.Views.{expression_of, pure_label};
 ghost use Rattle.alg_classes.specs.Classes.{Covers};
 ghost use Rattle.base_classes.specs.Kinds.{IsBase};
@@ -7,12 +10,12 @@ ghost use Rattle.base_classes.specs.Lists.{candidate, candidate_number, HasBefor
 use crate::class::base_class;
 use crate::profile::base_profile;
 use alg_classes::ClassList;
-use alg_model::{Alg, Label, Tree, label_in};
+use alg_model::{Alg, Label, Tree};
 use meta_base::NoMemory;
 use std::alloc::Global;
 
-/// How many labels are tried: the facts depend on how a number compares with 0 and the top alone.
-const CANDIDATES: usize = 4;
+/// How many labels of a base algebra are tried: the facts depend on how a number compares with 0 and the top alone.
+pub const BASE_CANDIDATES: usize = 4;
 
 /// The classes of the labels of a base algebra, one for each profile that a label has. It is refused for
 /// want of memory alone.
@@ -24,43 +27,60 @@ pub fn base_class_list(alloc: Global, alg: &Alg) -> Result<ClassList, NoMemory>
 {
     let tree = alg.tree();
     let mut list = ClassList::new(alloc);
-    for place in 0..CANDIDATES {
-        let label = candidate(tree, place);
-        add_class(alloc, alg, &label, &mut list)?;
+    for place in 0..BASE_CANDIDATES {
+        add_class(alloc, alg, base_candidate(tree, place), &mut list)?;
     }
     Ok(list)
 }
 
-// Adds the class of the label, if it is the algebra's and has a new profile.
-fn add_class(alloc: Global, alg: &Alg, label: &Label, list: &mut ClassList) -> Result<(), NoMemory>
-    requires { IsBase alg.now.expression }
-    ensures { (place : ℕ) → pure_label label.now ≡ candidate alg.now.expression place →
+// Adds the class of the label, if there is one and its profile is new.
+fn add_class(
+    alloc: Global,
+    alg: &Alg,
+    label: Option<Label>,
+    list: &mut ClassList,
+) -> Result<(), NoMemory>
+    requires base { IsBase alg.now.expression }
+    requires label { IfSome label (λ l. IsLabel alg.now.expression (pure_label l)) }
+    ensures { (place : ℕ) → IfSome label (λ l. pure_label l ≡ candidate alg.now.expression place) →
+        IfNone label (¬ IsLabel alg.now.expression (candidate alg.now.expression place)) →
         HasBefore alg.now place list.old → OnOk result (HasBefore alg.now (place + 1) list.new) }
 {
-    if !label_in(alg, label) || list.has(&base_profile(alg, label)) {
+    let Some(label) = label else {
+        return Ok(());
+    };
+    if list.has(&base_profile(alg, &label)) {
         return Ok(());
     }
-    list.add(base_class(alloc, alg, label)?)
+    list.add(base_class(alloc, alg, &label)?)
 }
 
-// The label at that place among those that are tried, which may be none of the algebra's.
-fn candidate(tree: &Tree, place: usize) -> Label
-    requires { IsBase (expression_of tree.now) }
-    ensures { pure_label result ≡ candidate (expression_of tree.now) place }
+/// The label at that place, below [`BASE_CANDIDATES`], among those of which each profile of a label is that of one;
+/// `None` where it is none of the algebra's. It takes no memory.
+///
+/// The tree is a base algebra other than a table, and meets the formation rule on ranges.
+pub fn base_candidate(tree: &Tree, place: usize) -> Option<Label>
+    requires base { IsBase (expression_of tree.now) }
+    requires ranges { MeetsRanges (expression_of tree.now) }
+    ensures some { IfSome result (λ label. (pure_label label ≡ candidate (expression_of tree.now) place) ×
+        IsLabel (expression_of tree.now) (pure_label label)) }
+    ensures none { IfNone result (¬ IsLabel (expression_of tree.now) (candidate (expression_of tree.now) place)) }
 {
     match tree {
-        Tree::Add { low, high } => Label::Number(candidate_number(place, *low, *low, *high)),
+        Tree::Add { low, high } => {
+            number_between(*low, *high, candidate_number(place, *low, *low, *high))
+        }
         Tree::Cap { top, low, high }
         | Tree::Worst { top, low, high }
         | Tree::Width { top, low, high } => {
-            Label::Number(candidate_number(place, *low, *top, *high))
+            number_between(*low, *high, candidate_number(place, *low, *top, *high))
         }
-        Tree::Pref { top } => Label::Number(candidate_number(place, 0, *top, *top)),
-        Tree::Orig { .. } | Tree::Tags { .. } => Label::Keep,
-        Tree::Seq { .. } | Tree::SimSeq { .. } => Label::Symbol(0),
-        Tree::Guard { .. } => Label::Need(0),
-        Tree::Gate if place == 0 => Label::Allow,
-        Tree::Gate => Label::Deny,
+        Tree::Pref { top } => number_between(0, *top, candidate_number(place, 0, *top, *top)),
+        Tree::Orig { .. } | Tree::Tags { .. } => Some(Label::Keep),
+        Tree::Seq { .. } | Tree::SimSeq { .. } => Some(Label::Symbol(0)),
+        Tree::Guard { .. } => Some(Label::Need(0)),
+        Tree::Gate if place == 0 => Some(Label::Allow),
+        Tree::Gate => Some(Label::Deny),
         Tree::Table(_)
         | Tree::Lex(_, _)
         | Tree::Scoped(_, _)
@@ -69,6 +89,18 @@ fn candidate(tree: &Tree, place: usize) -> Label
         | Tree::Plus(_, _)
         | Tree::Left(_)
         | Tree::Right(_) => unreachable!(),
+    }
+}
+
+// The label of the number, if it is in the range.
+fn number_between(low: u64, high: u64, n: u64) -> Option<Label>
+    ensures some { IfSome result (λ label. (pure_label label ≡ number_label n) × (low ≤ n) × (n ≤ high)) }
+    ensures none { IfNone result (¬ ((low ≤ n) × (n ≤ high))) }
+{
+    if low <= n && n <= high {
+        Some(Label::Number(n))
+    } else {
+        None
     }
 }
 

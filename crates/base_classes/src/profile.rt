@@ -24,7 +24,7 @@ pub fn base_profile(alg: &Alg, label: &Label) -> Profile
 }
 
 /// The same of a tree that meets the formation rule on ranges.
-#[tactic(auto, using(crate::proofs::Base::base_is_profile))]
+#[tactic(auto, using(crate::specs::BaseLaws::base_is_profile))]
 pub fn base_tree_profile(tree: &Tree, label: &Label) -> Profile
     requires base { IsBase (expression_of tree.now) }
     requires ranges { MeetsRanges (expression_of tree.now) }

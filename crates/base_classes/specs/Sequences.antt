@@ -12,8 +12,8 @@ use Rattle.alg_classes.specs.Profiles.{bit}
 use Rattle.alg_classes.specs.ClassLaws.{on_all}
 use Rattle.base_classes.specs.Profiles.{seq_profile, simseq_profile}
 use Rattle.base_classes.specs.Witnesses.{Witness, sequence_witness, other_symbol}
-use Rattle.base_classes.proofs.Compare.{less, alike, when_less, when_alike, not_below, not_less_itself, same, other, positive, tests_same, tests_other}
-use Rattle.base_classes.proofs.Told.{Tells, Told, always, never}
+use Rattle.base_classes.specs.Compare.{less, alike, when_less, when_alike, not_below, not_less_itself, same, other, positive, tests_same, tests_other}
+use Rattle.base_classes.specs.Told.{Tells, Told, always, never}
 
 on_seq : (k : ℕ) (P : PureValue → Type 0) → ((ns : List ℕ) → P (symbols ns)) → (v : PureValue) → In (seqs k) v → P v
 on_seq k P f (symbols ns) i = f ns

@@ -11,7 +11,7 @@ use Rattle.alg_classes.specs.Profiles.{bit}
 use Rattle.alg_classes.specs.ClassLaws.{on_all}
 use Rattle.base_classes.specs.Profiles.{keep_profile, dead_profile}
 use Rattle.base_classes.specs.Witnesses.{Witness}
-use Rattle.base_classes.proofs.Told.{Tells, Told, always, never}
+use Rattle.base_classes.specs.Told.{Tells, Told, always, never}
 
 not_less : (o : Ordering) → o ≡ ordering_reverse o → ¬ (o ≡ Less)
 not_less Less e h = cc

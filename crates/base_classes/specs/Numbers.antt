@@ -10,9 +10,9 @@ use Rattle.alg_classes.specs.Profiles.{bit}
 use Rattle.alg_classes.specs.ClassLaws.{on_all}
 use Rattle.base_classes.specs.Profiles.{add_profile, cap_profile, worst_profile, width_profile, pref_profile, keep_profile}
 use Rattle.base_classes.specs.Witnesses.{number_witness, add_numbers, cap_numbers, worst_numbers, width_numbers, pref_numbers, orig_numbers}
-use Rattle.base_classes.proofs.Compare.{less, alike, when_less, when_alike, not_less_itself, same, is_zero, not_zero, positive, not_below, above, is_less, at_least, is_at_most, is_above, tests_at_most, tests_above}
-use Rattle.base_classes.proofs.Told.{Tells, Told, always, never, on_whole, on_up, on_down, on_two_whole, on_two_up, on_two_down}
-use Rattle.base_classes.proofs.Kept.{kept_told}
+use Rattle.base_classes.specs.Compare.{less, alike, when_less, when_alike, not_less_itself, same, is_zero, not_zero, positive, not_below, above, is_less, at_least, is_at_most, is_above, tests_at_most, tests_above}
+use Rattle.base_classes.specs.Told.{Tells, Told, always, never, on_whole, on_up, on_down, on_two_whole, on_two_up, on_two_down}
+use Rattle.base_classes.specs.Kept.{kept_told}
 
 abbrev adds : ℕ → ℕ → ℕ → Action
 adds low high n = App (add low high) (number_label n)

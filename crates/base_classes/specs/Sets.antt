@@ -13,8 +13,8 @@ use Rattle.alg_classes.specs.Profiles.{bit}
 use Rattle.alg_classes.specs.ClassLaws.{on_all}
 use Rattle.base_classes.specs.Profiles.{keep_profile, dead_profile, guard_profile}
 use Rattle.base_classes.specs.Witnesses.{set_witness, guard_witness, unit_witness}
-use Rattle.base_classes.proofs.Told.{Tells, Told, always, never}
-use Rattle.base_classes.proofs.Kept.{kept_told, dead_told}
+use Rattle.base_classes.specs.Told.{Tells, Told, always, never}
+use Rattle.base_classes.specs.Kept.{kept_told, dead_told}
 
 on_sets : (k : ℕ) (P : PureValue → Type 0) → ((m : ℕ) → P (marks m)) → (v : PureValue) → In (sets k) v → P v
 on_sets k P f (marks m) i = f m

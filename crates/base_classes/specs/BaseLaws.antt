@@ -11,10 +11,10 @@ use Rattle.alg_classes.specs.ClassLaws.{settled_profile}
 use Rattle.base_classes.specs.Kinds.{IsBase}
 use Rattle.base_classes.specs.Profiles.{base_profile_of}
 use Rattle.base_classes.specs.Witnesses.{base_witness_of, failing}
-use Rattle.base_classes.proofs.Told.{Told, told_settles}
-use Rattle.base_classes.proofs.Numbers.{add_told, cap_told, worst_told, width_told, pref_told, orig_told}
-use Rattle.base_classes.proofs.Sets.{tags_told, need_told, bar_told, allow_told, deny_told}
-use Rattle.base_classes.proofs.Sequences.{seq_told, simseq_told}
+use Rattle.base_classes.specs.Told.{Told, told_settles}
+use Rattle.base_classes.specs.Numbers.{add_told, cap_told, worst_told, width_told, pref_told, orig_told}
+use Rattle.base_classes.specs.Sets.{tags_told, need_told, bar_told, allow_told, deny_told}
+use Rattle.base_classes.specs.Sequences.{seq_told, simseq_told}
 
 abbrev TellsOf : Expression → PureLabel → Type 0
 TellsOf a l = Told (carrier_of a) (App a l) (base_profile_of a l) (base_witness_of a l)
