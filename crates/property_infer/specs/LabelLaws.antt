@@ -1,73 +1,57 @@
--- The laws of classes that cover labels of a list, one label after another.
-use Rattle.std.proofs.Common.{◌≡◌, List, [], ◌∷◌, ◌++◌, Result, Ok, Err, IfOk, OnOk, arith, sym, subst, refl, ⊎_elim, inl}
+-- The laws of labels that cover those of a list, one label after another.
+use Rattle.std.proofs.Common.{◌≡◌, List, [], ◌∷◌, ◌++◌, Result, Ok, Err, OnOk, arith, sym, subst, refl, ⊎_elim, inl}
 use Rattle.std.proofs.lemmas.List.Elements.{Contains-append_left, Contains-push, Contains-push_cases}
 use Rattle.std.specs.List.{AllByRecursion, Contains}
 use Rattle.alg_model.specs.Expressions.{PureAlg, PureLabel}
 use Rattle.alg_model.specs.Views.{pure_label}
-use Rattle.alg_classes.specs.declared.class.Class.{Class}
 use Rattle.alg_classes.specs.declared.profile.Profile.{Profile}
 use Rattle.alg_classes.specs.Profiles.{ProfileOf}
-use Rattle.alg_classes.specs.Classes.{ClassOf, HasProfile, IsGrownBy, IsCovered}
-use Rattle.alg_classes.specs.ClassLaws.{class_profile}
-use Rattle.alg_classes.specs.ListLaws.{has_left, has_right, all_and_one}
+use Rattle.profile_labels.specs.declared.labelled.Labelled.{Labelled}
+use Rattle.profile_labels.specs.Labels.{Has, IsCoveredBy, IsLabelWith, LabelledOf}
+use Rattle.profile_labels.specs.ListLaws.{all_and_one, has_left, has_right}
 use Rattle.property_infer.specs.Labels.{CoversLabels}
 
 pub covers_none : (a : PureAlg) → CoversLabels a [] []
 covers_none a = record { each = tt; among = tt; covered = λ l h. absurd (omega (arith, h.1)) }
 
-still_among : (labels : List PureLabel) (l : PureLabel) (classes : List Class)
-    → AllByRecursion (λ (class : Class). Contains labels (pure_label class.label)) classes
-    → AllByRecursion (λ (class : Class). Contains (labels ++ l ∷ []) (pure_label class.label)) classes
-still_among labels l [] h = tt
-still_among labels l (class ∷ classes) h =
-    (Contains-append_left labels (l ∷ []) (pure_label class.label) h.0, still_among labels l classes h.1)
+still_among : (all : List PureLabel) (l : PureLabel) (labels : List Labelled)
+    → AllByRecursion (λ (x : Labelled). Contains all (pure_label x.label)) labels
+    → AllByRecursion (λ (x : Labelled). Contains (all ++ l ∷ []) (pure_label x.label)) labels
+still_among all l [] h = tt
+still_among all l (x ∷ xs) h = (Contains-append_left all (l ∷ []) (pure_label x.label) h.0, still_among all l xs h.1)
 
 -- where the profiles stay and that of the label is there, one label more is covered
-one_more : (a : PureAlg) (labels : List PureLabel) (l : PureLabel) (old new : List Class) (p : Profile) → ProfileOf a.expression l p → HasProfile new p
-    → ((q : Profile) → HasProfile old q → HasProfile new q) → ((m : PureLabel) → Contains labels m → IsCovered a old m)
-    → (m : PureLabel) → Contains (labels ++ l ∷ []) m → IsCovered a new m
-one_more a labels l old new p is has kept covered m h = ⊎_elim
+one_more : (a : PureAlg) (all : List PureLabel) (l : PureLabel) (old new : List Labelled) (p : Profile) → ProfileOf a.expression l p → Has new p
+    → ((q : Profile) → Has old q → Has new q) → ((m : PureLabel) → Contains all m → IsCoveredBy a old m)
+    → (m : PureLabel) → Contains (all ++ l ∷ []) m → IsCoveredBy a new m
+one_more a all l old new p is has kept covered m h = ⊎_elim
     (λ c. let i = covered m c in (i.0, i.1, kept i.0 i.2))
     (λ e. (p, subst (λ k. ProfileOf a.expression k p) e is, has))
-    (Contains-push_cases labels l m h)
+    (Contains-push_cases all l m h)
 
 -- the label's profile is there
-pub covers_present : (a : PureAlg) (labels : List PureLabel) (l : PureLabel) (classes : List Class) (p : Profile) → ProfileOf a.expression l p
-    → HasProfile classes p → CoversLabels a labels classes → CoversLabels a (labels ++ l ∷ []) classes
-covers_present a labels l classes p is has c = record {
+pub covers_present : (a : PureAlg) (all : List PureLabel) (l : PureLabel) (labels : List Labelled) (p : Profile) → ProfileOf a.expression l p
+    → Has labels p → CoversLabels a all labels → CoversLabels a (all ++ l ∷ []) labels
+covers_present a all l labels p is has c = record {
   each = c.each;
-  among = still_among labels l classes c.among;
-  covered = one_more a labels l classes classes p is has (λ q h. h) c.covered;
+  among = still_among all l labels c.among;
+  covered = one_more a all l labels labels p is has (λ q h. h) c.covered;
 }
 
--- its class is new
-covers_appended : (a : PureAlg) (labels : List PureLabel) (l : PureLabel) (old : List Class) (class : Class) → ClassOf a class
-    → pure_label class.label ≡ l → CoversLabels a labels old → CoversLabels a (labels ++ l ∷ []) (old ++ class ∷ [])
-covers_appended a labels l old class is same c = record {
-  each = all_and_one (ClassOf a) old class c.each is;
-  among = all_and_one (λ (class : Class). Contains (labels ++ l ∷ []) (pure_label class.label)) old class
-      (still_among labels l old c.among) (subst (λ k. Contains (labels ++ l ∷ []) k) (sym same) (Contains-push labels l));
-  covered = one_more a labels l old (old ++ class ∷ []) class.profile
-      (subst (λ k. ProfileOf a.expression k class.profile) same (class_profile a class is))
-      (has_right old (class ∷ []) class.profile (inl refl)) (λ q h. has_left old (class ∷ []) q h) c.covered;
+-- it is new, and comes behind the others
+covers_appended : (a : PureAlg) (all : List PureLabel) (l : PureLabel) (old : List Labelled) (x : Labelled) → IsLabelWith a l x.profile
+    → pure_label x.label ≡ l → CoversLabels a all old → CoversLabels a (all ++ l ∷ []) (old ++ x ∷ [])
+covers_appended a all l old x is same c = record {
+  each = all_and_one (LabelledOf a) old x c.each (subst (λ k. IsLabelWith a k x.profile) (sym same) is);
+  among = all_and_one (λ (x : Labelled). Contains (all ++ l ∷ []) (pure_label x.label)) old x
+      (still_among all l old c.among) (subst (λ k. Contains (all ++ l ∷ []) k) (sym same) (Contains-push all l));
+  covered = one_more a all l old (old ++ x ∷ []) x.profile is.profile
+      (has_right old (x ∷ []) x.profile (inl refl)) (λ q h. has_left old (x ∷ []) q h) c.covered;
 }
 
--- its class was added, if its profile was new
-pub covers_grown : (a : PureAlg) (labels : List PureLabel) (l : PureLabel) (old new : List Class) (class : Class) → ClassOf a class
-    → pure_label class.label ≡ l → IsGrownBy old class new → CoversLabels a labels old → CoversLabels a (labels ++ l ∷ []) new
-covers_grown a labels l old new class is same g c = ⊎_elim
-    (λ h. subst (λ cs. CoversLabels a (labels ++ l ∷ []) cs) (sym h.1)
-    (covers_present a labels l old class.profile (subst (λ k. ProfileOf a.expression k class.profile) same (class_profile a class is)) h.0 c))
-    (λ h. subst (λ cs. CoversLabels a (labels ++ l ∷ []) cs) (sym h.1) (covers_appended a labels l old class is same c))
-    g
-
--- after a call that may be refused
-pub covers_if_grown : (a : PureAlg) (labels : List PureLabel) (l : PureLabel) (old new : List Class) (class : Class) {E : Type 0} (r : Result (Unit {0}) E) → ClassOf a class
-    → pure_label class.label ≡ l → OnOk r (IsGrownBy old class new) → CoversLabels a labels old → OnOk r (CoversLabels a (labels ++ l ∷ []) new)
-covers_if_grown a labels l old new class (Ok u) is same g c = covers_grown a labels l old new class is same g c
-covers_if_grown a labels l old new class (Err e) is same g c = tt
-
--- a class has the label that was asked for, where that is the one which the rule makes
-pub label_is : {E : Type 0} (r : Result Class E) (k l : PureLabel) → k ≡ l → IfOk r (λ class. pure_label class.label ≡ k)
-    → IfOk r (λ class. pure_label class.label ≡ l)
-label_is r k l e h = subst (λ m. IfOk r (λ class. pure_label class.label ≡ m)) e h
+-- unless memory is refused
+pub covers_if_pushed : {E : Type 0} (a : PureAlg) (all : List PureLabel) (l : PureLabel) (old new : List Labelled) (x : Labelled) (r : Result (Unit {0}) E)
+    → IsLabelWith a l x.profile → pure_label x.label ≡ l → OnOk r (new ≡ old ++ x ∷ []) → CoversLabels a all old
+    → OnOk r (CoversLabels a (all ++ l ∷ []) new)
+covers_if_pushed a all l old new x (Ok u) is same e c = subst (λ xs. CoversLabels a (all ++ l ∷ []) xs) (sym e) (covers_appended a all l old x is same c)
+covers_if_pushed a all l old new x (Err e) is same h c = tt

@@ -1,23 +1,13 @@
--- Classes of labels, and lists of them that cover labels of a list.
+-- Labels with their profiles, which cover labels of a list.
 use Rattle.std.specs.Prelude.{List}
 use Rattle.std.specs.List.{AllByRecursion, Contains}
 use Rattle.alg_model.specs.Expressions.{PureAlg, PureLabel}
 use Rattle.alg_model.specs.Views.{pure_label}
-use Rattle.alg_model.specs.declared.tree.Label.{Label}
-use Rattle.alg_model.specs.Application.{IsLabel}
-use Rattle.alg_model.specs.Bounds.{LabelAtMost, greatest_number}
-use Rattle.alg_model.specs.Formation.{IsAlg}
-use Rattle.alg_classes.specs.declared.class.Class.{Class}
-use Rattle.alg_classes.specs.Classes.{ClassOf, IsCovered}
+use Rattle.profile_labels.specs.declared.labelled.Labelled.{Labelled}
+use Rattle.profile_labels.specs.Labels.{IsCoveredBy, LabelledOf}
 
--- each class is of one of the labels, and the profile of each of them is there
-pub record CoversLabels (a : PureAlg) (labels : List PureLabel) (classes : List Class) : Type 0 where
-  pub each : AllByRecursion (ClassOf a) classes
-  pub among : AllByRecursion (λ (class : Class). Contains labels (pure_label class.label)) classes
-  pub covered : (l : PureLabel) → Contains labels l → IsCovered a classes l
-
--- The algebra is one, and the label is its; no number of the label is above the greatest of its edition.
-pub record MayBeClassed (a : PureAlg) (label : Label) : Type 0 where
-  pub alg : IsAlg a
-  pub label_in : IsLabel a.expression (pure_label label)
-  pub small : LabelAtMost (greatest_number a.edition) (pure_label label)
+-- each is one of the labels, with its profile, and the profile of each of them is there
+pub record CoversLabels (a : PureAlg) (all : List PureLabel) (labels : List Labelled) : Type 0 where
+  pub each : AllByRecursion (LabelledOf a) labels
+  pub among : AllByRecursion (λ (x : Labelled). Contains all (pure_label x.label)) labels
+  pub covered : (l : PureLabel) → Contains all l → IsCoveredBy a labels l

@@ -1,15 +1,17 @@
--- What classes of labels tell of a property: the first example against it, if there is one.
-use Rattle.std.specs.Prelude.{List, [], ◌∷◌, Option, Some, None, option_map, Bool, ◌&&◌}
-use Rattle.std.specs.Option.{option_or}
-use Rattle.alg_model.specs.Expressions.{PureLabel}
-use Rattle.alg_model.specs.Properties.{PureProperty, monotone, strict, isotone, cancellative, total}
-use Rattle.alg_model.specs.Verdicts.{PureInstance, PureVerdict, holds, fails, PureVerdicts}
+-- What labels of an algebra tell of its properties.
+use Rattle.std.specs.Prelude.{◌≡◌, List, [], ◌∷◌, ◌⊎◌, Option, Some, None, true}
+use Rattle.std.specs.List.{AllByRecursion}
+use Rattle.alg_model.specs.Bounds.{greatest_number}
+use Rattle.alg_model.specs.Expressions.{PureAlg, PureLabel}
+use Rattle.alg_model.specs.Instances.{InstanceAtMost}
+use Rattle.alg_model.specs.Properties.{PureProperty, monotone, strict, isotone, cancellative, total, Has}
+use Rattle.alg_model.specs.Verdicts.{PureInstance, Violates, PureVerdict, holds, fails, PureVerdicts, OnEach}
 use Rattle.alg_model.specs.Views.{pure_label}
-use Rattle.alg_classes.specs.declared.profile.Profile.{Profile}
-use Rattle.alg_classes.specs.declared.class.Class.{Class}
+use Rattle.alg_model.specs.declared.alg.TheConstants.{MAX_INSTANCE_NUMBER}
 use Rattle.alg_classes.specs.Facts as fact
 use Rattle.alg_classes.specs.Facts.{PureExample, at, between}
-use Rattle.alg_classes.specs.Classes.{pure_examples}
+use Rattle.alg_classes.specs.Profiles.{bit}
+use Rattle.profile_labels.specs.declared.labelled.Labelled.{Labelled}
 
 -- the fact that a property is
 abbrev pub fact_of : PureProperty → fact.Fact
@@ -24,33 +26,27 @@ abbrev pub instance_at : PureProperty → PureLabel → PureExample → PureInst
 instance_at p l (at v) = record { property = p; label = l; first = v; second = None }
 instance_at p l (between u v) = record { property = p; label = l; first = u; second = Some v }
 
--- the class's example against the property, if it lacks it
-abbrev pub lack_of : PureProperty → Class → Option PureInstance
-lack_of p class = option_map (instance_at p (pure_label class.label)) (pure_examples class.examples (fact_of p))
+-- the instance shows that the label lacks the property, and its numbers are small
+pub record IsLackOf (a : PureAlg) (p : PureProperty) (l : PureLabel) (x : PureInstance) : Type 0 where
+  pub property : x.property ≡ p
+  pub label : x.label ≡ l
+  pub violates : Violates a.expression x
+  pub bound : InstanceAtMost (greatest_number a.edition) MAX_INSTANCE_NUMBER x
 
--- the first of the classes' examples against the property
-abbrev pub first_lack : PureProperty → List Class → Option PureInstance
-first_lack p [] = None
-first_lack p (class ∷ classes) = option_or (lack_of p class) (first_lack p classes)
+-- it shows it of one of the labels
+abbrev pub IsLackAmong : PureAlg → PureProperty → List Labelled → PureInstance → Type 0
+IsLackAmong a p [] x = ⊥
+IsLackAmong a p (y ∷ ys) x = IsLackOf a p (pure_label y.label) x ⊎ IsLackAmong a p ys x
 
-abbrev pub told : Option PureInstance → PureVerdict
-told None = holds
-told (Some x) = fails x
+-- all labels have the property, by their profiles; or the instance shows that one lacks it
+abbrev pub IsTold : PureAlg → List Labelled → PureProperty → PureVerdict → Type 0
+IsTold a labels p holds = AllByRecursion (λ (x : Labelled). bit x.profile (fact_of p) ≡ true) labels
+IsTold a labels p (fails x) = IsLackAmong a p labels x
 
--- what the classes tell of each property
-abbrev pub verdicts_of : List Class → PureVerdicts
-verdicts_of classes = record {
-  monotone = told (first_lack monotone classes);
-  strict = told (first_lack strict classes);
-  isotone = told (first_lack isotone classes);
-  cancellative = told (first_lack cancellative classes);
-  total = told (first_lack total classes);
-}
+abbrev pub AreTold : PureAlg → List Labelled → PureVerdicts → Type 0
+AreTold a labels = OnEach (IsTold a labels)
 
--- a label with this profile has all properties
-abbrev pub has_all : Profile → Bool
-has_all p = p.mono && p.strict && p.iso && p.canc && p.total
-
--- the verdicts on such a label
-abbrev pub all_hold : PureVerdicts
-all_hold = record { monotone = holds; strict = holds; isotone = holds; cancellative = holds; total = holds }
+-- the label has the property, or the instance shows that it doesn't
+abbrev pub IsToldOf : PureAlg → PureProperty → PureLabel → PureVerdict → Type 0
+IsToldOf a p l holds = Has p a.expression l
+IsToldOf a p l (fails x) = IsLackOf a p l x

@@ -1,34 +1,46 @@
--- What classes tell is exact: for all labels where they cover the algebra, and for one where it is the class's.
-use Rattle.std.proofs.Common.{◌≡◌, ℕ, arith, refl, sym, subst, ◌∙◌, List, [], ◌∷◌, Option, Some, None, Bool, true, false, inl, ⊎_elim}
-use Rattle.std.proofs.lemmas.Bool.Decides.{nat_tests}
-use Rattle.std.specs.Prelude.{option_map}
-use Rattle.std.specs.Option.{option_or}
-use Rattle.std.specs.List.{AllByRecursion, Contains}
+-- What labels tell is exact: for the algebra where they cover it, and for any set of labels whose profiles they have.
+use Rattle.std.proofs.Common.{◌≡◌, ℕ, refl, sym, subst, List, [], ◌∷◌, ◌⊎◌, Option, Some, None, Bool, true, false, inl, inr, ⊎_elim}
+use Rattle.std.specs.List.{AllByRecursion}
 use Rattle.alg_model.specs.Expressions.{Expression, PureAlg, PureLabel}
 use Rattle.alg_model.specs.Carriers.{carrier_of}
 use Rattle.alg_model.specs.Application.{IsLabel, App}
 use Rattle.alg_model.specs.Bounds.{LabelAtMost, greatest_number}
 use Rattle.alg_model.specs.declared.alg.TheConstants.{MAX_INSTANCE_NUMBER}
 use Rattle.alg_model.specs.Properties.{PureProperty, monotone, strict, isotone, cancellative, total, Has}
-use Rattle.alg_model.specs.Verdicts.{PureInstance, Violates, IsExact, ExactFor, verdict_on, fails}
+use Rattle.alg_model.specs.Verdicts.{PureInstance, Violates, IsExact, ExactFor, PureVerdict, holds, fails, PureVerdicts, verdict_on}
 use Rattle.alg_model.specs.Instances.{InstanceAtMost, VerdictAtMost, VerdictsAtMost}
 use Rattle.alg_model.specs.Views.{pure_label}
 use Rattle.alg_classes.specs.declared.profile.Profile.{Profile}
-use Rattle.alg_classes.specs.declared.class.Class.{Class}
 use Rattle.alg_classes.specs.Facts.{PureExample, at, between, Holds, Refutes}
 use Rattle.alg_classes.specs.Profiles.{bit, ProfileOf}
-use Rattle.alg_classes.specs.Classes.{pure_examples, Settles, ExampleAtMost, ClassOf, HasProfile, IsCovered, Covers}
-use Rattle.alg_classes.specs.ClassLaws.{class_profile}
+use Rattle.alg_classes.specs.Classes.{ExampleAtMost}
+use Rattle.profile_labels.specs.declared.labelled.Labelled.{Labelled}
+use Rattle.profile_labels.specs.Labels.{CoversBy, Has as HasProfile, IsCoveredBy, IsLabelWith, LabelledOf}
+use Rattle.property_infer.specs.Answers.{Answers}
 use Rattle.property_infer.specs.Labels.{CoversLabels}
-use Rattle.property_infer.specs.Told.{fact_of, instance_at, lack_of, first_lack, told, verdicts_of, has_all, all_hold}
+use Rattle.property_infer.specs.Told.{fact_of, instance_at, IsLackOf, IsLackAmong, IsTold, AreTold, IsToldOf}
 
 -- a property is its fact
-pub fact_has : (p : PureProperty) (a : Expression) (l : PureLabel) → Holds (carrier_of a) (App a l) (fact_of p) → Has p a l
+fact_has : (p : PureProperty) (a : Expression) (l : PureLabel) → Holds (carrier_of a) (App a l) (fact_of p) → Has p a l
 fact_has monotone a l h = h
 fact_has strict a l h = h
 fact_has isotone a l h = h
 fact_has cancellative a l h = h
 fact_has total a l h = h
+
+-- a label with the profile has the property, if that has its fact; and only then
+pub has_by_profile : (p : PureProperty) (a : Expression) (l : PureLabel) (q : Profile) → ProfileOf a l q → bit q (fact_of p) ≡ true → Has p a l
+has_by_profile p a l q is e = fact_has p a l ((is (fact_of p)).0 e)
+
+has_fact : (p : PureProperty) (a : Expression) (l : PureLabel) → Has p a l → Holds (carrier_of a) (App a l) (fact_of p)
+has_fact monotone a l h = h
+has_fact strict a l h = h
+has_fact isotone a l h = h
+has_fact cancellative a l h = h
+has_fact total a l h = h
+
+pub lacks_by_profile : (p : PureProperty) (a : Expression) (l : PureLabel) (q : Profile) → ProfileOf a l q → bit q (fact_of p) ≡ false → ¬ Has p a l
+lacks_by_profile p a l q is e h = let f = (is (fact_of p)).1 (has_fact p a l h) in absurd (cc)
 
 -- an example that refutes a property violates it
 violated : (p : PureProperty) (a : Expression) (l : PureLabel) (e : PureExample) → IsLabel a l → Refutes (carrier_of a) (App a l) (fact_of p) e
@@ -59,162 +71,97 @@ instance_label : (p : PureProperty) (l : PureLabel) (e : PureExample) → (insta
 instance_label p l (at v) = refl
 instance_label p l (between u v) = refl
 
--- a class has the property, or its example violates it
-abbrev Tells : PureAlg → PureProperty → Class → Option PureInstance → Type 0
-Tells a p class None = bit class.profile (fact_of p) ≡ true
-Tells a p class (Some x) =
-    (x.property ≡ p) × (x.label ≡ pure_label class.label) × Violates a.expression x
-    × InstanceAtMost (greatest_number a.edition) MAX_INSTANCE_NUMBER x
+-- what answers to a property that the label lacks shows it
+pub lack_by_answer : (a : PureAlg) (p : PureProperty) (l : PureLabel) (e : PureExample) → IsLabel a.expression l → LabelAtMost (greatest_number a.edition) l
+    → Answers (carrier_of a.expression) (App a.expression l) (fact_of p) (Some e) → IsLackOf a p l (instance_at p l e)
+lack_by_answer a p l e is small answer = record {
+  property = instance_property p l e;
+  label = instance_label p l e;
+  violates = violated p a.expression l e is answer.0;
+  bound = bounded p (greatest_number a.edition) MAX_INSTANCE_NUMBER l e small answer.1;
+}
 
-tells_by : (a : PureAlg) (p : PureProperty) (class : Class) → ClassOf a class → (b : Bool) (o : Option PureExample) → bit class.profile (fact_of p) ≡ b
-    → Settles (carrier_of a.expression) (App a.expression (pure_label class.label)) (fact_of p) b o → ExampleAtMost MAX_INSTANCE_NUMBER o
-    → Tells a p class (option_map (instance_at p (pure_label class.label)) o)
-tells_by a p class is true None e s b = e
-tells_by a p class is true (Some x) e s b = absurd s
-tells_by a p class is false None e s b = absurd s
-tells_by a p class is false (Some x) e s b = (
-  instance_property p (pure_label class.label) x,
-  instance_label p (pure_label class.label) x,
-  violated p a.expression (pure_label class.label) x is.label s,
-  bounded p (greatest_number a.edition) MAX_INSTANCE_NUMBER (pure_label class.label) x is.label_bound b,
-)
+-- and there is such an answer
+pub lack_answered : (a : PureAlg) (p : PureProperty) (l : PureLabel) → ¬ Has p a.expression l
+    → ¬ Answers (carrier_of a.expression) (App a.expression l) (fact_of p) None
+lack_answered a p l lacks h = lacks (fact_has p a.expression l h)
 
-class_tells : (a : PureAlg) (p : PureProperty) (class : Class) → ClassOf a class → Tells a p class (lack_of p class)
-class_tells a p class is =
-    tells_by a p class is (bit class.profile (fact_of p)) (pure_examples class.examples (fact_of p)) refl (is.settled (fact_of p)) (is.bound (fact_of p))
+-- What is told of labels of a set whose profiles they have is exact for it.
 
--- all classes have the property, or the verdict is an exact no for the labels of the set
-abbrev ListTells : PureAlg → PureProperty → (PureLabel → Type 0) → List Class → Option PureInstance → Type 0
-ListTells a p S classes None = AllByRecursion (λ class. bit class.profile (fact_of p) ≡ true) classes
-ListTells a p S classes (Some x) = IsExact p a.expression S (fails x) × InstanceAtMost (greatest_number a.edition) MAX_INSTANCE_NUMBER x
-
-tells_first : (a : PureAlg) (p : PureProperty) (S : PureLabel → Type 0) (class : Class) (classes : List Class) (o r : Option PureInstance)
-    → S (pure_label class.label) → Tells a p class o → ListTells a p S classes r → ListTells a p S (class ∷ classes) (option_or o r)
-tells_first a p S class classes None None s t h = (t, h)
-tells_first a p S class classes None (Some x) s t h = h
-tells_first a p S class classes (Some x) r s t h = ((t.0, subst S (sym t.1) s, t.2), t.3)
-
-list_tells : (a : PureAlg) (p : PureProperty) (S : PureLabel → Type 0) (classes : List Class) → AllByRecursion (ClassOf a) classes
-    → AllByRecursion (λ class. S (pure_label class.label)) classes → ListTells a p S classes (first_lack p classes)
-list_tells a p S [] each of_set = tt
-list_tells a p S (class ∷ classes) each of_set =
-    tells_first a p S class classes (lack_of p class) (first_lack p classes) of_set.0 (class_tells a p class each.0)
-    (list_tells a p S classes each.1 of_set.1)
-
-has_profile_too : (p : PureProperty) (classes : List Class) (q : Profile) → AllByRecursion (λ class. bit class.profile (fact_of p) ≡ true) classes
-    → HasProfile classes q → bit q (fact_of p) ≡ true
-has_profile_too p [] q all has = absurd has
-has_profile_too p (class ∷ classes) q all has = ⊎_elim
+all_profiles : (p : PureProperty) (labels : List Labelled) (q : Profile) → AllByRecursion (λ (x : Labelled). bit x.profile (fact_of p) ≡ true) labels
+    → HasProfile labels q → bit q (fact_of p) ≡ true
+all_profiles p [] q all has = absurd has
+all_profiles p (x ∷ xs) q all has = ⊎_elim
     (λ e. subst (λ r. bit r (fact_of p) ≡ true) e all.0)
-    (λ h. has_profile_too p classes q all.1 h)
+    (λ h. all_profiles p xs q all.1 h)
     has
 
--- the profile of each label of the set is in the list
-abbrev pub CoversSet : PureAlg → (PureLabel → Type 0) → List Class → Type 0
-CoversSet a S classes = (l : PureLabel) → S l → IsCovered a classes l
+exact_by_lack : (a : PureAlg) (S : PureLabel → Type 0) (p : PureProperty) (labels : List Labelled) (x : PureInstance)
+    → AllByRecursion (λ (y : Labelled). S (pure_label y.label)) labels → IsLackAmong a p labels x → IsExact p a.expression S (fails x)
+exact_by_lack a S p [] x of_set lack = absurd lack
+exact_by_lack a S p (y ∷ ys) x of_set lack = ⊎_elim
+    (λ l. (l.property, subst S (sym l.label) of_set.0, l.violates))
+    (λ l. exact_by_lack a S p ys x of_set.1 l)
+    lack
 
--- where all classes have the property, it holds of each label of the set
-abbrev pub TellsOf : PureAlg → (PureLabel → Type 0) → List Class → PureProperty → Type 0
-TellsOf a S classes p = AllByRecursion (λ class. bit class.profile (fact_of p) ≡ true) classes → (l : PureLabel) → S l → Has p a.expression l
+exact_of_each : (a : PureAlg) (S : PureLabel → Type 0) (p : PureProperty) (labels : List Labelled) (v : PureVerdict)
+    → AllByRecursion (λ (x : Labelled). S (pure_label x.label)) labels → ((l : PureLabel) → S l → IsCoveredBy a labels l) → IsTold a labels p v
+    → IsExact p a.expression S v
+exact_of_each a S p labels holds of_set covered all = λ l s.
+    let c = covered l s in has_by_profile p a.expression l c.0 c.1 (all_profiles p labels c.0 all c.2)
+exact_of_each a S p labels (fails x) of_set covered lack = exact_by_lack a S p labels x of_set lack
 
-covered_tells : (a : PureAlg) (p : PureProperty) (S : PureLabel → Type 0) (classes : List Class) → CoversSet a S classes → TellsOf a S classes p
-covered_tells a p S classes covers all l s =
-    let c = covers l s in fact_has p a.expression l ((c.1 (fact_of p)).0 (has_profile_too p classes c.0 all c.2))
+pub told_exact : (a : PureAlg) (S : PureLabel → Type 0) (labels : List Labelled) (v : PureVerdicts)
+    → AllByRecursion (λ (x : Labelled). S (pure_label x.label)) labels → ((l : PureLabel) → S l → IsCoveredBy a labels l) → AreTold a labels v
+    → ExactFor a.expression S v
+told_exact a S labels v of_set covered told p = exact_of_each a S p labels (verdict_on v p) of_set covered (told p)
 
-exact_by : (a : PureAlg) (p : PureProperty) (S : PureLabel → Type 0) (classes : List Class) → TellsOf a S classes p → (o : Option PureInstance)
-    → ListTells a p S classes o → IsExact p a.expression S (told o)
-exact_by a p S classes tells None t = tells t
-exact_by a p S classes tells (Some x) t = t.0
+-- The numbers of what is told are small.
 
-bound_by : (a : PureAlg) (p : PureProperty) (S : PureLabel → Type 0) (classes : List Class) (o : Option PureInstance)
-    → ListTells a p S classes o → VerdictAtMost (greatest_number a.edition) MAX_INSTANCE_NUMBER (told o)
-bound_by a p S classes None t = tt
-bound_by a p S classes (Some x) t = t.1
+bounded_by_lack : (a : PureAlg) (p : PureProperty) (labels : List Labelled) (x : PureInstance) → IsLackAmong a p labels x
+    → InstanceAtMost (greatest_number a.edition) MAX_INSTANCE_NUMBER x
+bounded_by_lack a p [] x lack = absurd lack
+bounded_by_lack a p (y ∷ ys) x lack = ⊎_elim (λ l. l.bound) (λ l. bounded_by_lack a p ys x l) lack
 
-told_on : (classes : List Class) (p : PureProperty) → verdict_on (verdicts_of classes) p ≡ told (first_lack p classes)
-told_on classes monotone = refl
-told_on classes strict = refl
-told_on classes isotone = refl
-told_on classes cancellative = refl
-told_on classes total = refl
+bounded_of_each : (a : PureAlg) (p : PureProperty) (labels : List Labelled) (v : PureVerdict) → IsTold a labels p v
+    → VerdictAtMost (greatest_number a.edition) MAX_INSTANCE_NUMBER v
+bounded_of_each a p labels holds told = tt
+bounded_of_each a p labels (fails x) told = bounded_by_lack a p labels x told
 
--- what classes tell is exact for a set of labels of which it tells, and has small numbers
-told_exact_by : (a : PureAlg) (S : PureLabel → Type 0) (classes : List Class) → AllByRecursion (ClassOf a) classes
-    → AllByRecursion (λ class. S (pure_label class.label)) classes → ((p : PureProperty) → TellsOf a S classes p) → ExactFor a.expression S (verdicts_of classes)
-told_exact_by a S classes each of_set tells p =
-    subst (λ v. IsExact p a.expression S v) (sym (told_on classes p))
-    (exact_by a p S classes (tells p) (first_lack p classes) (list_tells a p S classes each of_set))
+pub told_bounded : (a : PureAlg) (labels : List Labelled) (v : PureVerdicts) → AreTold a labels v
+    → VerdictsAtMost (greatest_number a.edition) MAX_INSTANCE_NUMBER v
+told_bounded a labels v told p = bounded_of_each a p labels (verdict_on v p) (told p)
 
--- so for one whose profiles they have
-pub told_exact : (a : PureAlg) (S : PureLabel → Type 0) (classes : List Class) → AllByRecursion (ClassOf a) classes
-    → AllByRecursion (λ class. S (pure_label class.label)) classes → CoversSet a S classes → ExactFor a.expression S (verdicts_of classes)
-told_exact a S classes each of_set covers = told_exact_by a S classes each of_set (λ p. covered_tells a p S classes covers)
+-- For all labels of an algebra that the labels cover.
+each_is : (a : PureAlg) (labels : List Labelled) → AllByRecursion (LabelledOf a) labels → AllByRecursion (λ (x : Labelled). IsLabel a.expression (pure_label x.label)) labels
+each_is a [] each = tt
+each_is a (x ∷ xs) each = (each.0.label, each_is a xs each.1)
 
-pub told_bounded : (a : PureAlg) (S : PureLabel → Type 0) (classes : List Class) → AllByRecursion (ClassOf a) classes
-    → AllByRecursion (λ class. S (pure_label class.label)) classes
-    → VerdictsAtMost (greatest_number a.edition) MAX_INSTANCE_NUMBER (verdicts_of classes)
-told_bounded a S classes each of_set p =
-    subst (λ v. VerdictAtMost (greatest_number a.edition) MAX_INSTANCE_NUMBER v) (sym (told_on classes p))
-    (bound_by a p S classes (first_lack p classes) (list_tells a p S classes each of_set))
+pub told_of_all : (a : PureAlg) (labels : List Labelled) (v : PureVerdicts) → CoversBy a labels → AreTold a labels v
+    → ExactFor a.expression (IsLabel a.expression) v
+told_of_all a labels v covers told = told_exact a (IsLabel a.expression) labels v (each_is a labels covers.each) covers.labels told
 
-labels_of : (a : PureAlg) (classes : List Class) → AllByRecursion (ClassOf a) classes → AllByRecursion (λ class. IsLabel a.expression (pure_label class.label)) classes
-labels_of a [] each = tt
-labels_of a (class ∷ classes) each = (each.0.label, labels_of a classes each.1)
+-- What is told of one label is exact for it, with small numbers.
+exact_of_one : (a : PureAlg) (l : PureLabel) (p : PureProperty) (v : PureVerdict) → IsToldOf a p l v → IsExact p a.expression (λ m. m ≡ l) v
+exact_of_one a l p holds h = λ m e. subst (λ m. Has p a.expression m) (sym e) h
+exact_of_one a l p (fails x) lack = (lack.property, lack.label, lack.violates)
 
--- for all labels where the classes cover the algebra, or tell of them
-pub told_of_all : (a : PureAlg) (classes : List Class) → Covers a classes → ExactFor a.expression (IsLabel a.expression) (verdicts_of classes)
-told_of_all a classes c = told_exact a (IsLabel a.expression) classes c.each (labels_of a classes c.each) c.labels
+bounded_of_one : (a : PureAlg) (l : PureLabel) (p : PureProperty) (v : PureVerdict) → IsToldOf a p l v → VerdictAtMost (greatest_number a.edition) MAX_INSTANCE_NUMBER v
+bounded_of_one a l p holds h = tt
+bounded_of_one a l p (fails x) lack = lack.bound
 
-pub told_of_each : (a : PureAlg) (classes : List Class) → AllByRecursion (ClassOf a) classes → ((p : PureProperty) → TellsOf a (IsLabel a.expression) classes p)
-    → ExactFor a.expression (IsLabel a.expression) (verdicts_of classes)
-told_of_each a classes each = told_exact_by a (IsLabel a.expression) classes each (labels_of a classes each)
+pub told_of_one : (a : PureAlg) (l : PureLabel) (v : PureVerdicts) → ((p : PureProperty) → IsToldOf a p l (verdict_on v p)) → ExactFor a.expression (λ m. m ≡ l) v
+told_of_one a l v told p = exact_of_one a l p (verdict_on v p) (told p)
 
-pub told_of_each_bounded : (a : PureAlg) (classes : List Class) → AllByRecursion (ClassOf a) classes
-    → VerdictsAtMost (greatest_number a.edition) MAX_INSTANCE_NUMBER (verdicts_of classes)
-told_of_each_bounded a classes each = told_bounded a (IsLabel a.expression) classes each (labels_of a classes each)
+pub told_of_one_bounded : (a : PureAlg) (l : PureLabel) (v : PureVerdicts) → ((p : PureProperty) → IsToldOf a p l (verdict_on v p))
+    → VerdictsAtMost (greatest_number a.edition) MAX_INSTANCE_NUMBER v
+told_of_one_bounded a l v told p = bounded_of_one a l p (verdict_on v p) (told p)
 
--- for the labels of a list
-pub told_of_labels : (a : PureAlg) (labels : List PureLabel) (classes : List Class) → CoversLabels a labels classes
-    → ExactFor a.expression (Contains labels) (verdicts_of classes)
-told_of_labels a labels classes c = told_exact a (Contains labels) classes c.each c.among c.covered
-
-pub told_of_labels_bounded : (a : PureAlg) (labels : List PureLabel) (classes : List Class) → CoversLabels a labels classes
-    → VerdictsAtMost (greatest_number a.edition) MAX_INSTANCE_NUMBER (verdicts_of classes)
-told_of_labels_bounded a labels classes c = told_bounded a (Contains labels) classes c.each c.among
-
--- for the label of one class
-pub told_of_one : (a : PureAlg) (class : Class) (l : PureLabel) → ClassOf a class → pure_label class.label ≡ l
-    → ExactFor a.expression (λ m. m ≡ l) (verdicts_of (class ∷ []))
-told_of_one a class l is same = told_exact a (λ m. m ≡ l) (class ∷ []) (is, tt) (same, tt)
-    (λ m e. (class.profile, subst (λ k. ProfileOf a.expression k class.profile) (same ∙ sym e) (class_profile a class is), inl refl))
-
-pub told_of_one_bounded : (a : PureAlg) (class : Class) → ClassOf a class
-    → VerdictsAtMost (greatest_number a.edition) MAX_INSTANCE_NUMBER (verdicts_of (class ∷ []))
-told_of_one_bounded a class is = told_bounded a (λ m. m ≡ pure_label class.label) (class ∷ []) (is, tt) (refl, tt)
-
--- Where the profile has all properties, they hold, and nothing is shown.
-
-all_held : (a : PureAlg) (p : Profile) (l : PureLabel) → ProfileOf a.expression l p → (q : PureProperty) → bit p (fact_of q) ≡ true → Has q a.expression l
-all_held a p l is q e = fact_has q a.expression l ((is (fact_of q)).0 e)
-
-has_each : (p : Profile) → has_all p ≡ true → (q : PureProperty) → bit p (fact_of q) ≡ true
-has_each p h monotone = grind (arith, nat_tests)
-has_each p h strict = grind (arith, nat_tests)
-has_each p h isotone = grind (arith, nat_tests)
-has_each p h cancellative = grind (arith, nat_tests)
-has_each p h total = grind (arith, nat_tests)
-
-pub all_hold_exact : (a : PureAlg) (p : Profile) (l : PureLabel) → ProfileOf a.expression l p → has_all p ≡ true
-    → ExactFor a.expression (λ m. m ≡ l) all_hold
-all_hold_exact a p l is h monotone = λ m e. subst (λ m. Has monotone a.expression m) (sym e) (all_held a p l is monotone (has_each p h monotone))
-all_hold_exact a p l is h strict = λ m e. subst (λ m. Has strict a.expression m) (sym e) (all_held a p l is strict (has_each p h strict))
-all_hold_exact a p l is h isotone = λ m e. subst (λ m. Has isotone a.expression m) (sym e) (all_held a p l is isotone (has_each p h isotone))
-all_hold_exact a p l is h cancellative = λ m e. subst (λ m. Has cancellative a.expression m) (sym e) (all_held a p l is cancellative (has_each p h cancellative))
-all_hold_exact a p l is h total = λ m e. subst (λ m. Has total a.expression m) (sym e) (all_held a p l is total (has_each p h total))
-
-pub all_hold_bounded : (m n : ℕ) → VerdictsAtMost m n all_hold
-all_hold_bounded m n monotone = tt
-all_hold_bounded m n strict = tt
-all_hold_bounded m n isotone = tt
-all_hold_bounded m n cancellative = tt
-all_hold_bounded m n total = tt
+-- what is told of each property is told of all
+pub told_of_five : (P : PureProperty → PureVerdict → Type 0) (v : PureVerdicts) → P monotone v.monotone → P strict v.strict → P isotone v.isotone
+    → P cancellative v.cancellative → P total v.total → (p : PureProperty) → P p (verdict_on v p)
+told_of_five P v h1 h2 h3 h4 h5 monotone = h1
+told_of_five P v h1 h2 h3 h4 h5 strict = h2
+told_of_five P v h1 h2 h3 h4 h5 isotone = h3
+told_of_five P v h1 h2 h3 h4 h5 cancellative = h4
+told_of_five P v h1 h2 h3 h4 h5 total = h5

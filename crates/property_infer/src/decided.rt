@@ -1,17 +1,19 @@
 // The verdicts on an algebra, and on one of its labels.
-ghost use Rattle.std.specs.Prelude.{◌≡◌, ◌&&◌, IfOk};
+ghost use Rattle.std.specs.Prelude.{◌≡◌, IfOk};
+ghost use Rattle.alg_classes.specs.Instances.{pure_property};
+ghost use Rattle.alg_classes.specs.Profiles.{ProfileOf};
 ghost use Rattle.alg_model.specs.Application.{IsLabel};
 ghost use Rattle.alg_model.specs.Bounds.{LabelAtMost, greatest_number};
 ghost use Rattle.alg_model.specs.declared.alg.TheConstants.{MAX_INSTANCE_NUMBER};
 ghost use Rattle.alg_model.specs.Instances.{VerdictsAtMost};
 ghost use Rattle.alg_model.specs.Verdicts.{ExactFor};
 ghost use Rattle.alg_model.specs.Views.{pure_label};
-ghost use Rattle.property_infer.specs.Told.{all_hold, has_all};
-ghost use Rattle.property_infer.specs.Views.{pure_verdicts};
+ghost use Rattle.property_infer.specs.Told.{IsToldOf};
+ghost use Rattle.property_infer.specs.Views.{pure_verdict, pure_verdicts};
 
-use crate::shown::shown_classes;
-use crate::{Verdict, Verdicts, label_class, label_profile, verdicts_of};
-use alg_classes::Profile;
+use crate::told::{has_property, instance};
+use crate::{Verdict, Verdicts, label_profile, verdicts_of};
+use alg_classes::{Profile, Property};
 use alg_model::{Alg, Label};
 use meta_base::NoMemory;
 use profile_labels::covering_labels;
@@ -27,8 +29,7 @@ pub fn verdicts(alloc: Global, alg: &Alg) -> Result<Verdicts, NoMemory>
         VerdictsAtMost (greatest_number alg.now.edition) MAX_INSTANCE_NUMBER (pure_verdicts verdicts)) }
 {
     let labels = covering_labels(alloc, alg)?;
-    let classes = shown_classes(alloc, alg, labels.as_slice())?;
-    verdicts_of(alloc, classes.classes())
+    verdicts_of(alloc, alg, labels.as_slice())
 }
 
 /// The exact verdicts on one label of the algebra: each property holds of it, or an instance of it shows that
@@ -42,28 +43,32 @@ pub fn label_verdicts(alloc: Global, alg: &Alg, label: &Label) -> Result<Verdict
     ensures bound { IfOk result (λ verdicts.
         VerdictsAtMost (greatest_number alg.now.edition) MAX_INSTANCE_NUMBER (pure_verdicts verdicts)) }
 {
-    if has_all(&label_profile(alg, label)) {
-        return Ok(all_hold());
-    }
-    let class = [label_class(alloc, alg, label)?];
-    verdicts_of(alloc, &class)
+    let profile = label_profile(alg, label);
+    Ok(Verdicts {
+        monotone: label_verdict(alloc, alg, label, &profile, Property::Monotone)?,
+        strict: label_verdict(alloc, alg, label, &profile, Property::Strict)?,
+        isotone: label_verdict(alloc, alg, label, &profile, Property::Isotone)?,
+        cancellative: label_verdict(alloc, alg, label, &profile, Property::Cancellative)?,
+        total: label_verdict(alloc, alg, label, &profile, Property::Total)?,
+    })
 }
 
-// Whether a label with this profile has all properties.
-fn has_all(profile: &Profile) -> bool
-    ensures { result ≡ has_all profile.now }
+// The verdict on the label, which has that profile.
+fn label_verdict(
+    alloc: Global,
+    alg: &Alg,
+    label: &Label,
+    profile: &Profile,
+    property: Property,
+) -> Result<Verdict, NoMemory>
+    requires label { IsLabel alg.now.expression (pure_label label.now) }
+    requires small { LabelAtMost (greatest_number alg.now.edition) (pure_label label.now) }
+    requires profile { ProfileOf alg.now.expression (pure_label label.now) profile.now }
+    ensures { IfOk result (λ verdict.
+        IsToldOf alg.now (pure_property property) (pure_label label.now) (pure_verdict verdict)) }
 {
-    profile.mono && profile.strict && profile.iso && profile.canc && profile.total
-}
-
-fn all_hold() -> Verdicts
-    ensures { pure_verdicts result ≡ all_hold }
-{
-    Verdicts {
-        monotone: Verdict::Yes,
-        strict: Verdict::Yes,
-        isotone: Verdict::Yes,
-        cancellative: Verdict::Yes,
-        total: Verdict::Yes,
+    if has_property(profile, property) {
+        return Ok(Verdict::Yes);
     }
+    Ok(Verdict::No(instance(alloc, alg, label, property)?))
 }

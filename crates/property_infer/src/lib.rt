@@ -1,21 +1,23 @@
 //! The exact verdicts on an algebra, on one of its labels, or on some of them: each of the five properties holds,
-//! or an instance shows that it fails. They are what classes of labels tell; those of a composed algebra are made
-//! from those of its parts, by induction over the tree. It stands on `alg_classes` and the crates of classes.
+//! or an instance shows that it fails. The facts of a label are made from those of its parts, by induction over the
+//! tree, and so is the example against one that fails: of the parts, only those examples are made that show it. It
+//! stands on `alg_classes`, the crates of classes, and `profile_labels`.
 #![tactic(auto)]
 
+mod action;
 mod decided;
+mod example;
+mod fact;
 mod labels;
 mod laws;
+mod pairs;
 mod parts;
-mod shown;
+mod sides;
 mod told;
 mod verdict;
 
 pub use decided::{label_verdicts, verdicts};
-pub use labels::{add_label, label_class, label_profile};
-pub use laws::{
-    verdicts_of_classes_are_exact, verdicts_of_covered_labels_are_exact,
-    verdicts_of_one_class_are_exact,
-};
+pub use labels::{add_label, label_profile};
+pub use laws::told_verdicts_are_exact;
 pub use told::verdicts_of;
 pub use verdict::{Verdict, Verdicts};

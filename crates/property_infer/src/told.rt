@@ -1,99 +1,110 @@
-// What classes tell of properties.
-ghost use Rattle.std.specs.Prelude.{◌≡◌, None, Some, option_map, IfOk};
-ghost use Rattle.alg_classes.specs.Classes.{pure_at, pure_between};
+// What labels and their profiles tell of properties.
+ghost use Rattle.std.specs.Prelude.{◌≡◌, IfOk};
+ghost use Rattle.std.specs.List.{AllByRecursion};
 ghost use Rattle.alg_classes.specs.Instances.{pure_instance, pure_property};
+ghost use Rattle.alg_classes.specs.Profiles.{bit};
+ghost use Rattle.alg_model.specs.Application.{IsLabel};
+ghost use Rattle.alg_model.specs.Bounds.{LabelAtMost, greatest_number};
+ghost use Rattle.alg_model.specs.Properties.{Has};
 ghost use Rattle.alg_model.specs.Views.{pure_label};
-ghost use Rattle.property_infer.specs.Told.{first_lack, instance_at, lack_of, told, verdicts_of};
+ghost use Rattle.profile_labels.specs.Labels.{LabelledOf};
+ghost use Rattle.property_infer.specs.Asked.{pure_fact};
+ghost use Rattle.property_infer.specs.Told.{AreTold, IsLackOf, IsTold, fact_of};
 ghost use Rattle.property_infer.specs.Views.{pure_verdict, pure_verdicts};
 
+use crate::action::Action;
+use crate::example::{Example, example_for};
+use crate::fact::Fact;
 use crate::{Verdict, Verdicts};
-use alg_classes::{Class, Instance, Property};
-use alg_model::{Label, Value};
+use alg_classes::{Instance, Profile, Property};
+use alg_model::{Alg, Label};
 use meta_base::NoMemory;
+use profile_labels::Labelled;
 use std::alloc::Global;
 
-/// The verdicts that the classes tell: yes where all have the property, else no with the example of the first
-/// that lacks it. Where the classes cover an algebra, they are exact for all of its labels; of one class they
-/// are exact for its label. It is refused for want of memory alone.
-pub fn verdicts_of(alloc: Global, classes: &[Class]) -> Result<Verdicts, NoMemory>
-    ensures { IfOk result (λ verdicts. pure_verdicts verdicts ≡ verdicts_of classes.now) }
+// The fact that a property is.
+fn fact_of(property: Property) -> Fact
+    ensures { pure_fact result ≡ fact_of (pure_property property) }
 {
-    Ok(Verdicts {
-        monotone: verdict_of(alloc, classes, Property::Monotone)?,
-        strict: verdict_of(alloc, classes, Property::Strict)?,
-        isotone: verdict_of(alloc, classes, Property::Isotone)?,
-        cancellative: verdict_of(alloc, classes, Property::Cancellative)?,
-        total: verdict_of(alloc, classes, Property::Total)?,
+    match property {
+        Property::Monotone => Fact::Mono,
+        Property::Strict => Fact::Strict,
+        Property::Isotone => Fact::Iso,
+        Property::Cancellative => Fact::Canc,
+        Property::Total => Fact::Total,
+    }
+}
+
+// Whether a label with this profile has the property.
+pub(crate) fn has_property(profile: &Profile, property: Property) -> bool
+    ensures { result ≡ bit profile.now (fact_of (pure_property property)) }
+{
+    fact_of(property).is_in(profile)
+}
+
+// Values at which the label lacks the property, which it does.
+pub(crate) fn instance(
+    alloc: Global,
+    alg: &Alg,
+    label: &Label,
+    property: Property,
+) -> Result<Instance, NoMemory>
+    requires label { IsLabel alg.now.expression (pure_label label.now) }
+    requires small { LabelAtMost (greatest_number alg.now.edition) (pure_label label.now) }
+    requires lacks { ¬ Has (pure_property property) alg.now.expression (pure_label label.now) }
+    ensures { IfOk result (λ x. IsLackOf alg.now (pure_property property) (pure_label label.now) (pure_instance x)) }
+{
+    let action = Action::OfLabel(alg.tree(), label);
+    let (first, second) = match example_for(alloc, action, fact_of(property))? {
+        Some(Example::At(first)) => (first, None),
+        Some(Example::Between(first, second)) => (first, Some(second)),
+        None => unreachable!(),
+    };
+    Ok(Instance {
+        property,
+        label: label.copy(alloc)?,
+        first,
+        second,
     })
 }
 
-// No at the first class that lacks the property.
-fn verdict_of(alloc: Global, classes: &[Class], property: Property) -> Result<Verdict, NoMemory>
-    ensures { IfOk result (λ verdict.
-        pure_verdict verdict ≡ told (first_lack (pure_property property) classes.now)) }
+// No at the first label that lacks the property.
+fn verdict_of(
+    alloc: Global,
+    alg: &Alg,
+    labels: &[Labelled],
+    property: Property,
+) -> Result<Verdict, NoMemory>
+    requires { AllByRecursion (LabelledOf alg.now) labels.now }
+    ensures { IfOk result (λ verdict. IsTold alg.now labels.now (pure_property property) (pure_verdict verdict)) }
 {
-    match classes {
+    match labels {
         [] => Ok(Verdict::Yes),
-        [class, rest @ ..] => match lack_of(alloc, class, property)? {
-            Some(instance) => Ok(Verdict::No(instance)),
-            None => verdict_of(alloc, rest, property),
-        },
+        [first, rest @ ..] => {
+            if has_property(&first.profile, property) {
+                return verdict_of(alloc, alg, rest, property);
+            }
+            Ok(Verdict::No(instance(alloc, alg, &first.label, property)?))
+        }
     }
 }
 
-// The class's example against the property, if it lacks it.
-fn lack_of(alloc: Global, class: &Class, property: Property) -> Result<Option<Instance>, NoMemory>
-    ensures { IfOk result (λ instance.
-        option_map pure_instance instance ≡ lack_of (pure_property property) class.now) }
-{
-    let examples = &class.examples;
-    match property {
-        Property::Monotone => at(alloc, property, &class.label, &examples.not_mono),
-        Property::Strict => at(alloc, property, &class.label, &examples.not_strict),
-        Property::Isotone => between(alloc, property, &class.label, &examples.not_iso),
-        Property::Cancellative => between(alloc, property, &class.label, &examples.not_canc),
-        Property::Total => at(alloc, property, &class.label, &examples.outside),
-    }
-}
-
-// An instance at this value, if it is there.
-fn at(
+/// The verdicts that labels of the algebra tell: yes where all have the property, else no with an instance of the
+/// first that lacks it. Where they cover the algebra, the verdicts are exact for all of its labels. They are refused
+/// for want of memory alone.
+pub fn verdicts_of(
     alloc: Global,
-    property: Property,
-    label: &Label,
-    value: &Option<Value>,
-) -> Result<Option<Instance>, NoMemory>
-    ensures { IfOk result (λ instance. option_map pure_instance instance ≡
-        option_map (instance_at (pure_property property) (pure_label label.now)) (option_map pure_at value.now)) }
+    alg: &Alg,
+    labels: &[Labelled],
+) -> Result<Verdicts, NoMemory>
+    requires { AllByRecursion (LabelledOf alg.now) labels.now }
+    ensures { IfOk result (λ verdicts. AreTold alg.now labels.now (pure_verdicts verdicts)) }
 {
-    let Some(first) = value else {
-        return Ok(None);
-    };
-    Ok(Some(Instance {
-        property,
-        label: label.copy(alloc)?,
-        first: first.copy(alloc)?,
-        second: None,
-    }))
-}
-
-// An instance at these two values, if they are there.
-fn between(
-    alloc: Global,
-    property: Property,
-    label: &Label,
-    values: &Option<(Value, Value)>,
-) -> Result<Option<Instance>, NoMemory>
-    ensures { IfOk result (λ instance. option_map pure_instance instance ≡
-        option_map (instance_at (pure_property property) (pure_label label.now)) (option_map pure_between values.now)) }
-{
-    let Some((first, second)) = values else {
-        return Ok(None);
-    };
-    Ok(Some(Instance {
-        property,
-        label: label.copy(alloc)?,
-        first: first.copy(alloc)?,
-        second: Some(second.copy(alloc)?),
-    }))
+    Ok(Verdicts {
+        monotone: verdict_of(alloc, alg, labels, Property::Monotone)?,
+        strict: verdict_of(alloc, alg, labels, Property::Strict)?,
+        isotone: verdict_of(alloc, alg, labels, Property::Isotone)?,
+        cancellative: verdict_of(alloc, alg, labels, Property::Cancellative)?,
+        total: verdict_of(alloc, alg, labels, Property::Total)?,
+    })
 }

@@ -1,5 +1,0 @@
-use Rattle.property_infer.specs.ToldLaws.{told_of_all}
-use Rattle.property_infer.proofs.laws.verdicts_of_classes_are_exact.Goals as goal
-
-pub returns : goal.returns
-returns c = told_of_all

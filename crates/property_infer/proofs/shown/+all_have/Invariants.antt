@@ -1,5 +1,0 @@
-use Rattle.std.proofs.Common.{length}
-use Rattle.property_infer.proofs.shown.+all_have.Given as goal
-
-abbrev pub decreases-all_have : goal.decreases-all_have
-decreases-all_have l = length l.classes.now

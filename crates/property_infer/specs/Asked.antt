@@ -1,0 +1,112 @@
+-- What the program's facts, examples and actions stand for; and what it asks of the parts of a pair, or of the two
+-- sides of a value, whose examples then answer for both together.
+use Rattle.std.specs.Prelude.{Option, Some, option_map}
+use Rattle.alg_model.specs.declared.alg.TheConstants.{MAX_INSTANCE_NUMBER}
+use Rattle.alg_model.specs.declared.edition.Edition.{Edition}
+use Rattle.alg_model.specs.Application.{IsLabel, App}
+use Rattle.alg_model.specs.Bounds.{AtMost, LabelAtMost, greatest_number}
+use Rattle.alg_model.specs.Carriers.{carrier_of, In}
+use Rattle.alg_model.specs.Expressions.{Expression, PureCarrier, PureValue, pairs, sides}
+use Rattle.alg_model.specs.Formation.{IsAlg, node_count}
+use Rattle.alg_model.specs.Views.{expression_of, pure_label, pure_value}
+use Rattle.alg_classes.specs.Facts as facts
+use Rattle.alg_classes.specs.Facts.{PureExample, at, between}
+use Rattle.alg_classes.specs.Classes.{alg_in}
+use Rattle.alg_classes.specs.Constants.{constant, kept}
+use Rattle.alg_classes.specs.Pairs.{paired, spanned}
+use Rattle.alg_classes.specs.Pairs as pair
+use Rattle.union_classes.specs.Sums.{denied, on_first, on_second, across}
+use Rattle.union_classes.specs.Sums as side
+use Rattle.property_infer.specs.declared.action.Action.{Action}
+use Rattle.property_infer.specs.declared.action.Action.TheVariants.{OfLabel, Constant, Keep, Deny}
+use Rattle.property_infer.specs.declared.example.Example.{Example}
+use Rattle.property_infer.specs.declared.example.Example.TheVariants.{At, Between}
+use Rattle.property_infer.specs.declared.fact.Fact.{Fact}
+use Rattle.property_infer.specs.declared.fact.Fact.TheVariants.{Total, Dead, Mono, Strict, Iso, Canc, Cond, Narrow}
+use Rattle.property_infer.specs.declared.pairs.OfPair.{OfPair}
+use Rattle.property_infer.specs.declared.pairs.OfPair.TheVariants.{Both, OutsideFirst, OutsideSecond, Split}
+use Rattle.property_infer.specs.declared.sides.OfSides.{OfSides}
+use Rattle.property_infer.specs.declared.sides.OfSides.TheVariants.{First, Second, Across}
+use Rattle.property_infer.specs.Answers.{Answers}
+
+abbrev pub pure_fact : Fact → facts.Fact
+pure_fact Total = facts.total
+pure_fact Dead = facts.dead
+pure_fact Mono = facts.mono
+pure_fact Strict = facts.strict
+pure_fact Iso = facts.iso
+pure_fact Canc = facts.canc
+pure_fact Cond = facts.cond
+pure_fact Narrow = facts.narrow
+
+abbrev pub pure_example : Example → PureExample
+pure_example (At v) = at (pure_value v)
+pure_example (Between u v) = between (pure_value u) (pure_value v)
+
+-- the part that the action is on, and what it does to the values of that
+abbrev pub part_of : Action → Expression
+part_of (OfLabel part label) = expression_of part.now
+part_of (Constant part value) = expression_of part.now
+part_of (Keep part) = expression_of part.now
+part_of (Deny part) = expression_of part.now
+
+abbrev pub carrier_under : Action → PureCarrier
+carrier_under x = carrier_of (part_of x)
+
+abbrev pub action_of : Action → facts.Action
+action_of (OfLabel part label) = App (expression_of part.now) (pure_label label.now)
+action_of (Constant part value) = constant (pure_value value.now)
+action_of (Keep part) = kept
+action_of (Deny part) = denied
+
+-- the label is the part's, or the value is, and no number is above the greatest of an edition
+abbrev pub IsOfPart : Edition → Action → Type 0
+IsOfPart e (OfLabel part label) =
+    IsLabel (expression_of part.now) (pure_label label.now) × LabelAtMost (greatest_number e) (pure_label label.now)
+IsOfPart e (Constant part value) =
+    In (carrier_of (expression_of part.now)) (pure_value value.now) × AtMost (greatest_number e) (pure_value value.now)
+IsOfPart e (Keep part) = Unit {0}
+IsOfPart e (Deny part) = Unit {0}
+
+-- it is an action on a part of an algebra of the edition
+pub record IsAction (e : Edition) (x : Action) : Type 0 where
+  pub alg : IsAlg (alg_in (part_of x) e)
+  pub of_part : IsOfPart e x
+
+-- the example answers whether the fact holds of the action
+abbrev pub AnswersFor : Action → Fact → Option Example → Type 0
+AnswersFor x k o = Answers (carrier_under x) (action_of x) (pure_fact k) (option_map pure_example o)
+
+-- the same of two actions, one on each part of a pair, and of one on each side
+abbrev pub AnswersForPair : Action → Action → facts.Fact → Option PureExample → Type 0
+AnswersForPair x y = Answers (pairs (carrier_under x) (carrier_under y)) (paired (action_of x) (action_of y))
+
+abbrev pub AnswersForSides : Action → Action → facts.Fact → Option PureExample → Type 0
+AnswersForSides x y = Answers (sides (carrier_under x) (carrier_under y)) (side.beside (action_of x) (action_of y))
+
+-- a value of the part, with small numbers
+abbrev pub IsSmallIn : Action → PureValue → Type 0
+IsSmallIn x v = In (carrier_under x) v × AtMost MAX_INSTANCE_NUMBER v
+
+-- an answer of the action to a fact
+abbrev pub ToFact : Action → Fact → Option PureExample → Type 0
+ToFact x k = Answers (carrier_under x) (action_of x) (pure_fact k)
+
+-- whatever answers what is asked of the parts makes an answer for the pair
+abbrev pub MakesPair : Action → Action → Fact → OfPair → Type 0
+MakesPair x y k (Both p q) =
+    (o r : Option PureExample) → ToFact x p o → ToFact y q r → AnswersForPair x y (pure_fact k) (pair.beside o r)
+MakesPair x y k OutsideFirst =
+    (o : Option PureExample) (v : PureValue) → ToFact x Total o → IsSmallIn y v → AnswersForPair x y (pure_fact k) (pair.beside o (Some (at v)))
+MakesPair x y k OutsideSecond =
+    (u : PureValue) (r : Option PureExample) → IsSmallIn x u → ToFact y Total r → AnswersForPair x y (pure_fact k) (pair.beside (Some (at u)) r)
+MakesPair x y k Split =
+    (o r s : Option PureExample) → ToFact x Narrow o → ToFact y Dead r → ToFact y Total s
+    → AnswersForPair x y (pure_fact k) (pair.beside o (spanned r s))
+
+-- and of the sides, for both
+abbrev pub MakesSides : Action → Action → Fact → OfSides → Type 0
+MakesSides x y k First = (o : Option PureExample) → ToFact x k o → AnswersForSides x y (pure_fact k) (option_map on_first o)
+MakesSides x y k Second = (r : Option PureExample) → ToFact y k r → AnswersForSides x y (pure_fact k) (option_map on_second r)
+MakesSides x y k (Across p) =
+    (o r : Option PureExample) → ToFact x p o → ToFact y Dead r → AnswersForSides x y (pure_fact k) (across o r)

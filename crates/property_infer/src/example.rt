@@ -1,0 +1,248 @@
+// Examples against the facts of a label, made from the top: of the parts only what shows the fact that is asked for.
+ghost use Rattle.std.specs.Prelude.{◌≡◌, option_map, IfOk};
+ghost use Rattle.alg_classes.specs.Classes.{pure_at, pure_between, pure_examples};
+ghost use Rattle.alg_model.specs.Views.{pure_value};
+ghost use Rattle.alg_model.specs.declared.edition.Edition.{Edition};
+ghost use Rattle.property_infer.specs.Asked.{pure_fact, pure_example, AnswersFor, AnswersForPair, AnswersForSides};
+ghost use Rattle.property_infer.specs.Asked.{IsAction, IsSmallIn};
+
+use crate::action::Action;
+use crate::fact::Fact;
+use crate::pairs::{OfPair, asked_of_pair, beside, spanned};
+use crate::parts::part_carrier;
+use crate::sides::{OfSides, across, asked_of_sides, on_first, on_second};
+use alg_classes::{Examples, apart, best, worse_than};
+use alg_model::{Label, Tree, Value};
+use base_classes::base_examples;
+use meta_base::NoMemory;
+use std::alloc::Global;
+use table_classes::table_examples;
+
+/// A value, or two, at which a fact fails.
+#[derive(Debug, Drop)]
+pub(crate) enum Example {
+    At(Value),
+    Between(Value, Value),
+}
+
+// An example against the fact, or `None` where the action has it.
+#[cycle(example_for)]
+pub(crate) fn example_for(
+    alloc: Global,
+    action: Action<'_>,
+    fact: Fact,
+) -> Result<Option<Example>, NoMemory>
+    requires { (e : Edition) × IsAction e action }
+    ensures { IfOk result (AnswersFor action fact) }
+{
+    match action {
+        Action::OfLabel(part, label) => label_example(alloc, part, label, fact),
+        Action::Constant(part, value) => constant_example(alloc, part, value, fact),
+        Action::Keep(part) => kept_example(alloc, part, fact),
+        Action::Deny(part) => denied_example(alloc, part, fact),
+    }
+}
+
+// The same of a label of the part.
+// What is neither an operator nor a table is one of the eleven base algebras.
+#[cycle(example_for)]
+fn label_example(
+    alloc: Global,
+    part: &Tree,
+    label: &Label,
+    fact: Fact,
+) -> Result<Option<Example>, NoMemory>
+    requires { (e : Edition) × IsAction e (Action.OfLabel part label) }
+    ensures { IfOk result (AnswersFor (Action.OfLabel part label) fact) }
+{
+    match part {
+        Tree::Lex(a, b) => match label {
+            Label::Pair(l, m) => {
+                pair_example(alloc, Action::OfLabel(a, l), Action::OfLabel(b, m), fact)
+            }
+            _ => unreachable!(),
+        },
+        Tree::Scoped(a, b) => match label {
+            Label::Outer(l, v) => {
+                pair_example(alloc, Action::OfLabel(a, l), Action::Constant(b, v), fact)
+            }
+            Label::Inner(m) => pair_example(alloc, Action::Keep(a), Action::OfLabel(b, m), fact),
+            _ => unreachable!(),
+        },
+        Tree::Union(a, b) => match label {
+            Label::First(l) => side_example(alloc, Action::OfLabel(a, l), Action::Deny(b), fact),
+            Label::Second(m) => side_example(alloc, Action::Deny(a), Action::OfLabel(b, m), fact),
+            _ => unreachable!(),
+        },
+        Tree::Sum(a, b) => match label {
+            Label::Both(l, m) => {
+                side_example(alloc, Action::OfLabel(a, l), Action::OfLabel(b, m), fact)
+            }
+            _ => unreachable!(),
+        },
+        Tree::Plus(a, b) => match label {
+            Label::First(l) => label_example(alloc, a, l, fact),
+            Label::Second(m) => label_example(alloc, b, m, fact),
+            _ => unreachable!(),
+        },
+        Tree::Left(a) => match label {
+            Label::Const(v) => constant_example(alloc, a, v, fact),
+            _ => unreachable!(),
+        },
+        Tree::Right(a) => kept_example(alloc, a, fact),
+        Tree::Table(_) => Ok(among(table_examples(part, label), fact)),
+        base => Ok(among(base_examples(alloc, base, label)?, fact)),
+    }
+}
+
+// The same of a pair, on whose parts the two act.
+#[cycle(example_for)]
+fn pair_example(
+    alloc: Global,
+    x: Action<'_>,
+    y: Action<'_>,
+    fact: Fact,
+) -> Result<Option<Example>, NoMemory>
+    requires first { (e : Edition) × IsAction e x }
+    requires second { (e : Edition) × IsAction e y }
+    ensures { IfOk result (λ o. AnswersForPair x y (pure_fact fact) (option_map pure_example o)) }
+{
+    match asked_of_pair(x, y, fact) {
+        OfPair::Both(of_x, of_y) => {
+            let first = example_for(alloc, x, of_x)?;
+            let second = example_for(alloc, y, of_y)?;
+            beside(alloc, first, second)
+        }
+        OfPair::OutsideFirst => {
+            let first = example_for(alloc, x, Fact::Total)?;
+            let second = any_value(alloc, y)?;
+            beside(alloc, first, Some(Example::At(second)))
+        }
+        OfPair::OutsideSecond => {
+            let first = any_value(alloc, x)?;
+            let second = example_for(alloc, y, Fact::Total)?;
+            beside(alloc, Some(Example::At(first)), second)
+        }
+        OfPair::Split => {
+            let first = example_for(alloc, x, Fact::Narrow)?;
+            let inside = example_for(alloc, y, Fact::Dead)?;
+            let outside = example_for(alloc, y, Fact::Total)?;
+            beside(alloc, first, spanned(inside, outside))
+        }
+    }
+}
+
+// The same of a sum or a union, on whose sides the two act.
+#[cycle(example_for)]
+fn side_example(
+    alloc: Global,
+    x: Action<'_>,
+    y: Action<'_>,
+    fact: Fact,
+) -> Result<Option<Example>, NoMemory>
+    requires first { (e : Edition) × IsAction e x }
+    requires second { (e : Edition) × IsAction e y }
+    ensures { IfOk result (λ o. AnswersForSides x y (pure_fact fact) (option_map pure_example o)) }
+{
+    match asked_of_sides(x, y, fact) {
+        OfSides::First => {
+            let first = example_for(alloc, x, fact)?;
+            on_first(alloc, first)
+        }
+        OfSides::Second => {
+            let second = example_for(alloc, y, fact)?;
+            on_second(alloc, second)
+        }
+        OfSides::Across(of_x) => {
+            let first = example_for(alloc, x, of_x)?;
+            let second = example_for(alloc, y, Fact::Dead)?;
+            across(alloc, first, second)
+        }
+    }
+}
+
+// The same of what sends every value of the part to this one.
+fn constant_example(
+    alloc: Global,
+    part: &Tree,
+    value: &Value,
+    fact: Fact,
+) -> Result<Option<Example>, NoMemory>
+    requires { (e : Edition) × IsAction e (Action.Constant part value) }
+    ensures { IfOk result (AnswersFor (Action.Constant part value) fact) }
+{
+    match fact {
+        Fact::Dead | Fact::Strict => Ok(Some(Example::At(value.copy(alloc)?))),
+        Fact::Mono => Ok(at(worse_than(alloc, &part_carrier(alloc, part)?, value)?)),
+        Fact::Canc | Fact::Narrow => Ok(between(apart(alloc, &part_carrier(alloc, part)?)?)),
+        Fact::Total | Fact::Iso | Fact::Cond => Ok(None),
+    }
+}
+
+// The same of what keeps every value of the part.
+fn kept_example(alloc: Global, part: &Tree, fact: Fact) -> Result<Option<Example>, NoMemory>
+    requires { (e : Edition) × IsAction e (Action.Keep part) }
+    ensures { IfOk result (AnswersFor (Action.Keep part) fact) }
+{
+    match fact {
+        Fact::Dead | Fact::Strict => {
+            Ok(Some(Example::At(best(alloc, &part_carrier(alloc, part)?)?)))
+        }
+        Fact::Cond | Fact::Narrow => Ok(between(apart(alloc, &part_carrier(alloc, part)?)?)),
+        Fact::Total | Fact::Mono | Fact::Iso | Fact::Canc => Ok(None),
+    }
+}
+
+// The same of what sends every value of the part to none.
+fn denied_example(alloc: Global, part: &Tree, fact: Fact) -> Result<Option<Example>, NoMemory>
+    requires { (e : Edition) × IsAction e (Action.Deny part) }
+    ensures { IfOk result (AnswersFor (Action.Deny part) fact) }
+{
+    match fact {
+        Fact::Total => Ok(Some(Example::At(any_value(alloc, Action::Deny(part))?))),
+        Fact::Dead
+        | Fact::Mono
+        | Fact::Strict
+        | Fact::Iso
+        | Fact::Canc
+        | Fact::Cond
+        | Fact::Narrow => Ok(None),
+    }
+}
+
+// A value of the part that the action is on.
+fn any_value(alloc: Global, action: Action<'_>) -> Result<Value, NoMemory>
+    requires { (e : Edition) × IsAction e action }
+    ensures { IfOk result (λ v. IsSmallIn action (pure_value v)) }
+{
+    best(alloc, &part_carrier(alloc, action.part())?)
+}
+
+// The one of the examples that is against the fact.
+fn among(examples: Examples, fact: Fact) -> Option<Example>
+    ensures { option_map pure_example result ≡ pure_examples examples (pure_fact fact) }
+{
+    match fact {
+        Fact::Total => at(examples.outside),
+        Fact::Dead => at(examples.inside),
+        Fact::Mono => at(examples.not_mono),
+        Fact::Strict => at(examples.not_strict),
+        Fact::Iso => between(examples.not_iso),
+        Fact::Canc => between(examples.not_canc),
+        Fact::Cond => between(examples.not_cond),
+        Fact::Narrow => between(examples.not_narrow),
+    }
+}
+
+fn at(value: Option<Value>) -> Option<Example>
+    ensures { option_map pure_example result ≡ option_map pure_at value }
+{
+    Some(Example::At(value?))
+}
+
+fn between(values: Option<(Value, Value)>) -> Option<Example>
+    ensures { option_map pure_example result ≡ option_map pure_between values }
+{
+    let (u, v) = values?;
+    Some(Example::Between(u, v))
+}
