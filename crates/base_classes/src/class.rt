@@ -38,8 +38,8 @@ pub fn base_class(alloc: Global, alg: &Alg, label: &Label) -> Result<Class, NoMe
 /// The examples of the facts that fail of the label, of a tree that meets the formation rule on ranges. It is
 /// refused for want of memory alone.
 ///
-/// The tree is a base algebra other than a table, and the label is the algebra's. No number of the examples is
-/// above [`MAX_INSTANCE_NUMBER`](alg_model::MAX_INSTANCE_NUMBER), where those of the tree are its edition's.
+/// The tree is a base algebra other than a table, and the label is the algebra's. Where no number of the tree is above
+/// the greatest of an edition, none of the examples is above `MAX_INSTANCE_NUMBER`.
 pub fn base_examples(alloc: Global, tree: &Tree, label: &Label) -> Result<Examples, NoMemory>
     requires base { IsBase (expression_of tree.now) }
     requires ranges { MeetsRanges (expression_of tree.now) }

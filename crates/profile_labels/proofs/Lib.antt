@@ -1,1 +1,2 @@
 mod Profiles
+mod Places

@@ -1,4 +1,5 @@
 pub mod Labels
+pub mod Places
 pub mod ListLaws
 pub mod Growth
 pub mod Steps

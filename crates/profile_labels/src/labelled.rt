@@ -4,8 +4,8 @@ ghost use Rattle.alg_model.specs.Expressions.{PureAlg};
 ghost use Rattle.alg_model.specs.Views.{pure_label};
 ghost use Rattle.alg_classes.specs.Classes.{ClassOf, HasProfile, IsTruthOf};
 ghost use Rattle.std.specs.Prelude.{IfOk, OnOk};
-ghost use Rattle.profile_labels.specs.Growth.{Grown};
-ghost use Rattle.profile_labels.specs.Labels.{Has, LabelledOf};
+ghost use Rattle.profile_labels.specs.Growth.{Grown, Only};
+ghost use Rattle.profile_labels.specs.Labels.{Has, IsLabelWith, LabelledOf};
 
 use alg_classes::{Class, Profile};
 use alg_model::Label;
@@ -27,6 +27,21 @@ pub(crate) fn has(labels: &[Labelled], profile: &Profile) -> bool
         [] => false,
         [labelled, rest @ ..] => labelled.profile == *profile || has(rest, profile),
     }
+}
+
+// Adds the label, unless its profile is there.
+pub(crate) fn add_label(
+    list: &mut List<Labelled>,
+    profile: Profile,
+    label: Label,
+) -> Result<(), NoMemory>
+    ensures { (a : PureAlg) → IsLabelWith a (pure_label label) profile → OnOk result
+        (Grown (LabelledOf a) (Only profile) list.old list.new) }
+{
+    if has(list.as_slice(), &profile) {
+        return Ok(());
+    }
+    list.push(Labelled { profile, label })
 }
 
 // The class's label, with its profile.

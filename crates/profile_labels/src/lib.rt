@@ -5,6 +5,7 @@
 
 mod joint;
 mod labelled;
+mod leaves;
 mod parts;
 mod step;
 

@@ -15,13 +15,12 @@ ghost use Rattle.scoped_classes.specs.Scoped.{OfOuters, outer_rule};
 use crate::Labelled;
 use crate::joint::Joint;
 use crate::labelled::add_labels;
+use crate::leaves::{labels_of_base, labels_of_table};
 use crate::step::{Step, add_joined, add_steps};
 use alg_classes::{ClassList, best, worst};
 use alg_model::{Alg, Carrier, Tree, Value, tree_carrier};
-use base_classes::base_class_list;
 use meta_base::{List, NoMemory};
 use std::alloc::Global;
-use table_classes::table_class_list;
 use union_classes::{left_class_list, right_class_list};
 
 /// Labels of the algebra, among which each profile of its labels is, each with its profile. They are refused for
@@ -47,14 +46,8 @@ fn part_labels(alloc: Global, alg: &Alg, part: &Tree) -> Result<List<Labelled>, 
         Tree::Plus(a, b) => labels_of_plus(alloc, alg, a, b),
         Tree::Left(a) => labels_of(alloc, &left_class_list(alloc, &part_carrier(alloc, a)?)?),
         Tree::Right(a) => labels_of_right(alloc, alg, a),
-        Tree::Table(_) => labels_of(
-            alloc,
-            &table_class_list(alloc, &alg.copy_part(alloc, part)?)?,
-        ),
-        base => labels_of(
-            alloc,
-            &base_class_list(alloc, &alg.copy_part(alloc, base)?)?,
-        ),
+        Tree::Table(_) => labels_of_table(alloc, part),
+        base => labels_of_base(alloc, base),
     }
 }
 

@@ -3,17 +3,18 @@ use Rattle.std.proofs.Common.{◌≡◌, sym, subst, ℕ, Option, Some, None}
 use Rattle.std.specs.Option.{is_none}
 use Rattle.alg_model.specs.declared.alg.TheConstants.{MAX_INSTANCE_NUMBER}
 use Rattle.alg_model.specs.declared.tree.Label.{Label}
-use Rattle.alg_model.specs.Expressions.{Expression, table, PureAlg, PureCarrier, PureLabel, row_label}
+use Rattle.alg_model.specs.Expressions.{Expression, PureAlg, PureCarrier, PureLabel}
 use Rattle.alg_model.specs.Views.{pure_label}
 use Rattle.alg_model.specs.Carriers.{carrier_of}
 use Rattle.alg_model.specs.Application.{IsLabel, App}
-use Rattle.alg_model.specs.Bounds.{LabelAtMost, greatest_number}
+use Rattle.alg_model.specs.Bounds.{greatest_number}
 use Rattle.alg_classes.specs.Facts.{Action, Fact, total, dead, mono, strict, iso, canc, cond, narrow}
 use Rattle.alg_classes.specs.Profiles.{bit, ProfileOf}
 use Rattle.alg_classes.specs.Classes.{pure_examples, Settles, IsSettledBy, ExampleAtMost, ExamplesAtMost, ClassOf}
 use Rattle.alg_classes.specs.ClassLaws.{on_all, settled_profile}
 use Rattle.table_classes.specs.declared.found.Found.{Found}
 use Rattle.table_classes.specs.Rows.{IsTable, PureRow, IsRowOf, row_carrier}
+use Rattle.table_classes.specs.RowLaws.{row_bound}
 use Rattle.table_classes.specs.Found.{value_example, pair_example, found_examples, found_profile, found_class, IsAnswer, IsAnswerOf, AreAnswers, AreAnswersOf}
 
 pub all_answered : (row : PureRow) (x : Found) → IsAnswerOf row total (value_example x.outside) → IsAnswerOf row dead (value_example x.inside)
@@ -43,23 +44,22 @@ all_settled c f x a = on_all (λ k. Settles c f k (bit (found_profile x) k) (pur
     (pair_settled c f narrow x.not_narrow (a narrow))
 
 -- the facts of a row are those of its label
+pub label_answered : (a : Expression) (l : PureLabel) (row : PureRow) (x : Found) → IsRowOf a l row → AreAnswersOf row x
+    → AreAnswers (carrier_of a) (App a l) (pure_examples (found_examples x))
+label_answered a l row x is answers =
+    subst (λ c. AreAnswers c (App a l) (pure_examples (found_examples x))) (sym is.carrier)
+    (subst (λ f. AreAnswers (row_carrier row) f (pure_examples (found_examples x))) (sym is.action) answers)
+
 label_settled : (a : Expression) (l : PureLabel) (row : PureRow) (x : Found) → IsRowOf a l row → AreAnswersOf row x
     → IsSettledBy (carrier_of a) (App a l) (found_profile x) (pure_examples (found_examples x))
-label_settled a l row x is answers = all_settled (carrier_of a) (App a l) x
-    (subst (λ c. AreAnswers c (App a l) (pure_examples (found_examples x))) (sym is.carrier)
-    (subst (λ f. AreAnswers (row_carrier row) f (pure_examples (found_examples x))) (sym is.action) answers))
+label_settled a l row x is answers = all_settled (carrier_of a) (App a l) x (label_answered a l row x is answers)
 
 pub profile_of_row : (a : Expression) (l : PureLabel) (row : PureRow) (x : Found) → IsRowOf a l row → AreAnswersOf row x
     → ProfileOf a l (found_profile x)
 profile_of_row a l row x is answers =
     settled_profile (carrier_of a) (App a l) (found_profile x) (pure_examples (found_examples x)) (label_settled a l row x is answers)
 
--- a row's number is no number of a text, and so is the place of a value
-row_bound : (a : Expression) (l : PureLabel) (n : ℕ) → IsTable a → IsLabel a l → LabelAtMost n l
-row_bound (table t) (row_label r) n h i = tt
-row_bound (table t) _ n h i = absurd i
-row_bound _ l n h i = absurd h
-
+-- the place of a value is no number of a text
 value_bound : (n : ℕ) (o : Option ℕ) → ExampleAtMost n (value_example o)
 value_bound n None = tt
 value_bound n (Some u) = tt
@@ -68,7 +68,7 @@ pair_bound : (n : ℕ) (o : Option (ℕ × ℕ)) → ExampleAtMost n (pair_examp
 pair_bound n None = tt
 pair_bound n (Some p) = (tt, tt)
 
-all_bound : (n : ℕ) (x : Found) → ExamplesAtMost n (pure_examples (found_examples x))
+pub all_bound : (n : ℕ) (x : Found) → ExamplesAtMost n (pure_examples (found_examples x))
 all_bound n x = on_all (λ k. ExampleAtMost n (pure_examples (found_examples x) k))
     (value_bound n x.outside) (value_bound n x.inside) (value_bound n x.not_mono) (value_bound n x.not_strict)
     (pair_bound n x.not_iso) (pair_bound n x.not_canc) (pair_bound n x.not_cond) (pair_bound n x.not_narrow)

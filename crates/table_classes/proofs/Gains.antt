@@ -1,7 +1,7 @@
 -- A list of classes that gains the class of a row.
 use Rattle.std.proofs.Common.{◌≡◌, refl, sym, subst, ℕ, List}
 use Rattle.alg_model.specs.declared.tree.Label.{Row}
-use Rattle.alg_model.specs.Expressions.{Expression, table, PureAlg, PureLabel, row_label}
+use Rattle.alg_model.specs.Expressions.{PureAlg, PureLabel, row_label}
 use Rattle.alg_model.specs.Application.{IsLabel}
 use Rattle.alg_classes.specs.declared.class.Class.{Class}
 use Rattle.alg_classes.specs.declared.profile.Profile.{Profile}
@@ -44,10 +44,3 @@ gains_found a place old new class row x t i is answers e = gains_one a place old
 
 pub still_covered : (a : PureAlg) (place : ℕ) (old new : List Class) (l : PureLabel) → GainsRow a place old new → IsCovered a old l → IsCovered a new l
 still_covered a place old new l gains is = (is.0, is.1, gains.keeps is.0 is.2)
-
--- each label of a table is a row
-pub each_row : (a : Expression) → IsTable a → (P : PureLabel → Type 0) → ((r : ℕ) → IsLabel a (row_label r) → P (row_label r))
-    → (l : PureLabel) → IsLabel a l → P l
-each_row (table t) h P rows (row_label r) i = rows r i
-each_row (table t) h P rows _ i = absurd i
-each_row _ h P rows l i = absurd h

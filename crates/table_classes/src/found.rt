@@ -64,7 +64,8 @@ impl Found {
         }
     }
 
-    fn examples(&self) -> Examples
+    // An example for each fact that fails.
+    pub(crate) fn examples(&self) -> Examples
         ensures { result ≡ found_examples self.now }
     {
         Examples {

@@ -21,14 +21,14 @@ pub fn table_class_list(alloc: Global, alg: &Alg) -> Result<ClassList, NoMemory>
     ensures { IfOk result (Covers alg.now) }
 {
     let mut list = ClassList::new(alloc);
-    for place in 0..row_count(alg.tree()) {
+    for place in 0..table_row_count(alg.tree()) {
         add_row(&mut list, alg, place)?;
     }
     Ok(list)
 }
 
-// How many rows the table has.
-fn row_count(tree: &Tree) -> u8
+/// How many rows a table has, which is the whole tree: its labels are those of the places below.
+pub fn table_row_count(tree: &Tree) -> u8
     requires table { IsTable (expression_of tree.now) }
     requires formed { MeetsRanges (expression_of tree.now) }
     ensures { (place : ℕ) → (place < result) ↔ IsLabel (expression_of tree.now) (row_label place) }

@@ -3,7 +3,8 @@ use borrow.Author.Count.{below_more}
 use Rattle.alg_model.specs.Expressions.{row_label}
 use Rattle.alg_model.specs.Application.{IsLabel}
 use Rattle.alg_classes.specs.Classes.{AreDistinct, IsCovered}
-use Rattle.table_classes.proofs.Gains.{still_covered, each_row}
+use Rattle.table_classes.specs.RowLaws.{each_row}
+use Rattle.table_classes.proofs.Gains.{still_covered}
 use Rattle.table_classes.proofs.list.table_class_list.Goals as goal
 
 pub loop-place-preserved : goal.loop-place-preserved
@@ -28,6 +29,6 @@ returns c =
       each = c.loop-place.invariant.each;
       labels = each_row a.expression c.requires (IsCovered a c.loop-place.list)
           (λ r i.
-          let below = (c.row_count-place-end.ensures r).1 (subst (λ b. IsLabel b (row_label r)) (sym c.tree.ensures.tree) i) in
+          let below = (c.table_row_count-place-end.ensures r).1 (subst (λ b. IsLabel b (row_label r)) (sym c.tree.ensures.tree) i) in
           c.loop-place.invariant.covered r (omega arith));
     }
