@@ -11,9 +11,8 @@ ghost use Rattle.metacli.specs.Views.{CanBeWritten, pure_outcome};
 
 use crate::behind::{last_of, net_behind};
 use crate::outcome::{Outcome, Stop};
-use alg_classes::ClassList;
 use alg_model::Alg;
-use meta_base::{ArcId, NoMemory};
+use meta_base::{ArcId, List, NoMemory};
 use net_graph::Net;
 use property_infer::{Verdicts, add_label, verdicts, verdicts_of};
 use std::alloc::Global;
@@ -74,14 +73,14 @@ fn verdicts_behind(alloc: Global, file: &NetFile) -> Result<Verdicts, NoMemory>
 fn arc_verdicts(alloc: Global, net: &Net) -> Result<Verdicts, NoMemory>
     ensures { IfOk result (λ verdicts. AreVerdictsOn net.now.alg (IsOnArc net.now) (pure_verdicts verdicts)) }
 {
-    let mut classes = ClassList::new(alloc);
+    let mut labels = List::new(alloc);
     for arc in 0..net.arc_count() {
         add_label(
             alloc,
             net.alg(),
             &net.arc(ArcId(arc as u32)).label,
-            &mut classes,
+            &mut labels,
         )?;
     }
-    verdicts_of(alloc, classes.classes())
+    verdicts_of(alloc, net.alg(), labels.as_slice())
 }

@@ -19,13 +19,13 @@ pub struct Labelled {
     pub label: Label,
 }
 
-// A label of the slice has the profile.
-pub(crate) fn has(labels: &[Labelled], profile: &Profile) -> bool
+/// Whether a label of the slice has the profile. It takes no memory.
+pub fn has_profile(labels: &[Labelled], profile: &Profile) -> bool
     ensures { IsTruthOf result (Has labels.now profile.now) }
 {
     match labels {
         [] => false,
-        [labelled, rest @ ..] => labelled.profile == *profile || has(rest, profile),
+        [labelled, rest @ ..] => labelled.profile == *profile || has_profile(rest, profile),
     }
 }
 
@@ -38,7 +38,7 @@ pub(crate) fn add_label(
     ensures { (a : PureAlg) → IsLabelWith a (pure_label label) profile → OnOk result
         (Grown (LabelledOf a) (Only profile) list.old list.new) }
 {
-    if has(list.as_slice(), &profile) {
+    if has_profile(list.as_slice(), &profile) {
         return Ok(());
     }
     list.push(Labelled { profile, label })

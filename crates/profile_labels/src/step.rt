@@ -9,7 +9,7 @@ ghost use Rattle.profile_labels.specs.Steps.{Joins, Makes, joint_profile, step_l
 
 use crate::Labelled;
 use crate::joint::Joint;
-use crate::labelled::has;
+use crate::labelled::has_profile;
 use alg_classes::Profile;
 use alg_model::{Carrier, Label, Value};
 use meta_base::{List, NoMemory};
@@ -78,7 +78,7 @@ fn add_step(
         (Grown (LabelledOf c) (Only (step_profile step.now part.now.profile)) list.old list.new) }
 {
     let profile = step.profile(&part.profile);
-    if has(list.as_slice(), &profile) {
+    if has_profile(list.as_slice(), &profile) {
         return Ok(());
     }
     let label = step.label(alloc, &part.label)?;

@@ -7,7 +7,7 @@ use Rattle.alg_model.specs.Application.{IsLabel, App}
 use Rattle.alg_model.specs.Bounds.{AtMost, LabelAtMost, greatest_number}
 use Rattle.alg_model.specs.Carriers.{carrier_of, In}
 use Rattle.alg_model.specs.Expressions.{Expression, PureCarrier, PureValue, pairs, sides}
-use Rattle.alg_model.specs.Formation.{IsAlg, node_count}
+use Rattle.alg_model.specs.Formation.{IsAlg}
 use Rattle.alg_model.specs.Views.{expression_of, pure_label, pure_value}
 use Rattle.alg_classes.specs.Facts as facts
 use Rattle.alg_classes.specs.Facts.{PureExample, at, between}

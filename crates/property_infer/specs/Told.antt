@@ -1,5 +1,5 @@
 -- What labels of an algebra tell of its properties.
-use Rattle.std.specs.Prelude.{◌≡◌, List, [], ◌∷◌, ◌⊎◌, Option, Some, None, true}
+use Rattle.std.specs.Prelude.{◌≡◌, List, [], ◌∷◌, ◌⊎◌, Some, None, true}
 use Rattle.std.specs.List.{AllByRecursion}
 use Rattle.alg_model.specs.Bounds.{greatest_number}
 use Rattle.alg_model.specs.Expressions.{PureAlg, PureLabel}

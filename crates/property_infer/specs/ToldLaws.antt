@@ -1,6 +1,6 @@
 -- What labels tell is exact: for the algebra where they cover it, and for any set of labels whose profiles they have.
-use Rattle.std.proofs.Common.{◌≡◌, ℕ, refl, sym, subst, List, [], ◌∷◌, ◌⊎◌, Option, Some, None, Bool, true, false, inl, inr, ⊎_elim}
-use Rattle.std.specs.List.{AllByRecursion}
+use Rattle.std.proofs.Common.{◌≡◌, ℕ, refl, sym, subst, List, [], ◌∷◌, Some, None, true, false, ⊎_elim}
+use Rattle.std.specs.List.{AllByRecursion, Contains}
 use Rattle.alg_model.specs.Expressions.{Expression, PureAlg, PureLabel}
 use Rattle.alg_model.specs.Carriers.{carrier_of}
 use Rattle.alg_model.specs.Application.{IsLabel, App}
@@ -15,7 +15,7 @@ use Rattle.alg_classes.specs.Facts.{PureExample, at, between, Holds, Refutes}
 use Rattle.alg_classes.specs.Profiles.{bit, ProfileOf}
 use Rattle.alg_classes.specs.Classes.{ExampleAtMost}
 use Rattle.profile_labels.specs.declared.labelled.Labelled.{Labelled}
-use Rattle.profile_labels.specs.Labels.{CoversBy, Has as HasProfile, IsCoveredBy, IsLabelWith, LabelledOf}
+use Rattle.profile_labels.specs.Labels.{CoversBy, Has as HasProfile, IsCoveredBy, LabelledOf}
 use Rattle.property_infer.specs.Answers.{Answers}
 use Rattle.property_infer.specs.Labels.{CoversLabels}
 use Rattle.property_infer.specs.Told.{fact_of, instance_at, IsLackOf, IsLackAmong, IsTold, AreTold, IsToldOf}
@@ -111,7 +111,7 @@ exact_of_each a S p labels holds of_set covered all = λ l s.
     let c = covered l s in has_by_profile p a.expression l c.0 c.1 (all_profiles p labels c.0 all c.2)
 exact_of_each a S p labels (fails x) of_set covered lack = exact_by_lack a S p labels x of_set lack
 
-pub told_exact : (a : PureAlg) (S : PureLabel → Type 0) (labels : List Labelled) (v : PureVerdicts)
+told_exact : (a : PureAlg) (S : PureLabel → Type 0) (labels : List Labelled) (v : PureVerdicts)
     → AllByRecursion (λ (x : Labelled). S (pure_label x.label)) labels → ((l : PureLabel) → S l → IsCoveredBy a labels l) → AreTold a labels v
     → ExactFor a.expression S v
 told_exact a S labels v of_set covered told p = exact_of_each a S p labels (verdict_on v p) of_set covered (told p)
@@ -140,6 +140,11 @@ each_is a (x ∷ xs) each = (each.0.label, each_is a xs each.1)
 pub told_of_all : (a : PureAlg) (labels : List Labelled) (v : PureVerdicts) → CoversBy a labels → AreTold a labels v
     → ExactFor a.expression (IsLabel a.expression) v
 told_of_all a labels v covers told = told_exact a (IsLabel a.expression) labels v (each_is a labels covers.each) covers.labels told
+
+-- For the labels of a list.
+pub told_of_labels : (a : PureAlg) (all : List PureLabel) (labels : List Labelled) (v : PureVerdicts) → CoversLabels a all labels → AreTold a labels v
+    → ExactFor a.expression (Contains all) v
+told_of_labels a all labels v c told = told_exact a (Contains all) labels v c.among c.covered told
 
 -- What is told of one label is exact for it, with small numbers.
 exact_of_one : (a : PureAlg) (l : PureLabel) (p : PureProperty) (v : PureVerdict) → IsToldOf a p l v → IsExact p a.expression (λ m. m ≡ l) v

@@ -26,7 +26,7 @@ pub(crate) enum Action<'a> {
 impl<'a> Action<'a> {
     // The part.
     pub(crate) fn part(self) -> &'a Tree
-        ensures { expression_of result.now ≡ part_of self }
+        ensures { expression_of result.now ≡ part_of self.entry }
     {
         match self {
             Action::OfLabel(part, _) => part,
@@ -39,7 +39,7 @@ impl<'a> Action<'a> {
     // The exact facts of the action. It takes no memory.
     pub(crate) fn profile(self) -> Profile
         requires { (e : Edition) × IsAction e self }
-        ensures { IsProfile (carrier_under self) (action_of self) result }
+        ensures { IsProfile (carrier_under self.entry) (action_of self.entry) result }
     {
         match self {
             Action::OfLabel(part, label) => part_profile(part, label),

@@ -1,7 +1,10 @@
 // Examples against the facts of a label, made from the top: of the parts only what shows the fact that is asked for.
 ghost use Rattle.std.specs.Prelude.{◌≡◌, option_map, IfOk};
-ghost use Rattle.alg_classes.specs.Classes.{pure_at, pure_between, pure_examples};
-ghost use Rattle.alg_model.specs.Views.{pure_value};
+ghost use Rattle.alg_classes.specs.Classes.{ExampleAtMost, pure_at, pure_between, pure_examples};
+ghost use Rattle.alg_classes.specs.Constants.{constant_examples, kept_examples};
+ghost use Rattle.alg_model.specs.Carriers.{carrier_of};
+ghost use Rattle.alg_model.specs.Views.{expression_of, pure_value};
+ghost use Rattle.alg_model.specs.declared.alg.TheConstants.{MAX_INSTANCE_NUMBER};
 ghost use Rattle.alg_model.specs.declared.edition.Edition.{Edition};
 ghost use Rattle.property_infer.specs.Asked.{pure_fact, pure_example, AnswersFor, AnswersForPair, AnswersForSides};
 ghost use Rattle.property_infer.specs.Asked.{IsAction, IsSmallIn};
@@ -33,7 +36,7 @@ pub(crate) fn example_for(
     fact: Fact,
 ) -> Result<Option<Example>, NoMemory>
     requires { (e : Edition) × IsAction e action }
-    ensures { IfOk result (AnswersFor action fact) }
+    ensures { IfOk result (AnswersFor action.entry fact) }
 {
     match action {
         Action::OfLabel(part, label) => label_example(alloc, part, label, fact),
@@ -53,7 +56,7 @@ fn label_example(
     fact: Fact,
 ) -> Result<Option<Example>, NoMemory>
     requires { (e : Edition) × IsAction e (Action.OfLabel part label) }
-    ensures { IfOk result (AnswersFor (Action.OfLabel part label) fact) }
+    ensures { IfOk result (AnswersFor (Action.OfLabel part.entry label.entry) fact) }
 {
     match part {
         Tree::Lex(a, b) => match label {
@@ -105,7 +108,7 @@ fn pair_example(
 ) -> Result<Option<Example>, NoMemory>
     requires first { (e : Edition) × IsAction e x }
     requires second { (e : Edition) × IsAction e y }
-    ensures { IfOk result (λ o. AnswersForPair x y (pure_fact fact) (option_map pure_example o)) }
+    ensures { IfOk result (λ o. AnswersForPair x.entry y.entry (pure_fact fact) (option_map pure_example o)) }
 {
     match asked_of_pair(x, y, fact) {
         OfPair::Both(of_x, of_y) => {
@@ -142,7 +145,7 @@ fn side_example(
 ) -> Result<Option<Example>, NoMemory>
     requires first { (e : Edition) × IsAction e x }
     requires second { (e : Edition) × IsAction e y }
-    ensures { IfOk result (λ o. AnswersForSides x y (pure_fact fact) (option_map pure_example o)) }
+    ensures { IfOk result (λ o. AnswersForSides x.entry y.entry (pure_fact fact) (option_map pure_example o)) }
 {
     match asked_of_sides(x, y, fact) {
         OfSides::First => {
@@ -169,7 +172,9 @@ fn constant_example(
     fact: Fact,
 ) -> Result<Option<Example>, NoMemory>
     requires { (e : Edition) × IsAction e (Action.Constant part value) }
-    ensures { IfOk result (AnswersFor (Action.Constant part value) fact) }
+    ensures made { IfOk result (λ o. option_map pure_example o ≡
+        constant_examples (carrier_of (expression_of part.now)) (pure_value value.now) (pure_fact fact)) }
+    ensures small { IfOk result (λ o. ExampleAtMost MAX_INSTANCE_NUMBER (option_map pure_example o)) }
 {
     match fact {
         Fact::Dead | Fact::Strict => Ok(Some(Example::At(value.copy(alloc)?))),
@@ -182,7 +187,9 @@ fn constant_example(
 // The same of what keeps every value of the part.
 fn kept_example(alloc: Global, part: &Tree, fact: Fact) -> Result<Option<Example>, NoMemory>
     requires { (e : Edition) × IsAction e (Action.Keep part) }
-    ensures { IfOk result (AnswersFor (Action.Keep part) fact) }
+    ensures made { IfOk result (λ o. option_map pure_example o ≡
+        kept_examples (carrier_of (expression_of part.now)) (pure_fact fact)) }
+    ensures small { IfOk result (λ o. ExampleAtMost MAX_INSTANCE_NUMBER (option_map pure_example o)) }
 {
     match fact {
         Fact::Dead | Fact::Strict => {
@@ -196,7 +203,7 @@ fn kept_example(alloc: Global, part: &Tree, fact: Fact) -> Result<Option<Example
 // The same of what sends every value of the part to none.
 fn denied_example(alloc: Global, part: &Tree, fact: Fact) -> Result<Option<Example>, NoMemory>
     requires { (e : Edition) × IsAction e (Action.Deny part) }
-    ensures { IfOk result (AnswersFor (Action.Deny part) fact) }
+    ensures { IfOk result (AnswersFor (Action.Deny part.entry) fact) }
 {
     match fact {
         Fact::Total => Ok(Some(Example::At(any_value(alloc, Action::Deny(part))?))),
@@ -213,7 +220,7 @@ fn denied_example(alloc: Global, part: &Tree, fact: Fact) -> Result<Option<Examp
 // A value of the part that the action is on.
 fn any_value(alloc: Global, action: Action<'_>) -> Result<Value, NoMemory>
     requires { (e : Edition) × IsAction e action }
-    ensures { IfOk result (λ v. IsSmallIn action (pure_value v)) }
+    ensures { IfOk result (λ v. IsSmallIn action.entry (pure_value v)) }
 {
     best(alloc, &part_carrier(alloc, action.part())?)
 }

@@ -18,6 +18,6 @@ mod verdict;
 
 pub use decided::{label_verdicts, verdicts};
 pub use labels::{add_label, label_profile};
-pub use laws::told_verdicts_are_exact;
+pub use laws::{verdicts_of_covered_labels_are_exact, verdicts_of_covering_labels_are_exact};
 pub use told::verdicts_of;
 pub use verdict::{Verdict, Verdicts};

@@ -32,7 +32,7 @@ pub(crate) enum OfPair {
 pub(crate) fn asked_of_pair(x: Action<'_>, y: Action<'_>, fact: Fact) -> OfPair
     requires first { (e : Edition) × IsAction e x }
     requires second { (e : Edition) × IsAction e y }
-    ensures { MakesPair x y fact result }
+    ensures { MakesPair x.entry y.entry fact result }
 {
     match fact {
         Fact::Total => total_asked(x, y),
@@ -47,7 +47,7 @@ pub(crate) fn asked_of_pair(x: Action<'_>, y: Action<'_>, fact: Fact) -> OfPair
 fn total_asked(x: Action<'_>, y: Action<'_>) -> OfPair
     requires first { (e : Edition) × IsAction e x }
     requires second { (e : Edition) × IsAction e y }
-    ensures { MakesPair x y Fact.Total result }
+    ensures { MakesPair x.entry y.entry Fact.Total result }
 {
     if x.profile().total {
         OfPair::OutsideSecond
@@ -59,7 +59,7 @@ fn total_asked(x: Action<'_>, y: Action<'_>) -> OfPair
 fn mono_asked(x: Action<'_>, y: Action<'_>) -> OfPair
     requires first { (e : Edition) × IsAction e x }
     requires second { (e : Edition) × IsAction e y }
-    ensures { MakesPair x y Fact.Mono result }
+    ensures { MakesPair x.entry y.entry Fact.Mono result }
 {
     if x.profile().mono {
         OfPair::Both(Fact::Strict, Fact::Mono)
@@ -71,7 +71,7 @@ fn mono_asked(x: Action<'_>, y: Action<'_>) -> OfPair
 fn strict_asked(x: Action<'_>, y: Action<'_>) -> OfPair
     requires first { (e : Edition) × IsAction e x }
     requires second { (e : Edition) × IsAction e y }
-    ensures { MakesPair x y Fact.Strict result }
+    ensures { MakesPair x.entry y.entry Fact.Strict result }
 {
     if x.profile().mono {
         OfPair::Both(Fact::Strict, Fact::Strict)
@@ -83,7 +83,7 @@ fn strict_asked(x: Action<'_>, y: Action<'_>) -> OfPair
 fn iso_asked(x: Action<'_>, y: Action<'_>) -> OfPair
     requires first { (e : Edition) × IsAction e x }
     requires second { (e : Edition) × IsAction e y }
-    ensures { MakesPair x y Fact.Iso result }
+    ensures { MakesPair x.entry y.entry Fact.Iso result }
 {
     if !x.profile().iso {
         return OfPair::Both(Fact::Iso, Fact::Dead);
@@ -103,7 +103,7 @@ fn alike_asked(x: Action<'_>, y: Action<'_>, fact: Fact) -> OfPair
     requires alike { IsAlike (pure_fact fact) }
     requires first { (e : Edition) × IsAction e x }
     requires second { (e : Edition) × IsAction e y }
-    ensures { MakesPair x y fact result }
+    ensures { MakesPair x.entry y.entry fact result }
 {
     if fact.is_in(&x.profile()) {
         OfPair::Both(Fact::Dead, fact)
@@ -128,7 +128,10 @@ pub(crate) fn beside(
     ensures { IfOk result (λ z. option_map pure_example z
         ≡ rule.beside (option_map pure_example x) (option_map pure_example y)) }
 {
-    let (Some(x), Some(y)) = (x, y) else {
+    let Some(x) = x else {
+        return Ok(None);
+    };
+    let Some(y) = y else {
         return Ok(None);
     };
     Ok(Some(match (x, y) {
@@ -152,8 +155,11 @@ pub(crate) fn spanned(x: Option<Example>, y: Option<Example>) -> Option<Example>
     ensures { option_map pure_example result
         ≡ rule.spanned (option_map pure_example x) (option_map pure_example y) }
 {
-    match (x, y) {
-        (Some(Example::At(u)), Some(Example::At(v))) => Some(Example::Between(u, v)),
-        _ => None,
+    match x? {
+        Example::At(u) => match y? {
+            Example::At(v) => Some(Example::Between(u, v)),
+            Example::Between(_, _) => None,
+        },
+        Example::Between(_, _) => None,
     }
 }

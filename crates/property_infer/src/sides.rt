@@ -29,7 +29,7 @@ pub(crate) enum OfSides {
 pub(crate) fn asked_of_sides(x: Action<'_>, y: Action<'_>, fact: Fact) -> OfSides
     requires first { (e : Edition) × IsAction e x }
     requires second { (e : Edition) × IsAction e y }
-    ensures { MakesSides x y fact result }
+    ensures { MakesSides x.entry y.entry fact result }
 {
     match fact {
         Fact::Total | Fact::Dead | Fact::Mono | Fact::Strict | Fact::Canc => {
@@ -45,7 +45,7 @@ fn asked_of_each(x: Action<'_>, y: Action<'_>, fact: Fact) -> OfSides
     requires each { IsOfEach (pure_fact fact) }
     requires first { (e : Edition) × IsAction e x }
     requires second { (e : Edition) × IsAction e y }
-    ensures { MakesSides x y fact result }
+    ensures { MakesSides x.entry y.entry fact result }
 {
     if fact.is_in(&x.profile()) {
         OfSides::Second
@@ -60,7 +60,7 @@ fn asked_of_all(x: Action<'_>, y: Action<'_>, fact: Fact, between: Fact) -> OfSi
     requires across { IsAcross (pure_fact fact) (pure_fact between) }
     requires first { (e : Edition) × IsAction e x }
     requires second { (e : Edition) × IsAction e y }
-    ensures { MakesSides x y fact result }
+    ensures { MakesSides x.entry y.entry fact result }
 {
     if !fact.is_in(&x.profile()) {
         OfSides::First
@@ -120,11 +120,15 @@ pub(crate) fn across(
     ensures { IfOk result (λ z. option_map pure_example z
         ≡ rule.across (option_map pure_example x) (option_map pure_example y)) }
 {
-    match (x, y) {
-        (Some(Example::At(u)), Some(Example::At(v))) => Ok(Some(Example::Between(
-            first(alloc, u)?,
-            second(alloc, v)?,
-        ))),
-        _ => Ok(None),
+    match x {
+        Some(Example::At(u)) => match y {
+            Some(Example::At(v)) => {
+                Ok(Some(Example::Between(first(alloc, u)?, second(alloc, v)?)))
+            }
+            Some(Example::Between(_, _)) => Ok(None),
+            None => Ok(None),
+        },
+        Some(Example::Between(_, _)) => Ok(None),
+        None => Ok(None),
     }
 }

@@ -92,11 +92,7 @@ fn verdict_of(
 /// The verdicts that labels of the algebra tell: yes where all have the property, else no with an instance of the
 /// first that lacks it. Where they cover the algebra, the verdicts are exact for all of its labels. They are refused
 /// for want of memory alone.
-pub fn verdicts_of(
-    alloc: Global,
-    alg: &Alg,
-    labels: &[Labelled],
-) -> Result<Verdicts, NoMemory>
+pub fn verdicts_of(alloc: Global, alg: &Alg, labels: &[Labelled]) -> Result<Verdicts, NoMemory>
     requires { AllByRecursion (LabelledOf alg.now) labels.now }
     ensures { IfOk result (λ verdicts. AreTold alg.now labels.now (pure_verdicts verdicts)) }
 {

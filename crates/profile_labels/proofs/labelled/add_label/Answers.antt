@@ -5,10 +5,10 @@ use Rattle.profile_labels.specs.Growth.{grown_already, grown_by_one}
 use Rattle.profile_labels.specs.Labels.{LabelledOf, Has}
 use Rattle.profile_labels.proofs.labelled.add_label.Goals as goal
 
-pub returns-then-has : goal.returns-then-has
-returns-then-has c = λ a is.
+pub returns-then-has_profile : goal.returns-then-has_profile
+returns-then-has_profile c = λ a is.
     let p = c.args.profile in
-    grown_already (LabelledOf a) p c.args.list.now (subst (λ xs. Has xs p) c.as_slice.ensures (c.has.ensures.0 c.if-has.true))
+    grown_already (LabelledOf a) p c.args.list.now (subst (λ xs. Has xs p) c.as_slice.ensures (c.has_profile.ensures.0 c.if-has_profile.true))
 
 pub returns : goal.returns
 returns c = λ a is.

@@ -7,10 +7,10 @@ use Rattle.profile_labels.specs.Steps.{step_profile}
 use Rattle.profile_labels.specs.StepLaws.{made}
 use Rattle.profile_labels.proofs.step.add_step.Goals as goal
 
-pub returns-then-has : goal.returns-then-has
-returns-then-has c = λ a d makes is.
+pub returns-then-has_profile : goal.returns-then-has_profile
+returns-then-has_profile c = λ a d makes is.
     let p = c.profile-profile.result in
-    let has = subst (λ xs. Has xs p) c.as_slice.ensures (c.has.ensures.0 c.if-has.true) in
+    let has = subst (λ xs. Has xs p) c.as_slice.ensures (c.has_profile.ensures.0 c.if-has_profile.true) in
     subst (λ q. Grown (LabelledOf d) (Only q) c.args.list.now c.args.list.now) c.profile-profile.ensures
     (grown_already (LabelledOf d) p c.args.list.now has)
 
