@@ -74,8 +74,11 @@ pub record IsAction (e : Edition) (x : Action) : Type 0 where
   pub of_part : IsOfPart e x
 
 -- the example answers whether the fact holds of the action
+abbrev pub ToFact : Action → Fact → Option PureExample → Type 0
+ToFact x k = Answers (carrier_under x) (action_of x) (pure_fact k)
+
 abbrev pub AnswersFor : Action → Fact → Option Example → Type 0
-AnswersFor x k o = Answers (carrier_under x) (action_of x) (pure_fact k) (option_map pure_example o)
+AnswersFor x k o = ToFact x k (option_map pure_example o)
 
 -- the same of two actions, one on each part of a pair, and of one on each side
 abbrev pub AnswersForPair : Action → Action → facts.Fact → Option PureExample → Type 0
@@ -87,10 +90,6 @@ AnswersForSides x y = Answers (sides (carrier_under x) (carrier_under y)) (side.
 -- a value of the part, with small numbers
 abbrev pub IsSmallIn : Action → PureValue → Type 0
 IsSmallIn x v = In (carrier_under x) v × AtMost MAX_INSTANCE_NUMBER v
-
--- an answer of the action to a fact
-abbrev pub ToFact : Action → Fact → Option PureExample → Type 0
-ToFact x k = Answers (carrier_under x) (action_of x) (pure_fact k)
 
 -- whatever answers what is asked of the parts makes an answer for the pair
 abbrev pub MakesPair : Action → Action → Fact → OfPair → Type 0

@@ -1,13 +1,11 @@
 -- What examples of one action beside another tell, by what those of each tell, and so of one that denies.
-use Rattle.std.proofs.Common.{◌≡◌, refl, Bool, true, false, ℕ, Option, Some, None, inl, inr}
+use Rattle.std.proofs.Common.{Bool, true, false, ℕ, Option, Some, None, inl, inr}
 use Rattle.std.specs.Prelude.{option_map}
 use Rattle.alg_model.specs.declared.alg.TheConstants.{MAX_INSTANCE_NUMBER}
-use Rattle.alg_model.specs.Expressions.{PureCarrier, sides, PureValue}
-use Rattle.alg_model.specs.Carriers.{In}
-use Rattle.alg_model.specs.Bounds.{AtMost}
+use Rattle.alg_model.specs.Expressions.{PureCarrier, sides}
 use Rattle.alg_classes.specs.Facts.{Action, Fact, total, dead, mono, strict, iso, canc, cond, narrow, Holds, PureExample, at, between}
 use Rattle.alg_classes.specs.Classes.{Settles, ExampleAtMost}
-use Rattle.union_classes.specs.Sums.{beside, denied, on_first, on_second, across}
+use Rattle.union_classes.specs.Sums.{beside, on_first, on_second, across}
 use Rattle.union_classes.specs.SideLaws.{refuted_on_first, refuted_on_second, refuted_iso, refuted_cond, refuted_narrow, both_total, both_dead, both_mono, both_strict, both_canc, both_iso, both_cond, both_narrow}
 use Rattle.property_infer.specs.Answers.{Answers}
 
@@ -96,20 +94,6 @@ side_across c d f g iso total o r is h i a b = side_iso_across c d f g o r h i a
 side_across c d f g cond dead o r is h i a b = side_cond_across c d f g o r h i a b
 side_across c d f g narrow dead o r is h i a b = side_narrow_across c d f g o r h i a b
 side_across c d f g _ _ o r is h i a b = absurd is
-
--- what denies all has every fact but that it is total, which any value shows
-pub denied_total : (c : PureCarrier) (v : PureValue) → In c v → AtMost MAX_INSTANCE_NUMBER v → Answers c denied total (Some (at v))
-denied_total c v i b = ((i, refl), b)
-
-pub denied_holds : (c : PureCarrier) (k : Fact) → ¬ (k ≡ total) → Holds c denied k
-denied_holds c total n = absurd (n refl)
-denied_holds c dead n = λ w j. refl
-denied_holds c mono n = λ w j e. cc
-denied_holds c strict n = λ w j. refl
-denied_holds c iso n = λ u w j k m e. cc
-denied_holds c canc n = λ u w j k e. absurd e
-denied_holds c cond n = λ u w x y j k e g. absurd (cc)
-denied_holds c narrow n = λ u w x y j k e g. absurd (cc)
 
 -- an example that settles a fact tells of it
 pub settled_answers : (c : PureCarrier) (f : Action) (k : Fact) (b : Bool) (o : Option PureExample) → Settles c f k b o → ExampleAtMost MAX_INSTANCE_NUMBER o → Answers c f k o

@@ -1,5 +1,5 @@
 -- What labels of an algebra tell of its properties.
-use Rattle.std.specs.Prelude.{◌≡◌, List, [], ◌∷◌, ◌⊎◌, Some, None, true}
+use Rattle.std.specs.Prelude.{◌≡◌, List, [], ◌∷◌, ◌⊎◌, true}
 use Rattle.std.specs.List.{AllByRecursion}
 use Rattle.alg_model.specs.Bounds.{greatest_number}
 use Rattle.alg_model.specs.Expressions.{PureAlg, PureLabel}
@@ -20,11 +20,6 @@ fact_of strict = fact.strict
 fact_of isotone = fact.iso
 fact_of cancellative = fact.canc
 fact_of total = fact.total
-
--- the label at the values of the example
-abbrev pub instance_at : PureProperty → PureLabel → PureExample → PureInstance
-instance_at p l (at v) = record { property = p; label = l; first = v; second = None }
-instance_at p l (between u v) = record { property = p; label = l; first = u; second = Some v }
 
 -- the instance shows that the label lacks the property, and its numbers are small
 pub record IsLackOf (a : PureAlg) (p : PureProperty) (l : PureLabel) (x : PureInstance) : Type 0 where
