@@ -92,6 +92,20 @@ pub put_last : (old now new : Held) (text line : List ℕ) (r : Result (Unit {0}
 put_last old now new text line (Ok x) h p = lines_end old new text (lines_more old now new text line [] (subst (λ l. HasLines old text l now) (sym (append-nil line)) h) p)
 put_last old now new text line (Err c) h p = cut_within old now new text line [] c (subst (λ l. HasLines old text l now) (sym (append-nil line)) h) p
 
+-- ---- lines that are written in one room
+
+-- a line that was written in an empty room, and put
+pub lines_by_room : (old now new : Held) (text room line rest new_room : List ℕ) → room ≡ [] → new_room ≡ room ++ line → HasLines old text (line ++ rest) now
+    → Appended now new_room new → HasLines old text rest new
+lines_by_room old now new text room line rest new_room empty e h a =
+    lines_more old now new text line rest h (subst (λ l. Appended now l new) (e ∙ ap (λ r. r ++ line) empty) a)
+
+-- and cut short within
+pub cut_in_room : (old now new : Held) (text room line rest new_room : List ℕ) (c : Cut) → room ≡ [] → new_room ≡ room ++ line → HasLines old text (line ++ rest) now
+    → PutsText now new_room (Err c) new → PutsText old text (Err c) new
+cut_in_room old now new text room line rest new_room c empty e h p =
+    cut_within old now new text line rest c h (subst (λ l. PutsText now l (Err c) new) (e ∙ ap (λ r. r ++ line) empty) p)
+
 -- the answer to a text that was cut short
 pub cut_answered : (old new : Held) (text : List ℕ) (d : PureAnswer) (c : Cut) → d ≢ refused memory → PutsText old text (Err c) new → Written old text new d (cut_answer c)
 cut_answered old new text d cut.Sink h p = p

@@ -4,11 +4,11 @@ ghost use Rattle.std.specs.List.{AllByRecursion};
 ghost use Rattle.metacli.specs.Texts.{PutsText, journal_text, number_text, phase_lines, run_text, trace_text};
 ghost use Rattle.vector_runs.specs.Runs.{AreOfNetworks, IsOfNetwork, pure_phase};
 
-use crate::putting::{Cut, put_line};
+use crate::putting::{Cut, put_line, put_room, room_for_lines};
 use crate::writing::put_rows;
 use meta_base::{Delivery, Sink};
 use net_graph::Net;
-use report_text::{delivery_line, end_line, phase_line};
+use report_text::{end_line, phase_line, push_delivery_line};
 use std::alloc::Global;
 use vector_runs::{Phase, Run};
 
@@ -96,8 +96,10 @@ fn put_journal<K: Sink>(
     requires { AllByRecursion (λ d. d.arc.0 < length net.now.arcs) journal.now }
     ensures { PutsText (K.holds out.old) (journal_text net.now journal.now) result (K.holds out.new) }
 {
+    let mut room = room_for_lines(alloc)?;
     for delivery in journal {
-        put_line(out, delivery_line(alloc, net, delivery))?;
+        push_delivery_line(&mut room, net, delivery)?;
+        put_room(out, &mut room)?;
     }
     Ok(())
 }

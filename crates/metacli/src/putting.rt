@@ -1,5 +1,5 @@
 // Putting lines to a sink, one after another.
-ghost use Rattle.std.specs.Prelude.{◌≡◌, ◌≢◌, ℕ, List, IfOk};
+ghost use Rattle.std.specs.Prelude.{◌≡◌, ◌≢◌, [], ℕ, List, IfOk, OnOk, string_bytes};
 ghost use Rattle.meta_base.specs.Sink.{Held};
 ghost use Rattle.metacli.specs.Answers.{memory_refused, pure_answer, write_fault};
 ghost use Rattle.metacli.specs.Texts.{PutsText, Written, cut_answer};
@@ -7,6 +7,7 @@ ghost use Rattle.metacli.specs.declared.putting.Cut.TheVariants as cut;
 
 use crate::Answer;
 use meta_base::{Failed, NoMemory, Sink, Text, put_all};
+use std::alloc::Global;
 
 /// Why a text was cut short: the sink failed, or there was no memory for a line.
 #[derive(Clone, Copy, Debug)]
@@ -50,6 +51,26 @@ pub(crate) fn put_line<K: Sink>(out: &mut K, line: Result<Text, NoMemory>) -> Re
 {
     let line = line?;
     put_all(out, line.as_str().as_bytes())?;
+    Ok(())
+}
+
+/// Room in which a line is written, one after another, with none yet.
+pub(crate) fn room_for_lines(alloc: Global) -> Result<String, NoMemory>
+    ensures { IfOk result (λ room. string_bytes room ≡ []) }
+{
+    Ok(String::with_capacity(alloc, USUAL_LINE)?)
+}
+
+// As many bytes as most lines have, so that the room seldom grows.
+const USUAL_LINE: usize = 256;
+
+/// Puts the line that was written there, and empties the room.
+pub(crate) fn put_room<K: Sink>(out: &mut K, room: &mut String) -> Result<(), Cut>
+    ensures put { PutsText (K.holds out.old) (string_bytes room.old) result (K.holds out.new) }
+    ensures empty { OnOk result (string_bytes room.new ≡ []) }
+{
+    put_all(out, room.as_bytes())?;
+    room.clear();
     Ok(())
 }
 

@@ -20,7 +20,7 @@ use crate::Answer;
 use crate::behind::last_of;
 use crate::outcome::{Outcome, Stop, end_answer};
 use crate::phases::put_phases;
-use crate::putting::{Cut, answered, put_line};
+use crate::putting::{Cut, answered, put_line, put_room, room_for_lines};
 use crate::summing::put_summary;
 use alg_classes::{Instance, Property};
 use alg_model::{Alg, Value};
@@ -29,7 +29,7 @@ use meta_base::{Failed, NoMemory, Sink, Text, put_all};
 use net_facts::Lack;
 use net_graph::{Net, RouteRow};
 use property_infer::Verdicts;
-use report_text::{code_lines, lacks_line, refusal_line, row_line, verdict_line};
+use report_text::{code_lines, lacks_line, push_row_line, refusal_line, verdict_line};
 use std::alloc::Global;
 use topology_file::NetFile;
 
@@ -234,8 +234,10 @@ pub(crate) fn put_rows<K: Sink>(
     requires { AllByRecursion (IsRowOf net.now) (map pure_row rows.now) }
     ensures { PutsText (K.holds out.old) (rows_text net.now (map pure_row rows.now)) result (K.holds out.new) }
 {
+    let mut room = room_for_lines(alloc)?;
     for row in rows {
-        put_line(out, row_line(alloc, net, row))?;
+        push_row_line(&mut room, net, row)?;
+        put_room(out, &mut room)?;
     }
     Ok(())
 }

@@ -12,7 +12,7 @@ mod verdicts;
 
 pub use code::{Operation, arc_line, code_lines, operation_line, order_line};
 pub use refusals::{Refusal, lacks_line, refusal_line};
-pub use rows::row_line;
-pub use runs::{delivery_line, end_line, phase_line};
+pub use rows::{push_row_line, row_line};
+pub use runs::{end_line, phase_line, push_delivery_line};
 pub use summary::{MAX_SUMMED, reach_line, size_line, summary_end_line, summary_lines};
 pub use verdicts::{verdict_line, verdict_lines};

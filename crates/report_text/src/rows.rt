@@ -52,21 +52,29 @@ fn push_route(out: &mut String, net: &Net, row: &RouteRow) -> Result<(), NoMemor
     }
 }
 
+/// Appends the line of a row of a network: the node, the destination, and the value and the path of the route, or
+/// `none`. It is refused for want of memory alone; what the text holds then isn't said.
+pub fn push_row_line(out: &mut String, net: &Net, row: &RouteRow) -> Result<(), NoMemory>
+    requires { IsRowOf net.now (pure_row row.now) }
+    ensures { OnOk result (Gains out.old (row_text net.now (pure_row row.now)) out.new) }
+{
+    push_node(out, net, row.node)?;
+    out.push_str(" ")?;
+    push_dest(out, net, row.dest)?;
+    out.push_str(" ")?;
+    push_route(out, net, row)?;
+    Ok(out.push_str("\n")?)
+}
+
 // As many bytes as most rows have, so that few lines grow.
 const USUAL_ROW: usize = 256;
 
-/// The line of a row of a network: the node, the destination, and the value and the path of the route,
-/// or `none`. It is refused for want of memory alone.
+/// The line of a row alone, as [`push_row_line`] appends it. It is refused for want of memory alone.
 pub fn row_line(alloc: Global, net: &Net, row: &RouteRow) -> Result<Text, NoMemory>
     requires { IsRowOf net.now (pure_row row.now) }
     ensures { IfOk result (λ text. text ≡ row_text net.now (pure_row row.now)) }
 {
     let mut out = String::with_capacity(alloc, USUAL_ROW)?;
-    push_node(&mut out, net, row.node)?;
-    out.push_str(" ")?;
-    push_dest(&mut out, net, row.dest)?;
-    out.push_str(" ")?;
-    push_route(&mut out, net, row)?;
-    out.push_str("\n")?;
+    push_row_line(&mut out, net, row)?;
     Ok(Text::from_string(out))
 }

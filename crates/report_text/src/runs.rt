@@ -1,5 +1,6 @@
 // The lines of runs.
-ghost use Rattle.std.specs.Prelude.{◌≡◌, ◌<◌, IfOk, length};
+ghost use Rattle.std.specs.Prelude.{◌≡◌, ◌<◌, IfOk, length, OnOk};
+ghost use Rattle.meta_base.specs.Appending.{Gains};
 ghost use Rattle.report_text.specs.RunTexts.{delivery_text, end_text, phase_text};
 
 use crate::refusals::push_arc;
@@ -7,18 +8,16 @@ use meta_base::{Delivery, NoMemory, Text, push_number};
 use net_graph::Net;
 use std::alloc::Global;
 
-/// The line of a delivery on a network: its clock, and the listener and the speaker of its arc. It is refused for
-/// want of memory alone.
-pub fn delivery_line(alloc: Global, net: &Net, delivery: &Delivery) -> Result<Text, NoMemory>
+/// Appends the line of a delivery on a network: its clock, and the listener and the speaker of its arc. It is refused
+/// for want of memory alone; what the text holds then isn't said.
+pub fn push_delivery_line(out: &mut String, net: &Net, delivery: &Delivery) -> Result<(), NoMemory>
     requires { delivery.now.arc.0 < length net.now.arcs }
-    ensures { IfOk result (λ text. text ≡ delivery_text net.now delivery.now) }
+    ensures { OnOk result (Gains out.old (delivery_text net.now delivery.now) out.new) }
 {
-    let mut out = String::new(alloc);
-    push_number(&mut out, u128::from(delivery.clock))?;
+    push_number(out, u128::from(delivery.clock))?;
     out.push_str(" ")?;
-    push_arc(&mut out, net, delivery.arc)?;
-    out.push_str("\n")?;
-    Ok(Text::from_string(out))
+    push_arc(out, net, delivery.arc)?;
+    Ok(out.push_str("\n")?)
 }
 
 /// The line at the beginning of a phase, with its number. It is refused for want of memory alone.

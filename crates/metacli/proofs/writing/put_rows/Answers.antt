@@ -1,17 +1,28 @@
+use Rattle.std.proofs.Common.{sym, subst}
 use Rattle.std.proofs.lemmas.Result.{err_from_is_err_and}
-use Rattle.metacli.proofs.Written.{cut_within, lines_at, lines_more, row_at}
+use Rattle.metacli.proofs.Written.{cut_in_room, lines_at, lines_begin, lines_by_room, row_at}
 use Rattle.metacli.proofs.writing.put_rows.Goals as goal
 
-pub row_line-requires : goal.row_line-requires
-row_line-requires g c = row_at c.args.net.now c.args.rows.now c.loop-row.row-index c.row-item.result c.loop-row-test.true c.row-item.is c.requires
-
-pub returns-in_err-put_line : goal.returns-in_err-put_line
-returns-in_err-put_line g c =
-    let lines = lines_at c.args.net.now c.args.rows.now c.loop-row.row-index c.row-item.result c.loop-row-test.true c.row-item.is in
+pub returns-in_err-room : goal.returns-in_err-room
+returns-in_err-room g c =
     let p = err_from_is_err_and c.from_residual.result c.from_residual.ensures.1 in
-    rw (p.1, p.2) (cut_within _ _ _ _ _ _ _ (rw lines at c.loop-row.invariant) (c.in_err-put_line.ensures _ c.row_line.ensures))
+    rw (p.1, p.2) (_, lines_begin _ _)
+
+pub push_row_line-requires : goal.push_row_line-requires
+push_row_line-requires g c = row_at c.args.net.now c.args.rows.now c.loop-row.row-index c.row-item.result c.loop-row-test.true c.row-item.is c.requires
+
+pub returns-in_err-push_row_line : goal.returns-in_err-push_row_line
+returns-in_err-push_row_line g c =
+    let p = err_from_is_err_and c.from_residual-in_err-push_row_line.result c.from_residual-in_err-push_row_line.ensures.1 in
+    rw (p.1, p.2) (_, c.loop-row.invariant.0)
+
+pub returns-in_err-put_room : goal.returns-in_err-put_room
+returns-in_err-put_room g c =
+    let lines = lines_at c.args.net.now c.args.rows.now c.loop-row.row-index c.row-item.result c.loop-row-test.true c.row-item.is in
+    let p = err_from_is_err_and c.from_residual-in_err-put_room.result c.from_residual-in_err-put_room.ensures.1 in
+    rw (p.1, p.2) (cut_in_room _ _ _ _ _ _ _ _ _ c.loop-row.invariant.1 c.in_ok-push_row_line.ensures (rw lines at c.loop-row.invariant.0) c.in_err-put_room.ensures.put)
 
 pub loop-row-preserved : goal.loop-row-preserved
 loop-row-preserved g c =
     let lines = lines_at c.args.net.now c.args.rows.now c.loop-row.row-index c.row-item.result c.loop-row-test.true c.row-item.is in
-    lines_more _ _ _ _ _ _ (rw lines at c.loop-row.invariant) (c.in_ok-put_line.ensures _ c.row_line.ensures)
+    (lines_by_room _ _ _ _ _ _ _ _ c.loop-row.invariant.1 c.in_ok-push_row_line.ensures (rw lines at c.loop-row.invariant.0) c.in_ok-put_room.ensures.put, c.in_ok-put_room.ensures.empty)
