@@ -13,7 +13,7 @@ use Rattle.property_infer.specs.declared.pairs.OfPair.TheVariants.{Both, Outside
 use Rattle.property_infer.specs.declared.sides.OfSides.TheVariants.{First, Second, Across}
 use Rattle.property_infer.specs.Asked.{pure_fact, carrier_under, action_of, IsAction, MakesPair, MakesSides}
 use Rattle.property_infer.specs.ActionLaws.{action_keeps}
-use Rattle.property_infer.specs.PairAnswers.{pair_dead, pair_total_first, pair_total_second, pair_mono_first, pair_mono_second, pair_strict_first, pair_strict_second}
+use Rattle.property_infer.specs.PairAnswers.{pair_dead, pair_total_first, pair_total_second, IsOfWorse, pair_worse_first, pair_worse_second}
 use Rattle.property_infer.specs.PairAnswers.{pair_iso_first, pair_iso_second, pair_iso_split, pair_iso_tied, IsAlike, pair_alike_first, pair_alike_second}
 use Rattle.property_infer.specs.SideAnswers.{IsOfEach, IsAcross, side_first, side_second, side_of_each, side_across}
 
@@ -37,21 +37,15 @@ pub total_by_first : (x y : Action) (p : Profile) → IsOf x p → p.total ≡ f
 total_by_first x y p is e = λ o v a s.
     pair_total_first (carrier_under x) (carrier_under y) (action_of x) (action_of y) o v (lacks (carrier_under x) (action_of x) p facts.total is e) a s.0 s.1
 
-pub mono_by_second : (e : Edition) (x y : Action) (p : Profile) → IsAction e x → IsOf x p → p.mono ≡ true → MakesPair x y Mono (Both Strict Mono)
-mono_by_second e x y p action is h = λ o r a b.
-    pair_mono_second (carrier_under x) (carrier_under y) (action_of x) (action_of y) o r (action_keeps e x action) ((is facts.mono).0 h) a b
+pub worse_by_second : (e : Edition) (x y : Action) (k : Fact) (p : Profile) → IsOfWorse (pure_fact k) → IsAction e x → IsOf x p → p.mono ≡ true
+    → MakesPair x y k (Both Strict k)
+worse_by_second e x y k p worse action is h = λ o r a b.
+    pair_worse_second (carrier_under x) (carrier_under y) (action_of x) (action_of y) (pure_fact k) o r worse (action_keeps e x action) ((is facts.mono).0 h) a b
 
-pub mono_by_first : (x y : Action) (p : Profile) → IsOf x p → p.mono ≡ false → MakesPair x y Mono (Both Mono Dead)
-mono_by_first x y p is h = λ o r a b.
-    pair_mono_first (carrier_under x) (carrier_under y) (action_of x) (action_of y) o r (lacks (carrier_under x) (action_of x) p facts.mono is h) a b
-
-pub strict_by_second : (e : Edition) (x y : Action) (p : Profile) → IsAction e x → IsOf x p → p.mono ≡ true → MakesPair x y Strict (Both Strict Strict)
-strict_by_second e x y p action is h = λ o r a b.
-    pair_strict_second (carrier_under x) (carrier_under y) (action_of x) (action_of y) o r (action_keeps e x action) ((is facts.mono).0 h) a b
-
-pub strict_by_first : (e : Edition) (x y : Action) (p : Profile) → IsAction e x → IsOf x p → p.mono ≡ false → MakesPair x y Strict (Both Mono Dead)
-strict_by_first e x y p action is h = λ o r a b.
-    pair_strict_first (carrier_under x) (carrier_under y) (action_of x) (action_of y) o r (action_keeps e x action)
+pub worse_by_first : (e : Edition) (x y : Action) (k : Fact) (p : Profile) → IsOfWorse (pure_fact k) → IsAction e x → IsOf x p → p.mono ≡ false
+    → MakesPair x y k (Both Mono Dead)
+worse_by_first e x y k p worse action is h = λ o r a b.
+    pair_worse_first (carrier_under x) (carrier_under y) (action_of x) (action_of y) (pure_fact k) o r worse (action_keeps e x action)
     (lacks (carrier_under x) (action_of x) p facts.mono is h) a b
 
 pub iso_by_first : (x y : Action) (p : Profile) → IsOf x p → p.iso ≡ false → MakesPair x y Iso (Both Iso Dead)

@@ -102,21 +102,38 @@ pair_total_second c d f g u r holds i b a = answer_joined c d f g (IsValue c) (R
 
 -- Whether no value's image is preferred to it, and whether each image is worse.
 
-pub pair_mono_first : (c d : PureCarrier) (f g : Action) (o r : Option PureExample) → ¬ Holds c f mono → Answers c f mono o → Answers d g dead r
+pair_mono_first : (c d : PureCarrier) (f g : Action) (o r : Option PureExample) → ¬ Holds c f mono → Answers c f mono o → Answers d g dead r
     → Answers (pairs c d) (paired f g) mono (beside o r)
 pair_mono_first c d f g o r lacks a b = first_fails c d f g mono mono o r (λ e. absurd (cc)) lacks (mono_with_dead c d f g) a b
 
-pub pair_mono_second : (c d : PureCarrier) (f g : Action) (o r : Option PureExample) → Keeps c f → Holds c f mono → Answers c f strict o → Answers d g mono r
+pair_mono_second : (c d : PureCarrier) (f g : Action) (o r : Option PureExample) → Keeps c f → Holds c f mono → Answers c f strict o → Answers d g mono r
     → Answers (pairs c d) (paired f g) mono (beside o r)
 pair_mono_second c d f g o r kept holds a b = answer_by c d f g mono strict mono o r (strict_is_mono c d f g kept) (both_mono c d f g holds) (strict_with_mono c d f g kept) a b
 
-pub pair_strict_first : (c d : PureCarrier) (f g : Action) (o r : Option PureExample) → Keeps c f → ¬ Holds c f mono → Answers c f mono o → Answers d g dead r
+pair_strict_first : (c d : PureCarrier) (f g : Action) (o r : Option PureExample) → Keeps c f → ¬ Holds c f mono → Answers c f mono o → Answers d g dead r
     → Answers (pairs c d) (paired f g) strict (beside o r)
 pair_strict_first c d f g o r kept lacks a b = first_fails c d f g strict mono o r (λ e. absurd (cc)) lacks (mono_with_dead_strict c d f g kept) a b
 
-pub pair_strict_second : (c d : PureCarrier) (f g : Action) (o r : Option PureExample) → Keeps c f → Holds c f mono → Answers c f strict o → Answers d g strict r
+pair_strict_second : (c d : PureCarrier) (f g : Action) (o r : Option PureExample) → Keeps c f → Holds c f mono → Answers c f strict o → Answers d g strict r
     → Answers (pairs c d) (paired f g) strict (beside o r)
 pair_strict_second c d f g o r kept holds a b = answer_by c d f g strict strict strict o r (strict_is_strict c d f g) (mono_and_strict c d f g kept holds) (strict_with_strict c d f g) a b
+
+abbrev pub IsOfWorse : Fact → Type 0
+IsOfWorse mono = Unit {0}
+IsOfWorse strict = Unit {0}
+IsOfWorse _ = ⊥
+
+pub pair_worse_first : (c d : PureCarrier) (f g : Action) (k : Fact) (o r : Option PureExample) → IsOfWorse k → Keeps c f → ¬ Holds c f mono → Answers c f mono o
+    → Answers d g dead r → Answers (pairs c d) (paired f g) k (beside o r)
+pair_worse_first c d f g mono o r worse kept lacks a b = pair_mono_first c d f g o r lacks a b
+pair_worse_first c d f g strict o r worse kept lacks a b = pair_strict_first c d f g o r kept lacks a b
+pair_worse_first c d f g _ o r worse kept lacks a b = absurd worse
+
+pub pair_worse_second : (c d : PureCarrier) (f g : Action) (k : Fact) (o r : Option PureExample) → IsOfWorse k → Keeps c f → Holds c f mono → Answers c f strict o
+    → Answers d g k r → Answers (pairs c d) (paired f g) k (beside o r)
+pair_worse_second c d f g mono o r worse kept holds a b = pair_mono_second c d f g o r kept holds a b
+pair_worse_second c d f g strict o r worse kept holds a b = pair_strict_second c d f g o r kept holds a b
+pair_worse_second c d f g _ o r worse kept holds a b = absurd worse
 
 -- Whether images are in the order of their values.
 

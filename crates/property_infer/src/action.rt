@@ -14,6 +14,7 @@ use alg_model::{Label, Tree, Value};
 /// What acts on the values of a part of an algebra. A label of an operator does by two of them, one for each part.
 #[derive(Clone, Copy, Debug)]
 pub(crate) enum Action<'a> {
+    /// What the label of the part does.
     OfLabel(&'a Tree, &'a Label),
     /// Sends every value of the part to this one.
     Constant(&'a Tree, &'a Value),

@@ -5,7 +5,7 @@ ghost use Rattle.alg_model.specs.Expressions as pure;
 ghost use Rattle.alg_model.specs.Views.{pure_value};
 ghost use Rattle.alg_model.specs.declared.edition.Edition.{Edition};
 ghost use Rattle.property_infer.specs.Asked.{pure_fact, pure_example, IsAction, MakesPair};
-ghost use Rattle.property_infer.specs.PairAnswers.{IsAlike};
+ghost use Rattle.property_infer.specs.PairAnswers.{IsAlike, IsOfWorse};
 
 use crate::action::Action;
 use crate::example::Example;
@@ -37,8 +37,7 @@ pub(crate) fn asked_of_pair(x: Action<'_>, y: Action<'_>, fact: Fact) -> OfPair
     match fact {
         Fact::Total => total_asked(x, y),
         Fact::Dead => OfPair::Both(Fact::Dead, Fact::Dead),
-        Fact::Mono => mono_asked(x, y),
-        Fact::Strict => strict_asked(x, y),
+        Fact::Mono | Fact::Strict => worse_asked(x, y, fact),
         Fact::Iso => iso_asked(x, y),
         Fact::Canc | Fact::Cond | Fact::Narrow => alike_asked(x, y, fact),
     }
@@ -56,25 +55,15 @@ fn total_asked(x: Action<'_>, y: Action<'_>) -> OfPair
     }
 }
 
-fn mono_asked(x: Action<'_>, y: Action<'_>) -> OfPair
+// Whether no image is preferred to its value, or each is worse.
+fn worse_asked(x: Action<'_>, y: Action<'_>, fact: Fact) -> OfPair
+    requires worse { IsOfWorse (pure_fact fact) }
     requires first { (e : Edition) × IsAction e x }
     requires second { (e : Edition) × IsAction e y }
-    ensures { MakesPair x.entry y.entry Fact.Mono result }
+    ensures { MakesPair x.entry y.entry fact result }
 {
     if x.profile().mono {
-        OfPair::Both(Fact::Strict, Fact::Mono)
-    } else {
-        OfPair::Both(Fact::Mono, Fact::Dead)
-    }
-}
-
-fn strict_asked(x: Action<'_>, y: Action<'_>) -> OfPair
-    requires first { (e : Edition) × IsAction e x }
-    requires second { (e : Edition) × IsAction e y }
-    ensures { MakesPair x.entry y.entry Fact.Strict result }
-{
-    if x.profile().mono {
-        OfPair::Both(Fact::Strict, Fact::Strict)
+        OfPair::Both(Fact::Strict, fact)
     } else {
         OfPair::Both(Fact::Mono, Fact::Dead)
     }
