@@ -1,11 +1,11 @@
 -- What a row in place holds, and what a run tells of a row.
-use Rattle.std.specs.Prelude.{◌≡◌, ℕ, ◌≤◌, List, take}
+use Rattle.std.specs.Prelude.{◌≡◌, ℕ, ◌<◌, ◌≤◌, List, [], ◌++◌, take}
 use Rattle.label_code.specs.declared.operations.Run.{Run}
 use Rattle.label_code.specs.declared.operations.Run.TheVariants.{Made, Prohibited}
 use Rattle.label_code.specs.declared.words.Store.{Store}
 use Rattle.label_code.specs.declared.words.Store.TheVariants.{Here, There}
 use Rattle.label_code.specs.declared.words.TheConstants.{HERE}
-use Rattle.label_code.specs.Machine.{Outcome, made, prohibited}
+use Rattle.label_code.specs.Machine.{Outcome, made, prohibited, stuck}
 
 -- the words of a row
 abbrev pub words_of : Store → List ℕ
@@ -21,3 +21,18 @@ has_room (There words) = Unit {0}
 abbrev pub Tells : Run → List ℕ → Outcome → Type 0
 Tells Made row o = o ≡ made row
 Tells Prohibited row o = o ≡ prohibited
+
+-- a new row, if there is one, is one of these
+abbrev pub MakesOnly : (List ℕ → Type 0) → Outcome → Type 0
+MakesOnly Rows (made row) = Rows row
+MakesOnly Rows prohibited = Unit {0}
+MakesOnly Rows stuck = Unit {0}
+
+-- the words that were written: so many of those in place, and more
+abbrev pub written_of : List ℕ → ℕ → List ℕ → List ℕ
+written_of words len more = take len words ++ more
+
+-- so many words stand in place, of n that have room there, and none elsewhere while there is room
+pub record IsFilled (n len : ℕ) (more : List ℕ) : Type 0 where
+  pub room : len ≤ n
+  pub none_behind : len < n → more ≡ []

@@ -2,6 +2,8 @@
 //! lists of operations that compare two rows. It knows no algebra, and stands on `meta_base` alone.
 #![tactic(auto)]
 
+mod fixed;
+mod held;
 mod machine;
 mod operations;
 mod orders;
@@ -9,6 +11,8 @@ mod output;
 mod pieces;
 mod words;
 
+pub use fixed::FixedRow;
+pub use held::HeldRow;
 pub use machine::{execute, run};
 pub use operations::{LabelCode, Op, OrdOp, OrderCode, Row, Run, Word};
 pub use orders::{compare, compare_words};

@@ -15,6 +15,7 @@ pub fn compare(code: &OrderCode, a: &Row, b: &Row) -> Ordering
 }
 
 /// What [`compare`] tells, of rows that are slices.
+#[inline(always)]
 pub fn compare_words(code: &[OrdOp], first: &[Word], second: &[Word]) -> Ordering
     requires { FitsBoth code.now first.now second.now }
     ensures { RunOrder code.now first.now second.now ≡ Some result }
@@ -23,6 +24,15 @@ pub fn compare_words(code: &[OrdOp], first: &[Word], second: &[Word]) -> Orderin
     if let ([OrdOp::Less], [m, ..], [n, ..]) = (code, first, second) {
         return m.cmp(n);
     }
+    compare_steps(code, first, second)
+}
+
+// The same, one operation after another.
+#[inline(never)]
+fn compare_steps(code: &[OrdOp], first: &[Word], second: &[Word]) -> Ordering
+    requires { FitsBoth code.now first.now second.now }
+    ensures { RunOrder code.now first.now second.now ≡ Some result }
+{
     let mut code = code;
     let mut first = first;
     let mut second = second;

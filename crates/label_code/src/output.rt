@@ -16,7 +16,13 @@ pub trait Output {
 
     /// Takes these words in order.
     fn extend(&mut self, alloc: Global, words: &[Word]) -> Result<(), NoMemory>
-        ensures { OnOk result (written self.new ≡ written self.old ++ words.now) };
+        ensures { OnOk result (written self.new ≡ written self.old ++ words.now) }
+    {
+        for word in words {
+            self.push(alloc, *word)?;
+        }
+        Ok(())
+    }
 }
 
 impl Output for Vec<Word> {

@@ -112,11 +112,4 @@ impl Output for Words {
             _ => self.push_elsewhere(alloc, word),
         }
     }
-
-    fn extend(&mut self, alloc: Global, words: &[Word]) -> Result<(), NoMemory> {
-        for word in words {
-            self.push(alloc, *word)?;
-        }
-        Ok(())
-    }
 }

@@ -1,7 +1,7 @@
 use Rattle.std.proofs.Common.{◌≡◌, ◌∷◌, rules, ap, sym, ◌∙◌}
 use Rattle.label_code.specs.Orders.{RunOrder, FitsBoth}
 use Rattle.label_code.proofs.Comparing.{tied}
-use Rattle.label_code.proofs.orders.compare_words.Goals as goal
+use Rattle.label_code.proofs.orders.compare_steps.Goals as goal
 
 pub behind-code-requires : goal.behind-code-requires
 behind-code-requires c =

@@ -1,6 +1,6 @@
 use Rattle.std.proofs.Common.{◌≡◌, length}
 use Rattle.label_code.specs.Orders.{RunOrder}
-use Rattle.label_code.proofs.orders.compare_words.Given as goal
+use Rattle.label_code.proofs.orders.compare_steps.Given as goal
 
 -- what is left decides as the whole code does
 abbrev pub invariant-loop-op : goal.invariant-loop-op
