@@ -1,5 +1,5 @@
 -- What compiled code makes of rows that are values' words.
-use Rattle.std.proofs.Common.{◌≡◌, ◌≢◌, ℕ, ◌+◌, List, [], Option, Some, None, refl, sym, ap, ◌∙◌, subst}
+use Rattle.std.proofs.Common.{◌≡◌, ◌≢◌, ℕ, ◌+◌, List, Bool, true, Option, Some, None, refl, sym, ap, ◌∙◌, subst}
 use Rattle.alg_model.specs.declared.edition.TheConstants.{MAX_LABEL_NUMBER}
 use Rattle.alg_model.specs.declared.alg.TheConstants.{MAX_VALUE_NUMBER}
 use Rattle.alg_model.specs.Expressions.{Expression, PureCarrier, PureLabel, PureValue}
@@ -12,13 +12,14 @@ use Rattle.alg_model.specs.CarrierLaws.{carriers_are}
 use Rattle.alg_model.specs.Laws.{images_in, images_at_most}
 use Rattle.label_code.specs.declared.operations.Op.{Op}
 use Rattle.label_code.specs.declared.operations.OrdOp.{OrdOp}
-use Rattle.label_code.specs.Machine.{made, prohibited, stuck, behind, RunCode, Fits}
-use Rattle.label_code.specs.CodeLaws.{behind_none}
+use Rattle.label_code.specs.Machine.{made, prohibited, stuck, RunCode, Fits}
+use Rattle.label_code.specs.Rows.{MakesOnly}
 use Rattle.label_code.specs.Orders.{RunOrder}
 use Rattle.code_gen.specs.Encoding.{Enc, decoded, IsEncoded}
 use Rattle.code_gen.specs.EncodingLaws.{decoded_is, encoded_in}
 use Rattle.code_gen.specs.Compilation.{CompileOrder}
 use Rattle.code_gen.specs.Meaning.{outcome_of, IsCodeOf}
+use Rattle.code_gen.specs.Widths.{HoldValues}
 use Rattle.code_gen.proofs.Labels.{code_means_application}
 use Rattle.code_gen.proofs.Orders.{code_means_order}
 
@@ -65,12 +66,23 @@ imaged a code l v out f k i is = by (App a l v) refl is
           bound = λ n small. subst (AtMost (n + MAX_LABEL_NUMBER)) (sym d) (images_at_most a l v w n MAX_LABEL_NUMBER k.1 k.2 small e);
         }
 
--- the same of what the machine makes, which writes behind no words
-pub made_from : (a : Expression) (code : List Op) (l : PureLabel) (row old out : List ℕ) → IsFormed a → IsCodeOf a code l → IsEncoded (carrier_of a) row → AtMost MAX_VALUE_NUMBER (decoded (carrier_of a) row)
-    → old ≡ [] → behind old (RunCode code row) ≡ made out → IsImaged a l (decoded (carrier_of a) row) out
-made_from a code l row old out f k i small e m =
-    imaged a code l (decoded (carrier_of a) row) out f k (encoded_in (carrier_of a) row i)
-    (sym (acted a code l row f k i small) ∙ sym (behind_none (RunCode code row)) ∙ ap (λ w. behind w (RunCode code row)) (sym e) ∙ m)
+-- the same of what the machine makes
+pub made_from : (a : Expression) (code : List Op) (l : PureLabel) (row out : List ℕ) → IsFormed a → IsCodeOf a code l → IsEncoded (carrier_of a) row → AtMost MAX_VALUE_NUMBER (decoded (carrier_of a) row)
+    → RunCode code row ≡ made out → IsImaged a l (decoded (carrier_of a) row) out
+made_from a code l row out f k i small m =
+    imaged a code l (decoded (carrier_of a) row) out f k (encoded_in (carrier_of a) row i) (sym (acted a code l row f k i small) ∙ m)
+
+-- and it is among the rows that hold values
+pub makes_only : (is_one : List ℕ → Bool) (a : Expression) (code : List Op) (l : PureLabel) (row : List ℕ) → IsFormed a → IsCodeOf a code l → IsEncoded (carrier_of a) row → AtMost MAX_VALUE_NUMBER (decoded (carrier_of a) row)
+    → HoldValues is_one (carrier_of a) → MakesOnly is_one (RunCode code row)
+makes_only is_one a code l row f k i small holds = subst (MakesOnly is_one) (sym (acted a code l row f k i small)) (by (App a l (decoded (carrier_of a) row)) refl)
+  where
+    by : (o : Option PureValue) → App a l (decoded (carrier_of a) row) ≡ o → MakesOnly is_one (outcome_of o)
+    by None e = tt
+    by (Some w) e = holds w (images_in a l (decoded (carrier_of a) row) w f k.1 (encoded_in (carrier_of a) row i) e)
+
+pub held_by : (is_one : List ℕ → Bool) (c : PureCarrier) (row : List ℕ) → HoldValues is_one c → IsEncoded c row → is_one row ≡ true
+held_by is_one c row holds (v, i, e) = ap is_one (sym e) ∙ holds v i
 
 -- where the row is prohibited there is no image
 not_imaged : (o : Option PureValue) → outcome_of o ≡ prohibited → o ≡ None
@@ -89,8 +101,6 @@ ordered a code x y f k (u, h, d) (v, i, e) =
 pub order_fits : (a : Expression) (code : List OrdOp) (x y : List ℕ) → IsFormed a → code ≡ CompileOrder (carrier_of a) → IsEncoded (carrier_of a) x → IsEncoded (carrier_of a) y → RunOrder code x y ≢ None
 order_fits a code x y f k h i e = let o = ordered a code x y f k h i in absurd (cc)
 
-pub prohibited_from : (a : Expression) (code : List Op) (l : PureLabel) (row old : List ℕ) → IsFormed a → IsCodeOf a code l → IsEncoded (carrier_of a) row → AtMost MAX_VALUE_NUMBER (decoded (carrier_of a) row)
-    → old ≡ [] → behind old (RunCode code row) ≡ prohibited → None ≡ App a l (decoded (carrier_of a) row)
-prohibited_from a code l row old f k i small e m =
-    sym (not_imaged (App a l (decoded (carrier_of a) row))
-    (sym (acted a code l row f k i small) ∙ sym (behind_none (RunCode code row)) ∙ ap (λ w. behind w (RunCode code row)) (sym e) ∙ m))
+pub prohibited_from : (a : Expression) (code : List Op) (l : PureLabel) (row : List ℕ) → IsFormed a → IsCodeOf a code l → IsEncoded (carrier_of a) row → AtMost MAX_VALUE_NUMBER (decoded (carrier_of a) row)
+    → RunCode code row ≡ prohibited → None ≡ App a l (decoded (carrier_of a) row)
+prohibited_from a code l row f k i small m = sym (not_imaged (App a l (decoded (carrier_of a) row)) (sym (acted a code l row f k i small) ∙ m))

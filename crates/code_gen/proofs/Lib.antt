@@ -4,3 +4,4 @@ mod Orders
 mod Running
 mod Sets
 mod Symbols
+pub mod Widths

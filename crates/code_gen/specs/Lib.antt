@@ -3,3 +3,4 @@ pub mod EncodingLaws
 pub mod Compilation
 pub mod Listings
 pub mod Meaning
+pub mod Widths

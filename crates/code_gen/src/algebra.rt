@@ -5,30 +5,41 @@ ghost use Rattle.code_gen.specs.Compilation.{CompileOrder};
 ghost use Rattle.code_gen.specs.Encoding.{decoded, IsEncoded};
 ghost use Rattle.code_gen.specs.EncodingLaws.{encoded_in};
 ghost use Rattle.code_gen.specs.Meaning.{IsCodeOf};
+ghost use Rattle.code_gen.specs.Widths.{HoldValues};
 
 use crate::decoding::decode_words;
 use crate::{compile_label, compile_order, write_value};
 use alg_model::{Alg, Algebra, Label, Value};
-use label_code::{LabelCode, OrderCode, Run, Words, compare_words, execute};
+use label_code::{HeldRow, LabelCode, OrderCode, Run, Words, compare_words};
 use meta_base::NoMemory;
 use std::alloc::Global;
 use std::cmp::Ordering;
+use std::marker::PhantomData;
 
-/// The algebra by compiled code: values are rows of words, and labels are lists of operations on them.
+/// The algebra by compiled code: values are rows of words, which are held as rows of this kind, and labels are lists of
+/// operations on them.
 #[derive(Debug, Drop)]
-pub struct CodeAlgebra<'a> {
+pub struct CodeAlgebra<'a, W: HeldRow> {
     alg: &'a Alg,
     order: OrderCode,
+    row: PhantomData<W>,
     ghost compiled: { order ≡ CompileOrder (carrier_of alg.now.expression) },
+    ghost holds: { HoldValues W.can_hold (carrier_of alg.now.expression) },
 }
 
-impl<'a> CodeAlgebra<'a> {
-    /// That algebra, carried out by code: its order is compiled here. It is refused for want of memory alone.
-    pub fn new(alloc: Global, alg: &'a Alg) -> Result<CodeAlgebra<'a>, NoMemory>
+impl<'a, W: HeldRow> CodeAlgebra<'a, W> {
+    /// That algebra, carried out by code, where the rows can hold its values: its order is compiled here. It is refused
+    /// for want of memory alone.
+    pub fn new(alloc: Global, alg: &'a Alg) -> Result<CodeAlgebra<'a, W>, NoMemory>
+        requires { HoldValues W.can_hold (carrier_of alg.now.expression) }
         ensures { IfOk result (λ algebra. algebra.alg.now ≡ alg.now) }
     {
         let order = compile_order(alloc, alg)?;
-        Ok(CodeAlgebra { alg, order })
+        Ok(CodeAlgebra {
+            alg,
+            order,
+            row: PhantomData,
+        })
     }
 
     // An algebra is formed, which its own calls don't say.
@@ -39,30 +50,30 @@ impl<'a> CodeAlgebra<'a> {
     }
 }
 
-impl<'a> Algebra for CodeAlgebra<'a> {
-    type Sig = Words;
+impl<'a, W: HeldRow> Algebra for CodeAlgebra<'a, W> {
+    type Sig = W;
 
     type Lab = LabelCode;
 
     ghost expression = { λ s. s.alg.now.expression };
 
-    ghost sig_value = { λ s row. decoded (carrier_of s.alg.now.expression) row };
+    ghost sig_value = { λ s row. decoded (carrier_of s.alg.now.expression) (W.held row) };
 
-    ghost is_sig = { λ s row. IsEncoded (carrier_of s.alg.now.expression) row };
+    ghost is_sig = { λ s row. IsEncoded (carrier_of s.alg.now.expression) (W.held row) };
 
     ghost stands_for = { λ s lab l. IsCodeOf s.alg.now.expression lab l };
 
-    ghost sig_in = { λ s row i. encoded_in (carrier_of s.alg.now.expression) row i };
+    ghost sig_in = { λ s row i. encoded_in (carrier_of s.alg.now.expression) (W.held row) i };
 
     ghost lab_in = { λ s lab l i. (i.1, i.2) };
 
-    fn sig_of(&self, alloc: Global, value: &Value) -> Result<Words, NoMemory> {
+    fn sig_of(&self, alloc: Global, value: &Value) -> Result<W, NoMemory> {
         let mut words = Words::new();
         write_value(alloc, value, &mut words)?;
-        Ok(words)
+        Ok(W::of(words))
     }
 
-    fn value_of(&self, alloc: Global, sig: &Words) -> Result<Value, NoMemory> {
+    fn value_of(&self, alloc: Global, sig: &W) -> Result<Value, NoMemory> {
         decode_words(alloc, self.alg, sig.as_slice())
     }
 
@@ -70,25 +81,22 @@ impl<'a> Algebra for CodeAlgebra<'a> {
         compile_label(alloc, self.alg, label)
     }
 
-    fn copy(&self, alloc: Global, sig: &Words) -> Result<Words, NoMemory> {
+    fn copy(&self, alloc: Global, sig: &W) -> Result<W, NoMemory> {
         sig.copy(alloc)
     }
 
-    fn order(&self, a: &Words, b: &Words) -> Ordering {
+    #[inline(always)]
+    fn order(&self, a: &W, b: &W) -> Ordering {
         self.keeps_rules();
         compare_words(self.order.as_slice(), a.as_slice(), b.as_slice())
     }
 
-    fn apply(
-        &self,
-        alloc: Global,
-        lab: &LabelCode,
-        sig: &Words,
-    ) -> Result<Option<Words>, NoMemory> {
+    fn apply(&self, alloc: Global, lab: &LabelCode, sig: &W) -> Result<Option<W>, NoMemory> {
+        self.keeps_rules();
         let mut image = Words::new();
-        match self.apply_into(alloc, lab, sig, &mut image)? {
-            true => Ok(Some(image)),
-            false => Ok(None),
+        match image.rewrite(alloc, lab.as_slice(), sig.as_slice())? {
+            Run::Made => Ok(Some(W::of(image))),
+            Run::Prohibited => Ok(None),
         }
     }
 
@@ -96,12 +104,11 @@ impl<'a> Algebra for CodeAlgebra<'a> {
         &self,
         alloc: Global,
         lab: &LabelCode,
-        sig: &Words,
-        out: &mut Words,
+        sig: &W,
+        out: &mut W,
     ) -> Result<bool, NoMemory> {
         self.keeps_rules();
-        out.clear();
-        match execute(alloc, lab.as_slice(), sig.as_slice(), out)? {
+        match out.rewrite(alloc, lab.as_slice(), sig.as_slice())? {
             Run::Made => Ok(true),
             Run::Prohibited => Ok(false),
         }

@@ -8,12 +8,14 @@ mod laws;
 mod listing;
 mod order;
 mod pieces;
+mod width;
 mod words;
 
 pub use algebra::CodeAlgebra;
 pub use compile::compile_label;
 pub use decoding::decode;
-pub use laws::{code_means_application, code_means_order};
+pub use laws::{code_means_application, code_means_order, rows_have_their_width};
 pub use listing::Listing;
 pub use order::compile_order;
+pub use width::row_width;
 pub use words::{encode, write_value};

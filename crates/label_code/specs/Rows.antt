@@ -1,5 +1,5 @@
 -- What a row in place holds, and what a run tells of a row.
-use Rattle.std.specs.Prelude.{◌≡◌, ℕ, ◌<◌, ◌≤◌, List, [], ◌++◌, take}
+use Rattle.std.specs.Prelude.{◌≡◌, ℕ, ◌<◌, ◌≤◌, List, [], ◌++◌, Bool, true, ◌&&◌, ◌==◌, nat_le, length, take}
 use Rattle.label_code.specs.declared.operations.Run.{Run}
 use Rattle.label_code.specs.declared.operations.Run.TheVariants.{Made, Prohibited}
 use Rattle.label_code.specs.declared.words.Store.{Store}
@@ -22,11 +22,15 @@ abbrev pub Tells : Run → List ℕ → Outcome → Type 0
 Tells Made row o = o ≡ made row
 Tells Prohibited row o = o ≡ prohibited
 
+-- the row has so many words, which are few
+abbrev pub has_width : ℕ → List ℕ → Bool
+has_width width row = length row == width && nat_le width HERE
+
 -- a new row, if there is one, is one of these
-abbrev pub MakesOnly : (List ℕ → Type 0) → Outcome → Type 0
-MakesOnly Rows (made row) = Rows row
-MakesOnly Rows prohibited = Unit {0}
-MakesOnly Rows stuck = Unit {0}
+abbrev pub MakesOnly : (List ℕ → Bool) → Outcome → Type 0
+MakesOnly is_one (made row) = is_one row ≡ true
+MakesOnly is_one prohibited = Unit {0}
+MakesOnly is_one stuck = Unit {0}
 
 -- the words that were written: so many of those in place, and more
 abbrev pub written_of : List ℕ → ℕ → List ℕ → List ℕ

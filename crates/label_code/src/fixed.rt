@@ -1,5 +1,6 @@
 ghost use Rattle.std.specs.Prelude.{◌≡◌, ◌≤◌, [], ◌∷◌, ◌++◌, length, OnOk};
 ghost use Rattle.label_code.specs.declared.words.TheConstants.{HERE};
+ghost use Rattle.label_code.specs.Rows.{has_width};
 
 use crate::{HeldRow, Op, Output, Run, Word, Words, execute};
 use meta_base::NoMemory;
@@ -16,7 +17,7 @@ pub struct FixedRow<const N: usize> {
 impl<const N: usize> HeldRow for FixedRow<N> {
     ghost held = { λ s. s.words };
 
-    ghost can_hold = { λ row. (length row ≡ N) × (N ≤ HERE) };
+    ghost can_hold = { λ row. has_width N row };
 
     fn of(words: Words) -> FixedRow<N> {
         match words.as_slice().as_array() {

@@ -1,4 +1,4 @@
-ghost use Rattle.std.specs.Prelude.{◌≡◌, ℕ, List, IfOk};
+ghost use Rattle.std.specs.Prelude.{◌≡◌, ℕ, List, Bool, true, IfOk};
 ghost use Rattle.label_code.specs.Machine.{RunCode, Fits};
 ghost use Rattle.label_code.specs.Rows.{Tells, MakesOnly};
 
@@ -13,11 +13,11 @@ pub trait HeldRow: Drop {
     ghost held: { Self → List ℕ };
 
     /// It can be a row of these words.
-    ghost can_hold: { List ℕ → Type 0 };
+    ghost can_hold: { List ℕ → Bool };
 
     /// The row of these words, which it can hold.
     fn of(words: Words) -> Self
-        requires { can_hold words }
+        requires { can_hold words ≡ true }
         ensures { held result ≡ words };
 
     /// Lends the words in order.
@@ -40,7 +40,7 @@ pub trait HeldRow: Drop {
 impl HeldRow for Words {
     ghost held = { λ s. s };
 
-    ghost can_hold = { λ row. Unit {0} };
+    ghost can_hold = { λ row. true };
 
     fn of(words: Words) -> Words {
         words

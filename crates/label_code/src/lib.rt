@@ -17,4 +17,4 @@ pub use machine::{execute, run};
 pub use operations::{LabelCode, Op, OrdOp, OrderCode, Row, Run, Word};
 pub use orders::{compare, compare_words};
 pub use output::Output;
-pub use words::Words;
+pub use words::{HERE, Words};

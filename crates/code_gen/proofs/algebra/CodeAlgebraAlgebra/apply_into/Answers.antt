@@ -1,29 +1,34 @@
 use Rattle.std.proofs.Common.{◌≡◌, rules}
-use Rattle.label_code.specs.Machine.{made, prohibited, behind, RunCode}
-use Rattle.code_gen.proofs.Acting.{code_fits, made_from, prohibited_from}
+use Rattle.label_code.specs.Machine.{made, prohibited, RunCode}
+use Rattle.code_gen.proofs.Acting.{code_fits, makes_only, made_from, prohibited_from}
 use Rattle.code_gen.proofs.algebra.CodeAlgebraAlgebra.apply_into.Goals as goal
 
-pub execute-requires : goal.execute-requires
-execute-requires c =
+pub rewrite-requires-clause-fits : goal.rewrite-requires-clause-fits
+rewrite-requires-clause-fits g c =
     rw (c.as_slice.ensures, c.as_slice-2.ensures)
-    (code_fits c.args.self.now.alg.now.expression c.args.lab.now c.requires.lab.0 c.args.sig.now c.keeps_rules.ensures c.requires.lab.1 c.requires.sig c.requires.small)
+    (code_fits c.args.self.now.alg.now.expression c.args.lab.now c.requires.lab.0 (g.W.HeldRow.held c.args.sig.now) c.keeps_rules.ensures c.requires.lab.1 c.requires.sig c.requires.small)
+
+pub rewrite-requires-clause-holds : goal.rewrite-requires-clause-holds
+rewrite-requires-clause-holds g c =
+    rw (c.as_slice.ensures, c.as_slice-2.ensures)
+    (makes_only g.W.HeldRow.can_hold c.args.self.now.alg.now.expression c.args.lab.now c.requires.lab.0 (g.W.HeldRow.held c.args.sig.now) c.keeps_rules.ensures c.requires.lab.1 c.requires.sig c.requires.small c.args.self.now.holds)
 
 pub returns-in-Made-clause-sig : goal.returns-in-Made-clause-sig
-returns-in-Made-clause-sig c =
-    let told : behind c.clear.new.self (RunCode c.args.lab.now c.args.sig.now) ≡ made c.execute.new.out = search rules in
-    (made_from c.args.self.now.alg.now.expression c.args.lab.now c.requires.lab.0 c.args.sig.now c.clear.new.self c.execute.new.out c.keeps_rules.ensures c.requires.lab.1 c.requires.sig c.requires.small c.clear.ensures told).sig
+returns-in-Made-clause-sig g c =
+    let told : RunCode c.args.lab.now (g.W.HeldRow.held c.args.sig.now) ≡ made (g.W.HeldRow.held c.rewrite.new.self) = search rules in
+    (made_from c.args.self.now.alg.now.expression c.args.lab.now c.requires.lab.0 (g.W.HeldRow.held c.args.sig.now) (g.W.HeldRow.held c.rewrite.new.self) c.keeps_rules.ensures c.requires.lab.1 c.requires.sig c.requires.small told).sig
 
 pub returns-in-Made-clause-image : goal.returns-in-Made-clause-image
-returns-in-Made-clause-image c l k =
-    let told : behind c.clear.new.self (RunCode c.args.lab.now c.args.sig.now) ≡ made c.execute.new.out = search rules in
-    (made_from c.args.self.now.alg.now.expression c.args.lab.now l c.args.sig.now c.clear.new.self c.execute.new.out c.keeps_rules.ensures k c.requires.sig c.requires.small c.clear.ensures told).image
+returns-in-Made-clause-image g c l k =
+    let told : RunCode c.args.lab.now (g.W.HeldRow.held c.args.sig.now) ≡ made (g.W.HeldRow.held c.rewrite.new.self) = search rules in
+    (made_from c.args.self.now.alg.now.expression c.args.lab.now l (g.W.HeldRow.held c.args.sig.now) (g.W.HeldRow.held c.rewrite.new.self) c.keeps_rules.ensures k c.requires.sig c.requires.small told).image
 
 pub returns-in-Made-clause-bound : goal.returns-in-Made-clause-bound
-returns-in-Made-clause-bound c =
-    let told : behind c.clear.new.self (RunCode c.args.lab.now c.args.sig.now) ≡ made c.execute.new.out = search rules in
-    (made_from c.args.self.now.alg.now.expression c.args.lab.now c.requires.lab.0 c.args.sig.now c.clear.new.self c.execute.new.out c.keeps_rules.ensures c.requires.lab.1 c.requires.sig c.requires.small c.clear.ensures told).bound
+returns-in-Made-clause-bound g c =
+    let told : RunCode c.args.lab.now (g.W.HeldRow.held c.args.sig.now) ≡ made (g.W.HeldRow.held c.rewrite.new.self) = search rules in
+    (made_from c.args.self.now.alg.now.expression c.args.lab.now c.requires.lab.0 (g.W.HeldRow.held c.args.sig.now) (g.W.HeldRow.held c.rewrite.new.self) c.keeps_rules.ensures c.requires.lab.1 c.requires.sig c.requires.small told).bound
 
 pub returns-in-Prohibited-clause-image : goal.returns-in-Prohibited-clause-image
-returns-in-Prohibited-clause-image c l k =
-    let told : behind c.clear.new.self (RunCode c.args.lab.now c.args.sig.now) ≡ prohibited = search rules in
-    prohibited_from c.args.self.now.alg.now.expression c.args.lab.now l c.args.sig.now c.clear.new.self c.keeps_rules.ensures k c.requires.sig c.requires.small c.clear.ensures told
+returns-in-Prohibited-clause-image g c l k =
+    let told : RunCode c.args.lab.now (g.W.HeldRow.held c.args.sig.now) ≡ prohibited = search rules in
+    prohibited_from c.args.self.now.alg.now.expression c.args.lab.now l (g.W.HeldRow.held c.args.sig.now) c.keeps_rules.ensures k c.requires.sig c.requires.small told
