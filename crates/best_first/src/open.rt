@@ -68,6 +68,7 @@ impl<A: Algebra, L: Ledger> Open<A, L> {
 
     // Offers the route there with the spare value, if there is one. It is kept where it is better than the node's
     // best, whose value is the spare one then.
+    #[inline(always)]
     pub fn offer_spare(&mut self, algebra: &A, place: Place)
         requires node { place.node.0 < vec_len self.old.best }
         requires sig { IfSome self.old.spare (A.is_sig algebra.now) }
@@ -88,6 +89,7 @@ impl<A: Algebra, L: Ledger> Open<A, L> {
     }
 
     // Whether there is a spare value, and a route there with it is better than the node's best.
+    #[inline(always)]
     fn wants_spare(&self, algebra: &A, place: Place) -> bool
         requires node { place.node.0 < vec_len self.now.best }
         requires sig { IfSome self.now.spare (A.is_sig algebra.now) }
@@ -102,7 +104,9 @@ impl<A: Algebra, L: Ledger> Open<A, L> {
         }
     }
 
-    // Keeps a route with the spare value as the node's best.
+    // Keeps a route with the spare value as the node's best. Most offers aren't kept, so this stands apart from their
+    // loop.
+    #[inline(never)]
     fn keep_spare(&mut self, algebra: &A, place: Place)
         requires node { place.node.0 < vec_len self.old.best }
         requires sig { IfSome self.old.spare (A.is_sig algebra.now) }
@@ -165,6 +169,7 @@ impl<A: Algebra, L: Ledger> Open<A, L> {
 
 // Whether the route there with the value is better than the best, or there is no best. Routes compare by
 // value and then by place, which is their order by value and path, since what lies behind one next is one path.
+#[inline(always)]
 fn beats<A: Algebra>(
     algebra: &A,
     sig: &A::Sig,
