@@ -10,7 +10,8 @@ ghost use Rattle.alg_model.specs.Views.{pure_label, pure_value};
 
 use crate::texts::{label, value};
 use alg_model::{Alg, Algebra, Label, TreeAlgebra, Value, same_value};
-use code_gen::CodeAlgebra;
+use code_gen::{CodeAlgebra, row_width, rows_have_their_width};
+use label_code::{FixedRow, Words};
 use meta_base::NoMemory;
 use std::alloc::Global;
 use std::cmp::Ordering;
@@ -37,7 +38,13 @@ union(add(1..1), seq(2)) | r:1 | r:[0] | l:4
 sum(add(0..9), seq(2)) | (3|1) | r:[] | l:4
 plus(add(0..9), add(10..19)) | r:12 | 4 | 20
 left(seq(4)) | [3,1] | [0] | []
-right(lex(seq(4), gate)) | keep | ([1,2],unit) | ([],unit)";
+right(lex(seq(4), gate)) | keep | ([1,2],unit) | ([],unit)
+lex(add(1..9), gate) | (2,deny) | (3,unit) | (4,unit)
+lex(tags(3), add(1..9)) | (+1,2) | ({0},4) | ({},1)
+lex(worst(9; 0..9), scoped(lp(3), add(0..9))) | (3,out(2,4)) | (4,(1,2)) | (2,(3,3))
+scoped(lex(add(1..9), guard(3)), lex(width(9; 0..9), tags(2))) | in((5,+1)) | ((3,{1}),(7,{0})) | ((3,{}),(8,{}))
+lex(lex(add(1..9), lp(3)), lex(add(1..9), lex(lp(3), gate))) | ((1,2),(3,(0,deny))) | ((3,1),(5,(2,unit))) | ((3,1),(4,(2,unit)))
+lex(lex(add(1..9), lp(3)), lex(add(1..9), lex(lp(3), tags(2)))) | ((1,2),(3,(0,+1))) | ((3,1),(5,(2,{0}))) | ((3,1),(4,(2,{})))";
 
 // The cases, in a call, so that no proof looks into them.
 fn agreed_cases() -> &'static str {
@@ -99,7 +106,8 @@ fn are_same(a: &Option<Value>, b: &Option<Value>) -> bool {
     }
 }
 
-// Whether both algebras tell the same, and bring the first value back.
+// Whether both algebras tell the same, and bring the first value back: the compiled one over rows of any length, and
+// over rows of the words that all values have.
 fn agree(
     alloc: Global,
     alg: &Alg,
@@ -113,16 +121,63 @@ fn agree(
     requires second { In (carrier_of alg.now.expression) (pure_value second.now) }
     requires small_first { AtMost MAX_VALUE_NUMBER (pure_value first.now) }
 {
+    rows_have_their_width();
     let tree = tell(alloc, &TreeAlgebra::new(alg), label, first, second)?;
-    let code = tell(alloc, &CodeAlgebra::new(alloc, alg)?, label, first, second)?;
+    let words = tell(
+        alloc,
+        &CodeAlgebra::<Words>::new(alloc, alg)?,
+        label,
+        first,
+        second,
+    )?;
+    let fixed = match row_width(alg) {
+        Some(1) => Some(tell(
+            alloc,
+            &CodeAlgebra::<FixedRow<1>>::new(alloc, alg)?,
+            label,
+            first,
+            second,
+        )?),
+        Some(2) => Some(tell(
+            alloc,
+            &CodeAlgebra::<FixedRow<2>>::new(alloc, alg)?,
+            label,
+            first,
+            second,
+        )?),
+        Some(3) => Some(tell(
+            alloc,
+            &CodeAlgebra::<FixedRow<3>>::new(alloc, alg)?,
+            label,
+            first,
+            second,
+        )?),
+        Some(4) => Some(tell(
+            alloc,
+            &CodeAlgebra::<FixedRow<4>>::new(alloc, alg)?,
+            label,
+            first,
+            second,
+        )?),
+        _ => None,
+    };
     Ok(
         same_value(&tree.again, first)
-            && same_value(&code.again, first)
-            && tree.order == code.order
-            && are_same(&tree.image, &code.image)
-            && are_same(&tree.placed, &code.placed)
-            && are_same(&tree.image, &tree.placed),
+            && are_same(&tree.image, &tree.placed)
+            && tells_alike(&tree, &words)
+            && match &fixed {
+                Some(fixed) => tells_alike(&tree, fixed),
+                None => true,
+            },
     )
+}
+
+// Whether two algebras told the same.
+fn tells_alike(one: &Told, other: &Told) -> bool {
+    same_value(&one.again, &other.again)
+        && one.order == other.order
+        && are_same(&one.image, &other.image)
+        && are_same(&one.placed, &other.placed)
 }
 
 // Whether both algebras agree on a case.

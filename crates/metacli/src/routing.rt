@@ -1,6 +1,8 @@
 // What `route` and `settle` decide.
 ghost use Rattle.std.specs.Prelude.{◌≡◌, IfOk, map};
 ghost use Rattle.std.specs.List.{AllByRecursion};
+ghost use Rattle.alg_model.specs.Carriers.{carrier_of};
+ghost use Rattle.code_gen.specs.Widths.{HoldValues};
 ghost use Rattle.link_state.specs.Tables.{AreTablesOf};
 ghost use Rattle.command_words.specs.Words.{AreWorkers};
 ghost use Rattle.net_graph.specs.Changes.{AreChanges};
@@ -20,7 +22,8 @@ use crate::outcome::{Outcome, Stop};
 use alg_classes::Property;
 use alg_model::Alg;
 use best_first::{best_first_is_optimal, best_first_rows_are_the_networks};
-use code_gen::CodeAlgebra;
+use code_gen::{CodeAlgebra, row_width, rows_have_their_width};
+use label_code::{FixedRow, HeldRow, Words};
 use link_state::all_tables;
 use meta_base::{List, NoMemory};
 use net_facts::{Lack, first_lack};
@@ -153,16 +156,50 @@ fn all_routes<R: AllocGlobal + Threads + Sync>(
     best_first_is_stable();
     stable_rows_are_settled();
     best_first_rows_are_the_networks();
-    let algebra = CodeAlgebra::new(rt.alloc(), net.alg())?;
-    let tables = all_tables(rt, &algebra, net, workers)?;
-    joined(rt.alloc(), tables)
+    let tables = tables_of(rt, net, workers)?;
+    let room = net.node_count().saturating_mul(net.dest_count());
+    joined(rt.alloc(), tables, room)
 }
 
-// The rows of all tables, one table after another.
-fn joined(alloc: Global, tables: List<DestTable>) -> Result<List<RouteRow>, NoMemory>
+// The tables of all destinations, over rows that are as narrow as the algebra allows.
+fn tables_of<R: AllocGlobal + Threads + Sync>(
+    rt: &R,
+    net: &Net,
+    workers: u32,
+) -> Result<List<DestTable>, NoMemory>
+    requires { AreWorkers workers }
+    ensures { IfOk result (AreTablesOf net.now) }
+{
+    rows_have_their_width();
+    match row_width(net.alg()) {
+        Some(1) => tables_over::<FixedRow<1>, R>(rt, net, workers),
+        Some(2) => tables_over::<FixedRow<2>, R>(rt, net, workers),
+        Some(3) => tables_over::<FixedRow<3>, R>(rt, net, workers),
+        Some(4) => tables_over::<FixedRow<4>, R>(rt, net, workers),
+        _ => tables_over::<Words, R>(rt, net, workers),
+    }
+}
+
+// The same over rows of this kind.
+fn tables_over<W: HeldRow + Send + Sync, R: AllocGlobal + Threads + Sync>(
+    rt: &R,
+    net: &Net,
+    workers: u32,
+) -> Result<List<DestTable>, NoMemory>
+    requires workers { AreWorkers workers }
+    requires rows { HoldValues W.can_hold (carrier_of net.now.alg.expression) }
+    ensures { IfOk result (AreTablesOf net.now) }
+{
+    let algebra = CodeAlgebra::<W>::new(rt.alloc(), net.alg())?;
+    let tables = all_tables(rt, &algebra, net, workers)?;
+    Ok(tables)
+}
+
+// The rows of all tables, one table after another, in a list that has room for so many at once.
+fn joined(alloc: Global, tables: List<DestTable>, room: usize) -> Result<List<RouteRow>, NoMemory>
     ensures { IfOk result (λ rows. map pure_row rows ≡ joined_rows (map rows_of tables)) }
 {
-    let mut rows = Vec::new(alloc);
+    let mut rows = Vec::with_capacity(alloc, room)?;
     for table in tables.into_vec() {
         rows.append(&mut table.rows.into_vec())?;
     }

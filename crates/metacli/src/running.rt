@@ -1,5 +1,7 @@
 // What `run` and `trace` decide.
 ghost use Rattle.std.specs.Prelude.{◌≡◌, IfOk, map};
+ghost use Rattle.alg_model.specs.Carriers.{carrier_of};
+ghost use Rattle.code_gen.specs.Widths.{HoldValues};
 ghost use Rattle.command_words.specs.Words.{AreTurns, AreWorkers};
 ghost use Rattle.net_graph.specs.Changes.{AreChanges};
 ghost use Rattle.net_graph.specs.Views.{pure_change};
@@ -8,11 +10,13 @@ ghost use Rattle.metacli.specs.Behind.{nets_after};
 ghost use Rattle.metacli.specs.Outcome.{IsRunAs};
 ghost use Rattle.metacli.specs.Runs.{IsRunThrough};
 ghost use Rattle.metacli.specs.Views.{CanBeWritten, pure_outcome};
+ghost use Rattle.vector_runs.specs.Runs.{AreLater, IsRun, pure_phase};
 
 use crate::behind::nets_behind;
 use crate::outcome::{Outcome, Stop};
 use alg_model::Alg;
-use code_gen::CodeAlgebra;
+use code_gen::{CodeAlgebra, row_width, rows_have_their_width};
+use label_code::{FixedRow, HeldRow, Words};
 use meta_base::{Gate, List, NoMemory};
 use net_graph::Net;
 use std::alloc::AllocGlobal;
@@ -73,16 +77,52 @@ pub(crate) fn run_through<R: AllocGlobal + Threads + Wait + Sync, G: Gate>(
     phases_are_of_networks();
     let alloc = rt.alloc();
     let changed = List::from_vec(nets_behind(alloc, &file.net, file.changes.as_slice())?);
-    let algebra = CodeAlgebra::new(alloc, file.net.alg())?;
-    let run = run_phases(
-        rt,
-        alloc,
-        &algebra,
-        &file.net,
-        changed.as_slice(),
-        workers,
-        turns,
-        gate,
-    )?;
+    let run = run_on(rt, &file.net, changed.as_slice(), workers, turns, gate)?;
     Ok((changed, run))
+}
+
+// A run through these networks, over rows that are as narrow as the algebra allows.
+fn run_on<R: AllocGlobal + Threads + Wait + Sync, G: Gate>(
+    rt: &R,
+    net: &Net,
+    changed: &[Net],
+    workers: u32,
+    turns: u64,
+    gate: &G,
+) -> Result<Run, NoMemory>
+    requires changed { AreLater net.now changed.now }
+    requires workers { AreWorkers workers }
+    requires turns { AreTurns turns }
+    ensures { IfOk result (λ run. IsRun net.now changed.now turns
+        (map pure_phase run.past) (pure_phase run.last) run.is_quiet) }
+{
+    rows_have_their_width();
+    match row_width(net.alg()) {
+        Some(1) => run_over::<FixedRow<1>, R, G>(rt, net, changed, workers, turns, gate),
+        Some(2) => run_over::<FixedRow<2>, R, G>(rt, net, changed, workers, turns, gate),
+        Some(3) => run_over::<FixedRow<3>, R, G>(rt, net, changed, workers, turns, gate),
+        Some(4) => run_over::<FixedRow<4>, R, G>(rt, net, changed, workers, turns, gate),
+        _ => run_over::<Words, R, G>(rt, net, changed, workers, turns, gate),
+    }
+}
+
+// The same over rows of this kind.
+fn run_over<W: HeldRow + Send + Sync, R: AllocGlobal + Threads + Wait + Sync, G: Gate>(
+    rt: &R,
+    net: &Net,
+    changed: &[Net],
+    workers: u32,
+    turns: u64,
+    gate: &G,
+) -> Result<Run, NoMemory>
+    requires changed { AreLater net.now changed.now }
+    requires workers { AreWorkers workers }
+    requires turns { AreTurns turns }
+    requires rows { HoldValues W.can_hold (carrier_of net.now.alg.expression) }
+    ensures { IfOk result (λ run. IsRun net.now changed.now turns
+        (map pure_phase run.past) (pure_phase run.last) run.is_quiet) }
+{
+    let alloc = rt.alloc();
+    let algebra = CodeAlgebra::<W>::new(alloc, net.alg())?;
+    run_phases(rt, alloc, &algebra, net, changed, workers, turns, gate)
 }

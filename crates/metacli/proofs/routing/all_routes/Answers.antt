@@ -16,7 +16,7 @@ returns-clause-routes g c =
       settled = λ rows stable. c.stable_rows_are_settled.ensures net rows is_net stable;
       rows = λ dest t within best. c.best_first_rows_are_the_networks.ensures net dest t is_net within best;
     } in
-    IfOk-weaker c.joined.result _ _ (λ rows h. subst (AreRoutesOn c.args.solution net) (sym h) (routes_on c.args.solution net laws c.requires.fit c.in_ok-tables.tables c.in_ok-tables.ensures.tables)) c.joined.ensures
+    IfOk-weaker c.joined.result _ _ (λ rows h. subst (AreRoutesOn c.args.solution net) (sym h) (routes_on c.args.solution net laws c.requires.fit c.in_ok-tables.tables c.in_ok-tables.ensures)) c.joined.ensures
 
 pub returns-clause-rows : goal.returns-clause-rows
 returns-clause-rows g c =
@@ -28,4 +28,4 @@ returns-clause-rows g c =
       settled = λ rows stable. c.stable_rows_are_settled.ensures net rows is_net stable;
       rows = λ dest t within best. c.best_first_rows_are_the_networks.ensures net dest t is_net within best;
     } in
-    IfOk-weaker c.joined.result _ _ (λ rows h. subst (AllByRecursion (IsRowOf net)) (sym h) (rows_on net laws c.in_ok-tables.tables c.in_ok-tables.ensures.tables)) c.joined.ensures
+    IfOk-weaker c.joined.result _ _ (λ rows h. subst (AllByRecursion (IsRowOf net)) (sym h) (rows_on net laws c.in_ok-tables.tables c.in_ok-tables.ensures)) c.joined.ensures

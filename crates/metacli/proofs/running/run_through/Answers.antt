@@ -8,8 +8,8 @@ use Rattle.metacli.specs.Behind.{nets_after}
 use Rattle.metacli.proofs.NetsBehind.{nets_are, nets_are_later}
 use Rattle.metacli.proofs.running.run_through.Goals as goal
 
-pub run_phases-requires-clause-changed : goal.run_phases-requires-clause-changed
-run_phases-requires-clause-changed g c _ _ =
+pub run_on-requires-clause-changed : goal.run_on-requires-clause-changed
+run_on-requires-clause-changed g c _ _ =
     let net = c.args.file.now.net in
     let changes = map pure_change c.as_slice.result.now in
     subst (AreLater net) (sym (c.as_slice-2.ensures ∙ (c.from_vec-changed.ensures ∙ c.in_ok-nets_behind.ensures))) (nets_are_later net changes)
