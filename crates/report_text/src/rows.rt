@@ -31,7 +31,7 @@ fn push_path(out: &mut String, net: &Net, path: &[NodeId]) -> Result<(), NoMemor
     match path {
         [] => Ok(()),
         [node, rest @ ..] => {
-            out.push_str(" ")?;
+            out.push(' ')?;
             push_node(out, net, *node)?;
             push_path(out, net, rest)
         }
@@ -59,11 +59,11 @@ pub fn push_row_line(out: &mut String, net: &Net, row: &RouteRow) -> Result<(), 
     ensures { OnOk result (Gains out.old (row_text net.now (pure_row row.now)) out.new) }
 {
     push_node(out, net, row.node)?;
-    out.push_str(" ")?;
+    out.push(' ')?;
     push_dest(out, net, row.dest)?;
-    out.push_str(" ")?;
+    out.push(' ')?;
     push_route(out, net, row)?;
-    Ok(out.push_str("\n")?)
+    Ok(out.push('\n')?)
 }
 
 // As many bytes as most rows have, so that few lines grow.

@@ -76,11 +76,11 @@ fn push_tree_value(out: &mut String, tree: &Tree, value: &Value) -> Result<(), N
         (Tree::Gate, Value::Unit) => push_word(out, "unit"),
         (Tree::Table(table), Value::Name(place)) => push_name(out, table.names.as_slice(), *place),
         (Tree::Lex(a, b) | Tree::Scoped(a, b), Value::Pair(u, v)) => {
-            out.push_str("(")?;
+            out.push('(')?;
             push_tree_value(out, a, u)?;
-            out.push_str(",")?;
+            out.push(',')?;
             push_tree_value(out, b, v)?;
-            push_word(out, ")")
+            Ok(out.push(')')?)
         }
         (Tree::Union(a, _) | Tree::Sum(a, _), Value::First(u)) => {
             out.push_str("l:")?;
@@ -129,7 +129,7 @@ fn push_tree_label(out: &mut String, tree: &Tree, label: &Label) -> Result<(), N
         (Tree::Scoped(a, b), Label::Outer(l, v)) => push_outer(out, a, l, b, v),
         (Tree::Scoped(_, b), Label::Inner(m)) => {
             push_behind(out, "in(", b, m)?;
-            push_word(out, ")")
+            Ok(out.push(')')?)
         }
         (Tree::Union(a, _) | Tree::Plus(a, _), Label::First(l)) => push_behind(out, "l:", a, l),
         (Tree::Union(_, b) | Tree::Plus(_, b), Label::Second(m)) => push_behind(out, "r:", b, m),
@@ -156,11 +156,11 @@ fn push_pair(
         ++ label_text (expression_of a.now) (pure_label l.now) ++ mark.now
         ++ label_text (expression_of b.now) (pure_label m.now) ++ codes ")") out.new) }
 {
-    out.push_str("(")?;
+    out.push('(')?;
     push_tree_label(out, a, l)?;
     out.push_str(mark)?;
     push_tree_label(out, b, m)?;
-    push_word(out, ")")
+    Ok(out.push(')')?)
 }
 
 // A label behind what begins it.
@@ -188,9 +188,9 @@ fn push_outer(out: &mut String, a: &Tree, l: &Label, b: &Tree, v: &Value) -> Res
 {
     out.push_str("out(")?;
     push_tree_label(out, a, l)?;
-    out.push_str(",")?;
+    out.push(',')?;
     push_tree_value(out, b, v)?;
-    push_word(out, ")")
+    Ok(out.push(')')?)
 }
 
 fn push_word(out: &mut String, word: &str) -> Result<(), NoMemory>
@@ -224,9 +224,9 @@ fn push_row(out: &mut String, rows: &[TableRow], place: u8) -> Result<(), NoMemo
 fn push_symbols(out: &mut String, ns: &[u64]) -> Result<(), NoMemory>
     ensures { OnOk result (Gains out.old (codes "[" ++ numbers_text ns.now ++ codes "]") out.new) }
 {
-    out.push_str("[")?;
+    out.push('[')?;
     push_numbers(out, ns)?;
-    push_word(out, "]")
+    Ok(out.push(']')?)
 }
 
 #[tactic(auto, using(crate::proofs::Printed::listed_at))]
@@ -245,23 +245,19 @@ fn push_numbers(out: &mut String, ns: &[u64]) -> Result<(), NoMemory>
 fn push_next(out: &mut String, follows: bool, n: u64) -> Result<(), NoMemory>
     ensures { OnOk result (string_bytes out.new ≡ (string_bytes out.old ++ separator follows) ++ decimal n) }
 {
-    out.push_str(separator(follows))?;
+    if follows {
+        out.push(',')?;
+    }
     push_number(out, u128::from(n))
-}
-
-fn separator(follows: bool) -> &'static str
-    ensures { result.now ≡ separator follows }
-{
-    if follows { "," } else { "" }
 }
 
 fn push_set(out: &mut String, count: u64, marks: u64) -> Result<(), NoMemory>
     requires { count ≤ MAX_MARKS }
     ensures { OnOk result (Gains out.old (codes "{" ++ numbers_text (members count marks) ++ codes "}") out.new) }
 {
-    out.push_str("{")?;
+    out.push('{')?;
     push_members(out, count, marks)?;
-    push_word(out, "}")
+    Ok(out.push('}')?)
 }
 
 // The numbers below the count that are in the set, ascending.
