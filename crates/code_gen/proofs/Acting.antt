@@ -1,5 +1,5 @@
 -- What compiled code makes of rows that are values' words.
-use Rattle.std.proofs.Common.{◌≡◌, ◌≢◌, ℕ, ◌+◌, List, Bool, true, Option, Some, None, refl, sym, ap, ◌∙◌, subst}
+use Rattle.std.proofs.Common.{◌≡◌, ◌≢◌, ℕ, ◌+◌, List, Bool, Option, Some, None, refl, sym, ap, ◌∙◌, subst}
 use Rattle.alg_model.specs.declared.edition.TheConstants.{MAX_LABEL_NUMBER}
 use Rattle.alg_model.specs.declared.alg.TheConstants.{MAX_VALUE_NUMBER}
 use Rattle.alg_model.specs.Expressions.{Expression, PureCarrier, PureLabel, PureValue}
@@ -80,9 +80,6 @@ makes_only is_one a code l row f k i small holds = subst (MakesOnly is_one) (sym
     by : (o : Option PureValue) → App a l (decoded (carrier_of a) row) ≡ o → MakesOnly is_one (outcome_of o)
     by None e = tt
     by (Some w) e = holds w (images_in a l (decoded (carrier_of a) row) w f k.1 (encoded_in (carrier_of a) row i) e)
-
-pub held_by : (is_one : List ℕ → Bool) (c : PureCarrier) (row : List ℕ) → HoldValues is_one c → IsEncoded c row → is_one row ≡ true
-held_by is_one c row holds (v, i, e) = ap is_one (sym e) ∙ holds v i
 
 -- where the row is prohibited there is no image
 not_imaged : (o : Option PureValue) → outcome_of o ≡ prohibited → o ≡ None

@@ -92,14 +92,15 @@ impl<'a, W: HeldRow> Algebra for CodeAlgebra<'a, W> {
     }
 
     fn apply(&self, alloc: Global, lab: &LabelCode, sig: &W) -> Result<Option<W>, NoMemory> {
-        self.keeps_rules();
-        let mut image = Words::new();
-        match image.rewrite(alloc, lab.as_slice(), sig.as_slice())? {
-            Run::Made => Ok(Some(W::of(image))),
-            Run::Prohibited => Ok(None),
+        // A row of as many words, whatever they are.
+        let mut image = sig.copy(alloc)?;
+        match self.apply_into(alloc, lab, sig, &mut image)? {
+            true => Ok(Some(image)),
+            false => Ok(None),
         }
     }
 
+    #[inline(always)]
     fn apply_into(
         &self,
         alloc: Global,
