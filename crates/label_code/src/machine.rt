@@ -5,6 +5,7 @@ ghost use Rattle.label_code.specs.Effects.{effect, goes_on, writes, looks, turns
 ghost use Rattle.label_code.specs.Machine.{RunCode, Fits, behind};
 ghost use Rattle.label_code.specs.Rows.{Tells};
 ghost use Rattle.label_code.specs.Steps.{Does};
+ghost use Rattle.label_code.specs.declared.machine.Halt.TheVariants as halts;
 
 use crate::pieces::{behind, item, sequence};
 use crate::{LabelCode, Op, Output, Row, Run, Word};
@@ -49,11 +50,14 @@ pub fn execute<W: Output>(
         let Some((op, rest)) = code.split_first() else {
             return Ok(Run::Made);
         };
-        let Some(next) = step(alloc, op, row, out)? else {
-            return Ok(Run::Prohibited);
-        };
-        row = next.row;
-        code = behind(rest, next.jump);
+        match step(alloc, op, row, out) {
+            Ok(next) => {
+                row = next.row;
+                code = behind(rest, next.jump);
+            }
+            Err(Halt::Prohibited) => return Ok(Run::Prohibited),
+            Err(Halt::NoMemory) => return Err(NoMemory),
+        }
     }
 }
 
@@ -64,15 +68,30 @@ struct Next<'a> {
     jump: usize,
 }
 
-// What the operation leaves, or `None` where it prohibits.
+// Why nothing is left.
+#[derive(Clone, Copy)]
+enum Halt {
+    Prohibited,
+    NoMemory,
+}
+
+impl From<NoMemory> for Halt {
+    ghost from_gives = { λ _ halt. halt ≡ halts.NoMemory };
+
+    fn from(_: NoMemory) -> Self {
+        Halt::NoMemory
+    }
+}
+
+// What the operation leaves.
 fn step<'a, W: Output>(
     alloc: Global,
     op: &Op,
     row: &'a [Word],
     out: &mut W,
-) -> Result<Option<Next<'a>>, NoMemory>
+) -> Result<Next<'a>, Halt>
     requires { effect op.now row.now ≢ lacks }
-    ensures { IfOk result (λ next. Does next (W.written out.old) (W.written out.new) (effect op.now row.now)) }
+    ensures { Does result (W.written out.old) (W.written out.new) (effect op.now row.now) }
 {
     match row {
         [word, rest @ ..] => step_in_row(alloc, op, *word, rest, row, out),
@@ -88,11 +107,10 @@ fn step_in_row<'a, W: Output>(
     rest: &'a [Word],
     row: &'a [Word],
     out: &mut W,
-) -> Result<Option<Next<'a>>, NoMemory>
+) -> Result<Next<'a>, Halt>
     requires row { row.now ≡ word ∷ rest.now }
     requires fits { effect op.now (word ∷ rest.now) ≢ lacks }
-    ensures { IfOk result (λ next.
-        Does next (W.written out.old) (W.written out.new) (effect op.now (word ∷ rest.now))) }
+    ensures { Does result (W.written out.old) (W.written out.new) (effect op.now (word ∷ rest.now)) }
 {
     match op {
         Op::Add(n) => write(alloc, word + n, rest, out),
@@ -100,9 +118,9 @@ fn step_in_row<'a, W: Output>(
         Op::Max(n) => write(alloc, word.max(*n), rest, out),
         Op::Min(n) => write(alloc, word.min(*n), rest, out),
         Op::Copy => write(alloc, word, rest, out),
-        Op::Drop => Ok(Some(Next::behind(rest))),
+        Op::Drop => Ok(Next::behind(rest)),
         Op::CopySeq => copy_sequence(alloc, word, rest, out),
-        Op::DropSeq => Ok(Some(Next::behind(sequence(word, rest).1))),
+        Op::DropSeq => Ok(Next::behind(sequence(word, rest).1)),
         Op::Emit(word) => write(alloc, *word, row, out),
         Op::Append(symbol) => append(alloc, word, rest, *symbol, out),
         Op::Fresh(symbol) => append_fresh(alloc, word, rest, *symbol, out),
@@ -111,10 +129,10 @@ fn step_in_row<'a, W: Output>(
         Op::NeedBit(k) => write_where(alloc, is_set(word, *k), word, rest, out),
         Op::BarBit(k) => write_where(alloc, !is_set(word, *k), word, rest, out),
         Op::Look(entries) => look(alloc, entries.as_slice(), word, rest, out),
-        Op::Deny => Ok(None),
+        Op::Deny => Err(Halt::Prohibited),
         Op::Fork(jump) => fork(alloc, word, rest, *jump, out),
-        Op::Test(jump) => Ok(Some(Next::behind_side(word, rest, *jump))),
-        Op::Skip(jump) => Ok(Some(Next { row, jump: *jump })),
+        Op::Test(jump) => Ok(Next::behind_side(word, rest, *jump)),
+        Op::Skip(jump) => Ok(Next { row, jump: *jump }),
     }
 }
 
@@ -124,15 +142,15 @@ fn step_at_end<'a, W: Output>(
     op: &Op,
     row: &'a [Word],
     out: &mut W,
-) -> Result<Option<Next<'a>>, NoMemory>
+) -> Result<Next<'a>, Halt>
     requires row { row.now ≡ [] }
     requires fits { effect op.now [] ≢ lacks }
-    ensures { IfOk result (λ next. Does next (W.written out.old) (W.written out.new) (effect op.now [])) }
+    ensures { Does result (W.written out.old) (W.written out.new) (effect op.now []) }
 {
     match op {
         Op::Emit(word) => write(alloc, *word, row, out),
-        Op::Skip(jump) => Ok(Some(Next { row, jump: *jump })),
-        _ => Ok(None),
+        Op::Skip(jump) => Ok(Next { row, jump: *jump }),
+        _ => Err(Halt::Prohibited),
     }
 }
 
@@ -142,11 +160,11 @@ fn write<'a, W: Output>(
     word: Word,
     row: &'a [Word],
     out: &mut W,
-) -> Result<Option<Next<'a>>, NoMemory>
-    ensures { IfOk result (λ next. Does next (W.written out.old) (W.written out.new) (writes word row.now)) }
+) -> Result<Next<'a>, Halt>
+    ensures { Does result (W.written out.old) (W.written out.new) (writes word row.now) }
 {
     out.push(alloc, word)?;
-    Ok(Some(Next::behind(row)))
+    Ok(Next::behind(row))
 }
 
 // Writes the word and leaves the row where that is allowed, and else prohibits.
@@ -156,12 +174,11 @@ fn write_where<'a, W: Output>(
     word: Word,
     row: &'a [Word],
     out: &mut W,
-) -> Result<Option<Next<'a>>, NoMemory>
-    ensures { IfOk result (λ next. Does next (W.written out.old) (W.written out.new)
-        (if allowed then writes word row.now else denies)) }
+) -> Result<Next<'a>, Halt>
+    ensures { Does result (W.written out.old) (W.written out.new) (if allowed then writes word row.now else denies) }
 {
     if !allowed {
-        return Ok(None);
+        return Err(Halt::Prohibited);
     }
     write(alloc, word, row, out)
 }
@@ -173,14 +190,13 @@ fn look<'a, W: Output>(
     place: Word,
     row: &'a [Word],
     out: &mut W,
-) -> Result<Option<Next<'a>>, NoMemory>
+) -> Result<Next<'a>, Halt>
     requires { place < length entries.now }
-    ensures { IfOk result (λ next. Does next (W.written out.old) (W.written out.new)
-        (looks (slice_get entries.now place) row.now)) }
+    ensures { Does result (W.written out.old) (W.written out.new) (looks (slice_get entries.now place) row.now) }
 {
     match item(entries, place) {
         Some(entry) => write(alloc, entry, row, out),
-        None => Ok(None),
+        None => Err(Halt::Prohibited),
     }
 }
 
@@ -191,13 +207,12 @@ fn fork<'a, W: Output>(
     row: &'a [Word],
     jump: usize,
     out: &mut W,
-) -> Result<Option<Next<'a>>, NoMemory>
+) -> Result<Next<'a>, Halt>
     requires { side < 2 }
-    ensures { IfOk result (λ next. Does next (W.written out.old) (W.written out.new)
-        (turns side (side ∷ []) row.now jump)) }
+    ensures { Does result (W.written out.old) (W.written out.new) (turns side (side ∷ []) row.now jump) }
 {
     out.push(alloc, side)?;
-    Ok(Some(Next::behind_side(side, row, jump)))
+    Ok(Next::behind_side(side, row, jump))
 }
 
 // Writes the length and so many words from the front of the row, and leaves what is behind them.
@@ -206,15 +221,15 @@ fn copy_sequence<'a, W: Output>(
     count: Word,
     row: &'a [Word],
     out: &mut W,
-) -> Result<Option<Next<'a>>, NoMemory>
+) -> Result<Next<'a>, Halt>
     requires { count ≤ length row.now }
-    ensures { IfOk result (λ next. Does next (W.written out.old) (W.written out.new)
-        (goes_on (count ∷ take count row.now) (drop count row.now) 0)) }
+    ensures { Does result (W.written out.old) (W.written out.new)
+        (goes_on (count ∷ take count row.now) (drop count row.now) 0) }
 {
     let (words, rest) = sequence(count, row);
     out.push(alloc, count)?;
     out.extend(alloc, words)?;
-    Ok(Some(Next::behind(rest)))
+    Ok(Next::behind(rest))
 }
 
 // Writes the length and one, so many words from the front of the row, and the symbol, and leaves what is behind them.
@@ -224,16 +239,16 @@ fn append<'a, W: Output>(
     row: &'a [Word],
     symbol: Word,
     out: &mut W,
-) -> Result<Option<Next<'a>>, NoMemory>
+) -> Result<Next<'a>, Halt>
     requires { count ≤ length row.now }
-    ensures { IfOk result (λ next. Does next (W.written out.old) (W.written out.new)
-        (goes_on ((count + 1) ∷ take count row.now ++ symbol ∷ []) (drop count row.now) 0)) }
+    ensures { Does result (W.written out.old) (W.written out.new)
+        (goes_on ((count + 1) ∷ take count row.now ++ symbol ∷ []) (drop count row.now) 0) }
 {
     let (words, rest) = sequence(count, row);
     out.push(alloc, count + 1)?;
     out.extend(alloc, words)?;
     out.push(alloc, symbol)?;
-    Ok(Some(Next::behind(rest)))
+    Ok(Next::behind(rest))
 }
 
 // The same, or prohibits where the symbol is among the words.
@@ -243,14 +258,14 @@ fn append_fresh<'a, W: Output>(
     row: &'a [Word],
     symbol: Word,
     out: &mut W,
-) -> Result<Option<Next<'a>>, NoMemory>
+) -> Result<Next<'a>, Halt>
     requires { count ≤ length row.now }
-    ensures { IfOk result (λ next. Does next (W.written out.old) (W.written out.new)
+    ensures { Does result (W.written out.old) (W.written out.new)
         (if list_any (λ m. m == symbol) (take count row.now) then denies
-        else goes_on ((count + 1) ∷ take count row.now ++ symbol ∷ []) (drop count row.now) 0)) }
+        else goes_on ((count + 1) ∷ take count row.now ++ symbol ∷ []) (drop count row.now) 0) }
 {
     if sequence(count, row).0.contains(&symbol) {
-        return Ok(None);
+        return Err(Halt::Prohibited);
     }
     append(alloc, count, row, symbol, out)
 }

@@ -9,7 +9,7 @@ behind-code-requires g c =
     let rest = c.in-Some.rest.now in
     let is : c.loop-op.code.now ≡ op ∷ rest = search rules in
     let fits : Fits (op ∷ rest) c.loop-op.row.now = subst (λ code. Fits code c.loop-op.row.now) is c.loop-op.invariant.fits in
-    (stepped op rest c.loop-op.row.now c.in-Some-2.next.row.now (g.W.Output.written c.loop-op.out) (g.W.Output.written c.step.new.out) c.in-Some-2.next.jump fits (search rules)).within
+    (stepped op rest c.loop-op.row.now c.in-Ok.next.row.now (g.W.Output.written c.loop-op.out) (g.W.Output.written c.step.new.out) c.in-Ok.next.jump fits (search rules)).within
 
 pub loop-op-preserved : goal.loop-op-preserved
 loop-op-preserved g c =
@@ -17,7 +17,7 @@ loop-op-preserved g c =
     let rest = c.in-Some.rest.now in
     let is : c.loop-op.code.now ≡ op ∷ rest = search rules in
     let fits : Fits (op ∷ rest) c.loop-op.row.now = subst (λ code. Fits code c.loop-op.row.now) is c.loop-op.invariant.fits in
-    let step = stepped op rest c.loop-op.row.now c.in-Some-2.next.row.now (g.W.Output.written c.loop-op.out) (g.W.Output.written c.step.new.out) c.in-Some-2.next.jump fits (search rules) in
+    let step = stepped op rest c.loop-op.row.now c.in-Ok.next.row.now (g.W.Output.written c.loop-op.out) (g.W.Output.written c.step.new.out) c.in-Ok.next.jump fits (search rules) in
     record {
       fits = rw c.behind-code.ensures step.fits;
       same = rw c.behind-code.ensures (step.same ∙ ap (λ code. behind (g.W.Output.written c.loop-op.out) (RunCode code c.loop-op.row.now)) (sym is) ∙ c.loop-op.invariant.same);
