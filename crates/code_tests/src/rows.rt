@@ -1,7 +1,9 @@
 // Tests of rows that hold their words in place or beside them.
+ghost use Rattle.std.specs.Prelude.{◌≡◌, [], ◌∷◌, IfOk};
+
 use alg_model::Value;
 use code_gen::write_value;
-use label_code::{Output, Word, Words};
+use label_code::{FixedRow, HeldRow, Op, Output, Run, Word, Words};
 use meta_base::{List, NoMemory};
 use std::alloc::Global;
 use std::test::Fail;
@@ -46,5 +48,37 @@ fn rows_spill_out_of_place(rt: HostRuntime) -> Result<(), Fail> {
     for symbols in [2, 3, 4, 8] {
         assert!(rt; keeps_sequence(rt.alloc(), symbols)?, "{symbols} symbols");
     }
+    Ok(())
+}
+
+// The row of this word alone.
+fn one_word(alloc: Global, word: Word) -> Result<FixedRow<1>, NoMemory>
+    ensures { IfOk result (λ row. row.words ≡ word ∷ []) }
+{
+    let mut words = Words::new();
+    words.push(alloc, word)?;
+    Ok(FixedRow::of(words))
+}
+
+// A row of one word takes what code makes of another.
+#[test]
+fn fixed_rows_are_rewritten(rt: HostRuntime) -> Result<(), Fail> {
+    let alloc = rt.alloc();
+    let mut row = one_word(alloc, 9)?;
+    let run = row.rewrite(alloc, &[Op::Add(3)], &[4])?;
+    assert!(rt;
+        run == Run::Made && row.as_slice() == [7].as_slice(),
+        "a sum"
+    );
+    Ok(())
+}
+
+// What is written before a value is prohibited may be longer than any value.
+#[test]
+fn fixed_rows_bear_longer_beginnings(rt: HostRuntime) -> Result<(), Fail> {
+    let alloc = rt.alloc();
+    let mut row = one_word(alloc, 9)?;
+    let run = row.rewrite(alloc, &[Op::Copy, Op::Emit(1), Op::Emit(2), Op::Deny], &[4])?;
+    assert!(rt; run == Run::Prohibited, "two words too many");
     Ok(())
 }
