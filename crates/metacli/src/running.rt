@@ -4,6 +4,7 @@ ghost use Rattle.alg_model.specs.Carriers.{carrier_of};
 ghost use Rattle.code_gen.specs.Widths.{HoldValues};
 ghost use Rattle.command_words.specs.Words.{AreTurns, AreWorkers};
 ghost use Rattle.net_graph.specs.Changes.{AreChanges};
+ghost use Rattle.net_graph.specs.Nets.{IsNet};
 ghost use Rattle.net_graph.specs.Views.{pure_change};
 ghost use Rattle.topology_file.specs.Views.{pure_file};
 ghost use Rattle.metacli.specs.Behind.{nets_after};
@@ -93,7 +94,8 @@ fn run_on<R: AllocGlobal + Threads + Wait + Sync, G: Gate>(
     requires changed { AreLater net.now changed.now }
     requires workers { AreWorkers workers }
     requires turns { AreTurns turns }
-    ensures { IfOk result (λ run. IsRun net.now changed.now turns
+    ensures net { IsNet net.now }
+    ensures run { IfOk result (λ run. IsRun net.now changed.now turns
         (map pure_phase run.past) (pure_phase run.last) run.is_quiet) }
 {
     rows_have_their_width();

@@ -9,7 +9,7 @@ use Rattle.metacli.proofs.routing.all_routes.Goals as goal
 pub returns-clause-routes : goal.returns-clause-routes
 returns-clause-routes g c =
     let net = c.args.net.now in
-    let is_net = c.alg.ensures.net in
+    let is_net = c.node_count.ensures.net in
     let laws : Laws net = record {
       optimal = λ first second dest t best. c.best_first_is_optimal.ensures net dest t is_net first second best;
       stable = λ all dest t best. c.best_first_is_stable.ensures net dest t is_net all best;
@@ -21,7 +21,7 @@ returns-clause-routes g c =
 pub returns-clause-rows : goal.returns-clause-rows
 returns-clause-rows g c =
     let net = c.args.net.now in
-    let is_net = c.alg.ensures.net in
+    let is_net = c.node_count.ensures.net in
     let laws : Laws net = record {
       optimal = λ first second dest t best. c.best_first_is_optimal.ensures net dest t is_net first second best;
       stable = λ all dest t best. c.best_first_is_stable.ensures net dest t is_net all best;

@@ -24,12 +24,12 @@ returns-clause-run g c =
     let last = pure_phase run.last in
     let is : nets ≡ nets_after net changes = c.from_vec-changed.ensures ∙ c.in_ok-nets_behind.ensures in
     let may : AreChanges net changes = rw (← c.as_slice.ensures) at c.requires.changes in
-    let all : AllByRecursion IsNet nets = subst (AllByRecursion IsNet) (sym is) (nets_are net changes c.alg.ensures.net may) in
+    let all : AllByRecursion IsNet nets = subst (AllByRecursion IsNet) (sym is) (nets_are net changes c.run_on.ensures.net may) in
     let later : AreLater net nets = subst (AreLater net) (sym is) (nets_are_later net changes) in
-    let is_run = rw c.as_slice-2.ensures at c.in_ok-run.ensures in
+    let is_run = rw c.as_slice-2.ensures at c.in_ok-run.ensures.run in
     record {
-      is_net = c.alg.ensures.net;
+      is_net = c.run_on.ensures.net;
       is_run = is_run;
-      stable = c.quiet_phases_are_stable.ensures net nets c.args.turns past last run.is_quiet c.alg.ensures.net all later is_run;
-      of_networks = c.phases_are_of_networks.ensures net nets c.args.turns past last run.is_quiet c.alg.ensures.net all later is_run;
+      stable = c.quiet_phases_are_stable.ensures net nets c.args.turns past last run.is_quiet c.run_on.ensures.net all later is_run;
+      of_networks = c.phases_are_of_networks.ensures net nets c.args.turns past last run.is_quiet c.run_on.ensures.net all later is_run;
     }
