@@ -1,2 +1,3 @@
+mod Decimals
 pub mod Files
 pub mod Pieces

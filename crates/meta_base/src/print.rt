@@ -5,10 +5,16 @@ use crate::NoMemory;
 use itoa::Buffer;
 
 /// Appends a number in base ten, with no leading zero. After a refusal nothing was appended.
+#[tactic(auto, using(crate::proofs::Decimals::one_digit))]
 pub fn push_number(out: &mut String, n: u128) -> Result<(), NoMemory>
     ensures number { OnOk result (Gains out.old (decimal n) out.new) }
     ensures err { OnErr result (string_bytes out.new ≡ string_bytes out.old) }
 {
+    // Most numbers are one digit.
+    if n < 10 {
+        out.push(char::from(b'0' + n as u8))?;
+        return Ok(());
+    }
     out.push_str(Buffer::new().format(n))?;
     Ok(())
 }

@@ -15,12 +15,21 @@ pub fn net_behind(alloc: Global, net: &Net, changes: &[Change]) -> Result<Option
 {
     match changes {
         [] => Ok(None),
+        [change, rest @ ..] => Ok(Some(carried(alloc, net.changed(alloc, change)?, rest)?)),
+    }
+}
+
+// The network behind these changes, one of which is made at a time, so that no more than two networks are there.
+fn carried(alloc: Global, net: Net, changes: &[Change]) -> Result<Net, NoMemory>
+    requires { AreChanges net (map pure_change changes.now) }
+    ensures { IfOk result (λ last. last ≡ after_all net (map pure_change changes.now)) }
+{
+    match changes {
+        [] => Ok(net),
         [change, rest @ ..] => {
-            let next = net.changed(alloc, change)?;
-            match net_behind(alloc, &next, rest)? {
-                Some(last) => Ok(Some(last)),
-                None => Ok(Some(next)),
-            }
+            let next = net.changed(alloc, change);
+            drop(net);
+            carried(alloc, next?, rest)
         }
     }
 }
@@ -34,9 +43,26 @@ pub fn nets_behind(alloc: Global, net: &Net, changes: &[Change]) -> Result<Vec<N
         [] => Ok(Vec::new(alloc)),
         [change, rest @ ..] => {
             let next = net.changed(alloc, change)?;
-            let mut nets = nets_behind(alloc, &next, rest)?;
-            nets.insert(0, next)?;
-            Ok(nets)
+            match nets_behind(alloc, &next, rest) {
+                Ok(nets) => led_by(next, nets),
+                Err(NoMemory) => {
+                    drop(next);
+                    Err(NoMemory)
+                }
+            }
+        }
+    }
+}
+
+// These networks with that one before them.
+fn led_by(net: Net, mut nets: Vec<Net>) -> Result<Vec<Net>, NoMemory>
+    ensures { IfOk result (λ led. led.items ≡ net ∷ nets.items) }
+{
+    match nets.insert(0, net) {
+        Ok(()) => Ok(nets),
+        Err(_) => {
+            drop(nets);
+            Err(NoMemory)
         }
     }
 }

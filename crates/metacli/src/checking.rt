@@ -66,7 +66,9 @@ fn verdicts_behind(alloc: Global, file: &NetFile) -> Result<Verdicts, NoMemory>
         (IsOnArc (changed_net (pure_file file.now))) (pure_verdicts verdicts)) }
 {
     let behind = net_behind(alloc, &file.net, file.changes.as_slice())?;
-    arc_verdicts(alloc, last_of(&behind, &file.net))
+    let verdicts = arc_verdicts(alloc, last_of(&behind, &file.net));
+    drop(behind);
+    verdicts
 }
 
 // The verdicts on the labels of the network's arcs.

@@ -69,8 +69,13 @@ fn listing_behind(alloc: Global, file: &NetFile) -> Result<(Option<Net>, Listing
         IsListing file.now.net.alg.expression (labels_on (changed_net (pure_file file.now))) made.1) }
 {
     let behind = net_behind(alloc, &file.net, file.changes.as_slice())?;
-    let listing = arc_listing(alloc, last_of(&behind, &file.net))?;
-    Ok((behind, listing))
+    match arc_listing(alloc, last_of(&behind, &file.net)) {
+        Ok(listing) => Ok((behind, listing)),
+        Err(NoMemory) => {
+            drop(behind);
+            Err(NoMemory)
+        }
+    }
 }
 
 // The code of the network's labels, and of its algebra's order.

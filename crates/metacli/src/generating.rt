@@ -62,11 +62,18 @@ fn run_generated<R: AllocGlobal + Threads + Wait + Sync, G: Gate>(
     ensures file { IfOk result (λ made. IsGenerated seed nodes (pure_file made.1)) }
     ensures run { IfOk result (λ made. IsRunAlone made.1.net (pure_phase made.2) made.3) }
 {
-    let alg = demo_algebra();
     let file = generated(rt.alloc(), demo_algebra(), seed, nodes)?;
-    let (changed, run) = run_through(rt, &file, DEMO_WORKERS, DEMO_TURNS, gate)?;
-    drop(changed);
-    Ok((alg, file, run.last, run.is_quiet))
+    match run_through(rt, &file, DEMO_WORKERS, DEMO_TURNS, gate) {
+        Ok((changed, run)) => {
+            drop(changed);
+            drop(run.past);
+            Ok((demo_algebra(), file, run.last, run.is_quiet))
+        }
+        Err(NoMemory) => {
+            drop(file);
+            Err(NoMemory)
+        }
+    }
 }
 
 // `add(1..9)`.

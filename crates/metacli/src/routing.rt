@@ -119,8 +119,13 @@ fn found_behind<R: AllocGlobal + Threads + Sync>(
     ensures found { IfOk result (λ found. IsFoundOn solution (changed_net (pure_file file.now)) found.1) }
 {
     let behind = net_behind(rt.alloc(), &file.net, file.changes.as_slice())?;
-    let found = found_on(rt, last_of(&behind, &file.net), solution, workers)?;
-    Ok((behind, found))
+    match found_on(rt, last_of(&behind, &file.net), solution, workers) {
+        Ok(found) => Ok((behind, found)),
+        Err(NoMemory) => {
+            drop(behind);
+            Err(NoMemory)
+        }
+    }
 }
 
 // The routes of a network whose labels are fit for them, or else the first that isn't.

@@ -78,8 +78,13 @@ pub(crate) fn run_through<R: AllocGlobal + Threads + Wait + Sync, G: Gate>(
     phases_are_of_networks();
     let alloc = rt.alloc();
     let changed = List::from_vec(nets_behind(alloc, &file.net, file.changes.as_slice())?);
-    let run = run_on(rt, &file.net, changed.as_slice(), workers, turns, gate)?;
-    Ok((changed, run))
+    match run_on(rt, &file.net, changed.as_slice(), workers, turns, gate) {
+        Ok(run) => Ok((changed, run)),
+        Err(NoMemory) => {
+            drop(changed);
+            Err(NoMemory)
+        }
+    }
 }
 
 // A run through these networks, over rows that are as narrow as the algebra allows.
