@@ -25,17 +25,17 @@ pub(crate) fn decode_words(alloc: Global, alg: &Alg, row: &[Word]) -> Result<Val
     requires { IsEncoded (carrier_of alg.now.expression) row.now }
     ensures { IfOk result (λ value. pure_value value ≡ decoded (carrier_of alg.now.expression) row.now) }
 {
-    let (value, _) = front(alloc, alg.tree(), row)?;
-    Ok(value)
+    let mut rest = row;
+    take_value(alloc, alg.tree(), &mut rest)
 }
 
-// The value of the tree's carrier whose words stand in front of the row, and the row behind it.
-#[cycle(front)]
-fn front<'r>(alloc: Global, tree: &Tree, row: &'r [Word]) -> Result<(Value, &'r [Word]), NoMemory>
+// Takes the words of a value of the tree's carrier from the front of the row.
+#[cycle(take_value)]
+fn take_value(alloc: Global, tree: &Tree, row: &mut &[Word]) -> Result<Value, NoMemory>
     requires ranges { MeetsRanges (expression_of tree.now) }
-    requires there { Dec (carrier_of (expression_of tree.now)) row.now ≢ None }
-    ensures { IfOk result (λ found.
-        Some (pure_value found.0, found.1.now) ≡ Dec (carrier_of (expression_of tree.now)) row.now) }
+    requires there { Dec (carrier_of (expression_of tree.now)) row.old.now ≢ None }
+    ensures { IfOk result (λ value.
+        Some (pure_value value, row.new.now) ≡ Dec (carrier_of (expression_of tree.now)) row.old.now) }
 {
     match tree {
         Tree::Add { .. }
@@ -43,98 +43,75 @@ fn front<'r>(alloc: Global, tree: &Tree, row: &'r [Word]) -> Result<(Value, &'r 
         | Tree::Worst { .. }
         | Tree::Width { .. }
         | Tree::Pref { .. }
-        | Tree::Orig { .. } => Ok(number_in_front(row)),
-        Tree::Seq { symbols } | Tree::SimSeq { symbols } => symbols_in_front(alloc, *symbols, row),
-        Tree::Tags { count } | Tree::Guard { count } => Ok(marks_in_front(*count, row)),
-        Tree::Gate => Ok((Value::Unit, row)),
-        Tree::Table(spec) => Ok(name_in_front(spec, row)),
+        | Tree::Orig { .. } => Ok(Value::Number(take_word(row))),
+        Tree::Seq { symbols } | Tree::SimSeq { symbols } => take_symbols(alloc, *symbols, row),
+        Tree::Tags { count } | Tree::Guard { count } => Ok(take_marks(*count, row)),
+        Tree::Gate => Ok(Value::Unit),
+        Tree::Table(spec) => Ok(take_name(spec, row)),
         Tree::Lex(a, b) | Tree::Scoped(a, b) => {
-            let (u, rest) = front(alloc, a, row)?;
-            let (v, rest) = front(alloc, b, rest)?;
-            Ok((Value::Pair(Box::new(alloc, u)?, Box::new(alloc, v)?), rest))
+            let u = Box::new(alloc, take_value(alloc, a, row)?)?;
+            let v = Box::new(alloc, take_value(alloc, b, row)?)?;
+            Ok(Value::Pair(u, v))
         }
-        Tree::Union(a, b) | Tree::Sum(a, b) => side_in_front(alloc, a, b, row),
-        Tree::Plus(a, _) | Tree::Left(a) | Tree::Right(a) => front(alloc, a, row),
+        Tree::Union(a, b) | Tree::Sum(a, b) => take_side(alloc, a, b, row),
+        Tree::Plus(a, _) | Tree::Left(a) | Tree::Right(a) => take_value(alloc, a, row),
     }
 }
 
-#[cycle(front)]
-fn side_in_front<'r>(
-    alloc: Global,
-    a: &Tree,
-    b: &Tree,
-    row: &'r [Word],
-) -> Result<(Value, &'r [Word]), NoMemory>
+#[cycle(take_value)]
+fn take_side(alloc: Global, a: &Tree, b: &Tree, row: &mut &[Word]) -> Result<Value, NoMemory>
     requires first { MeetsRanges (expression_of a.now) }
     requires second { MeetsRanges (expression_of b.now) }
     requires there { side_front (λ rest. Dec (carrier_of (expression_of a.now)) rest)
-        (λ rest. Dec (carrier_of (expression_of b.now)) rest) row.now ≢ None }
-    ensures { IfOk result (λ found. Some (pure_value found.0, found.1.now) ≡
+        (λ rest. Dec (carrier_of (expression_of b.now)) rest) row.old.now ≢ None }
+    ensures { IfOk result (λ value. Some (pure_value value, row.new.now) ≡
         side_front (λ rest. Dec (carrier_of (expression_of a.now)) rest)
-        (λ rest. Dec (carrier_of (expression_of b.now)) rest) row.now) }
+        (λ rest. Dec (carrier_of (expression_of b.now)) rest) row.old.now) }
 {
-    let Some((side, rest)) = row.split_first() else {
-        unreachable!()
-    };
-    match *side {
-        0 => {
-            let (u, rest) = front(alloc, a, rest)?;
-            Ok((Value::First(Box::new(alloc, u)?), rest))
-        }
-        1 => {
-            let (v, rest) = front(alloc, b, rest)?;
-            Ok((Value::Second(Box::new(alloc, v)?), rest))
-        }
+    match take_word(row) {
+        0 => Ok(Value::First(Box::new(alloc, take_value(alloc, a, row)?)?)),
+        1 => Ok(Value::Second(Box::new(alloc, take_value(alloc, b, row)?)?)),
         _ => unreachable!(),
     }
 }
 
-fn number_in_front(row: &[Word]) -> (Value, &[Word])
-    requires { word_front number row.now ≢ None }
-    ensures { Some (pure_value result.0, result.1.now) ≡ word_front number row.now }
+fn take_word(row: &mut &[Word]) -> Word
+    requires { row.old.now ≢ [] }
+    ensures { row.old.now ≡ result ∷ row.new.now }
 {
-    let Some((word, rest)) = row.split_first() else {
+    let whole = *row;
+    let Some((word, rest)) = whole.split_first() else {
         unreachable!()
     };
-    (Value::Number(*word), rest)
+    *row = rest;
+    *word
 }
 
-fn marks_in_front(count: u64, row: &[Word]) -> (Value, &[Word])
+fn take_marks(count: u64, row: &mut &[Word]) -> Value
     requires count { count ≤ 64 }
-    requires there { small_front (2 ^ count) marks row.now ≢ None }
-    ensures { Some (pure_value result.0, result.1.now) ≡ small_front (2 ^ count) marks row.now }
+    requires there { small_front (2 ^ count) marks row.old.now ≢ None }
+    ensures { Some (pure_value result, row.new.now) ≡ small_front (2 ^ count) marks row.old.now }
 {
-    let Some((word, rest)) = row.split_first() else {
-        unreachable!()
-    };
-    (Value::Marks(*word as u64), rest)
+    Value::Marks(take_word(row) as u64)
 }
 
-fn name_in_front<'r>(spec: &TableSpec, row: &'r [Word]) -> (Value, &'r [Word])
+fn take_name(spec: &TableSpec, row: &mut &[Word]) -> Value
     requires table { is_table spec.now ≡ true }
-    requires there { small_front (length spec.now.names) name row.now ≢ None }
-    ensures { Some (pure_value result.0, result.1.now) ≡ small_front (length spec.now.names) name row.now }
+    requires there { small_front (length spec.now.names) name row.old.now ≢ None }
+    ensures { Some (pure_value result, row.new.now) ≡ small_front (length spec.now.names) name row.old.now }
 {
-    let Some((word, rest)) = row.split_first() else {
-        unreachable!()
-    };
-    (Value::Name(*word as u8), rest)
+    Value::Name(take_word(row) as u8)
 }
 
-fn symbols_in_front<'r>(
-    alloc: Global,
-    count: u64,
-    row: &'r [Word],
-) -> Result<(Value, &'r [Word]), NoMemory>
-    requires { symbols_front count row.now ≢ None }
-    ensures { IfOk result (λ found.
-        Some (pure_value found.0, found.1.now) ≡ symbols_front count row.now) }
+fn take_symbols(alloc: Global, count: u64, row: &mut &[Word]) -> Result<Value, NoMemory>
+    requires { symbols_front count row.old.now ≢ None }
+    ensures { IfOk result (λ value. Some (pure_value value, row.new.now) ≡ symbols_front count row.old.now) }
 {
-    let Some((length, rest)) = row.split_first() else {
-        unreachable!()
-    };
-    let (words, rest) = rest.split_at(*length as usize);
-    Ok((Value::Symbols(narrowed(alloc, words)?), rest))
+    let length = take_word(row);
+    let whole = *row;
+    let (words, rest) = whole.split_at(length as usize);
+    *row = rest;
+    Ok(Value::Symbols(narrowed(alloc, words)?))
 }
 
 // The words as symbols.

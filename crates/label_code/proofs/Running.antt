@@ -1,9 +1,9 @@
 -- A step of the machine, and what is left to run.
-use Rattle.std.proofs.Common.{◌≡◌, ◌≢◌, ℕ, zero, suc, ◌≤◌, List, [], ◌∷◌, ◌++◌, length, drop, Some, refl, sym, ap, ◌∙◌, arith}
+use Rattle.std.proofs.Common.{◌≡◌, ◌≢◌, ℕ, zero, suc, ◌≤◌, List, [], ◌∷◌, ◌++◌, length, drop, Bool, true, false, None, Some, if◌then◌else◌, refl, sym, ap, ◌∙◌, arith}
 use Rattle.label_code.specs.declared.operations.Op.{Op}
-use Rattle.label_code.specs.Effects.{Effect, goes_on, denies, lacks, effect}
+use Rattle.label_code.specs.Effects.{Effect, goes_on, writes, denies, lacks, effect}
 use Rattle.label_code.specs.Machine.{Outcome, made, prohibited, stuck, behind, outcome, run_over, RunCode, Fits}
-use Rattle.label_code.specs.Steps.{left_by}
+use Rattle.label_code.specs.Steps.{left_by, writes_in_place, effect_in_place}
 use Rattle.label_code.specs.CodeLaws.{behind_both}
 
 -- a jump that passes the end is stuck
@@ -31,7 +31,7 @@ pub record IsStep (op : Op) (code : List Op) (row left old new : List ℕ) (jump
   pub same : behind new (RunCode (drop jump code) left) ≡ behind old (RunCode (op ∷ code) row)
 
 -- the same of what the operation does
-going : (op : Op) (code : List Op) (row written rest old : List ℕ) (jump : ℕ) → effect op row ≡ goes_on written rest jump → Fits (op ∷ code) row → IsStep op code row rest old (old ++ written) jump
+pub going : (op : Op) (code : List Op) (row written rest old : List ℕ) (jump : ℕ) → effect op row ≡ goes_on written rest jump → Fits (op ∷ code) row → IsStep op code row rest old (old ++ written) jump
 going op code row written rest old jump e fits =
     let whole : RunCode (op ∷ code) row ≡ behind written (run_over jump code rest) = ap (λ f. outcome f (λ j r. run_over j code r)) e in
     let free : run_over jump code rest ≢ stuck = not_stuck written _ (λ s. fits (cc)) in
@@ -58,3 +58,11 @@ stepped op code row left old new jump fits is = by (effect op row) refl
         let g : left ≡ rest = ap (λ p. p.1.0) same in
         let h : jump ≡ over = ap (λ p. p.1.1) same in
         rw (f, g, h) (going op code row written rest old over e fits)
+
+-- a word that is written in place of one is what the operation does
+pub does_in_place : (op : Op) (row : List ℕ) (word : ℕ) (rest : List ℕ) → effect_in_place op row ≡ Some (writes word rest) → effect op row ≡ goes_on (word ∷ []) rest 0
+does_in_place op row word rest is = by (writes_in_place op) refl
+  where
+    by : (b : Bool) → writes_in_place op ≡ b → effect op row ≡ goes_on (word ∷ []) rest 0
+    by true e = some_inj (ap (λ b. if b then Some (effect op row) else None) (sym e) ∙ is)
+    by false e = absurd (cc)

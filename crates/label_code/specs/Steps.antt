@@ -1,9 +1,46 @@
 -- What a step of the machine tells of an effect.
-use Rattle.std.specs.Prelude.{◌≡◌, ℕ, List, ◌++◌, Option, Some, None, Result, Ok, Err}
+use Rattle.std.specs.Prelude.{◌≡◌, ℕ, List, ◌++◌, Bool, true, false, Option, Some, None, Result, Ok, Err, if◌then◌else◌}
+use Rattle.label_code.specs.declared.operations.Op.{Op}
+use Rattle.label_code.specs.declared.operations.Op.TheVariants as op
+use Rattle.label_code.specs.declared.in_place.InPlace.{InPlace}
+use Rattle.label_code.specs.declared.in_place.InPlace.TheVariants.{Writes, Prohibits, Other}
 use Rattle.label_code.specs.declared.machine.Next.{Next}
 use Rattle.label_code.specs.declared.machine.Halt.{Halt}
 use Rattle.label_code.specs.declared.machine.Halt.TheVariants.{Prohibited, NoMemory}
-use Rattle.label_code.specs.Effects.{Effect, goes_on, denies, lacks}
+use Rattle.label_code.specs.Effects.{Effect, goes_on, writes, denies, lacks, effect}
+
+-- the operation reads a word, and writes one in its place or prohibits
+abbrev pub writes_in_place : Op → Bool
+writes_in_place (op.Add n) = true
+writes_in_place (op.Cap n k) = true
+writes_in_place (op.Max n) = true
+writes_in_place (op.Min n) = true
+writes_in_place op.Copy = true
+writes_in_place op.Drop = false
+writes_in_place op.CopySeq = false
+writes_in_place op.DropSeq = false
+writes_in_place (op.Emit n) = false
+writes_in_place (op.Append s) = false
+writes_in_place (op.Fresh s) = false
+writes_in_place (op.SetBit k) = true
+writes_in_place (op.ClearBit k) = true
+writes_in_place (op.NeedBit k) = true
+writes_in_place (op.BarBit k) = true
+writes_in_place (op.Look entries) = true
+writes_in_place op.Deny = false
+writes_in_place (op.Fork n) = false
+writes_in_place (op.Test n) = false
+writes_in_place (op.Skip n) = false
+
+-- the effect of such an operation
+abbrev pub effect_in_place : Op → List ℕ → Option Effect
+effect_in_place o row = if writes_in_place o then Some (effect o row) else None
+
+-- the effect that is told, if one is
+abbrev pub effect_of : InPlace → Option Effect
+effect_of (Writes word rest) = Some (writes word rest.now)
+effect_of Prohibits = Some denies
+effect_of Other = None
 
 -- what an effect leaves behind words that stood there before: the words, the row, and the jump
 abbrev pub left_by : List ℕ → Effect → Option (List ℕ × (List ℕ × ℕ))

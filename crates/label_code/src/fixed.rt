@@ -1,7 +1,9 @@
-ghost use Rattle.std.specs.Prelude.{◌≡◌, ◌≤◌, [], ◌∷◌, ◌++◌, length, OnOk};
+ghost use Rattle.std.specs.Prelude.{◌≡◌, ◌≤◌, [], ◌∷◌, ◌++◌, length, take, IfNone, IfOk, IfSome, OnOk};
 ghost use Rattle.label_code.specs.declared.words.TheConstants.{HERE};
-ghost use Rattle.label_code.specs.Rows.{has_width};
+ghost use Rattle.label_code.specs.Rows.{has_width, MakesOnly, Tells};
+ghost use Rattle.label_code.specs.Machine.{Fits, RunCode, behind, prohibited};
 
+use crate::in_place::{InPlace, in_place};
 use crate::{HeldRow, Op, Output, Run, Word, Words, execute};
 use meta_base::NoMemory;
 use std::alloc::Global;
@@ -35,7 +37,61 @@ impl<const N: usize> HeldRow for FixedRow<N> {
     }
 
     fn rewrite(&mut self, alloc: Global, code: &[Op], row: &[Word]) -> Result<Run, NoMemory> {
-        let mut written = Written::<N>::new(alloc);
+        self.write_all(alloc, code, row)
+    }
+}
+
+impl<const N: usize> FixedRow<N> {
+    // Writes what the code makes of the row, as [`HeldRow::rewrite`] tells it. Most codes write a word by each operation,
+    // `N` in all; the others are left to the machine from the first operation on that doesn't.
+    #[inline(never)]
+    fn write_all(&mut self, alloc: Global, code: &[Op], row: &[Word]) -> Result<Run, NoMemory>
+        requires fits { Fits code.now row.now }
+        requires holds { MakesOnly (λ row. has_width N row) (RunCode code.now row.now) }
+        ensures { IfOk result (λ run. Tells run self.new.words (RunCode code.now row.now)) }
+    {
+        let mut code = code;
+        let mut row = row;
+        for count in 0..N {
+            let Some((op, others)) = code.split_first() else {
+                return self.write_left(alloc, count, code, row);
+            };
+            let Some((word, behind)) = row.split_first() else {
+                return self.write_left(alloc, count, code, row);
+            };
+            match in_place(op, *word, behind) {
+                InPlace::Writes(word, rest) => {
+                    self.words[count] = word;
+                    code = others;
+                    row = rest;
+                }
+                InPlace::Prohibits => return Ok(Run::Prohibited),
+                InPlace::Other => return self.write_left(alloc, count, code, row),
+            }
+        }
+        if code.is_empty() {
+            return Ok(Run::Made);
+        }
+        self.write_left(alloc, N, code, row)
+    }
+
+    // Writes what is left of the code and the row behind so many words, which stand.
+    #[inline(never)]
+    fn write_left(
+        &mut self,
+        alloc: Global,
+        count: usize,
+        code: &[Op],
+        row: &[Word],
+    ) -> Result<Run, NoMemory>
+        requires count { count ≤ N }
+        requires fits { Fits code.now row.now }
+        requires holds { MakesOnly (λ row. has_width N row)
+            (behind (take count self.old.words) (RunCode code.now row.now)) }
+        ensures { IfOk result (λ run. Tells run self.new.words
+            (behind (take count self.old.words) (RunCode code.now row.now))) }
+    {
+        let mut written = Written::<N>::new(alloc, self.words, count);
         let run = execute(alloc, code, row, &mut written)?;
         if run == Run::Made {
             self.words = written.words();
@@ -65,14 +121,15 @@ impl<const N: usize> Model for Written<N> {
 }
 
 impl<const N: usize> Written<N> {
-    // No words.
-    fn new(alloc: Global) -> Written<N>
-        requires { N ≤ HERE }
-        ensures { result ≡ [] }
+    // So many of these words.
+    fn new(alloc: Global, words: [Word; N], len: usize) -> Written<N>
+        requires few { N ≤ HERE }
+        requires room { len ≤ N }
+        ensures { result ≡ take len words.entry }
     {
         Written {
-            words: [0; N],
-            len: 0,
+            words,
+            len,
             more: Vec::new(alloc),
         }
     }

@@ -4,6 +4,7 @@
 
 mod fixed;
 mod held;
+mod in_place;
 mod machine;
 mod operations;
 mod orders;

@@ -1,13 +1,14 @@
-ghost use Rattle.std.specs.Prelude.{◌≡◌, ◌≢◌, ◌+◌, ◌<◌, ◌≤◌, ◌==◌, [], ◌∷◌, ◌++◌, length, take, drop, slice_get, if◌then◌else◌, IfOk, OnErr};
+ghost use Rattle.std.specs.Prelude.{◌≡◌, ◌≢◌, ◌+◌, ◌<◌, ◌≤◌, ◌==◌, [], ◌∷◌, ◌++◌, length, take, drop, None, if◌then◌else◌, IfOk, OnErr};
 ghost use Rattle.std.specs.List.{list_any};
 ghost use Rattle.std.specs.Int.{bit_at};
 ghost use Rattle.label_code.specs.Effects.{effect, goes_on, writes, looks, turns, denies, lacks};
 ghost use Rattle.label_code.specs.Machine.{RunCode, Fits, behind};
 ghost use Rattle.label_code.specs.Rows.{Tells};
-ghost use Rattle.label_code.specs.Steps.{Does};
+ghost use Rattle.label_code.specs.Steps.{Does, effect_in_place};
 ghost use Rattle.label_code.specs.declared.machine.Halt.TheVariants as halts;
 
-use crate::pieces::{behind, item, sequence};
+use crate::in_place::{InPlace, in_place};
+use crate::pieces::{behind, sequence};
 use crate::{LabelCode, Op, Output, Row, Run, Word};
 use meta_base::{List, NoMemory};
 use std::alloc::Global;
@@ -94,13 +95,18 @@ fn step<'a, W: Output>(
     ensures { Does result (W.written out.old) (W.written out.new) (effect op.now row.now) }
 {
     match row {
-        [word, rest @ ..] => step_in_row(alloc, op, *word, rest, row, out),
+        [word, rest @ ..] => match in_place(op, *word, rest) {
+            InPlace::Writes(word, rest) => write(alloc, word, rest, out),
+            InPlace::Prohibits => Err(Halt::Prohibited),
+            InPlace::Other => step_otherwise(alloc, op, *word, rest, row, out),
+        },
         [] => step_at_end(alloc, op, row, out),
     }
 }
 
-// The same where a word is left to be read: the row is that word and the rest.
-fn step_in_row<'a, W: Output>(
+// The same of an operation that doesn't write a word in place of one, where a word is left to be read: the row is that
+// word and the rest.
+fn step_otherwise<'a, W: Output>(
     alloc: Global,
     op: &Op,
     word: Word,
@@ -110,29 +116,21 @@ fn step_in_row<'a, W: Output>(
 ) -> Result<Next<'a>, Halt>
     requires row { row.now ≡ word ∷ rest.now }
     requires fits { effect op.now (word ∷ rest.now) ≢ lacks }
+    requires other { effect_in_place op.now (word ∷ rest.now) ≡ None }
     ensures { Does result (W.written out.old) (W.written out.new) (effect op.now (word ∷ rest.now)) }
 {
     match op {
-        Op::Add(n) => write(alloc, word + n, rest, out),
-        Op::Cap(n, top) => write_where(alloc, word + n <= *top, word + n, rest, out),
-        Op::Max(n) => write(alloc, word.max(*n), rest, out),
-        Op::Min(n) => write(alloc, word.min(*n), rest, out),
-        Op::Copy => write(alloc, word, rest, out),
         Op::Drop => Ok(Next::behind(rest)),
         Op::CopySeq => copy_sequence(alloc, word, rest, out),
         Op::DropSeq => Ok(Next::behind(sequence(word, rest).1)),
         Op::Emit(word) => write(alloc, *word, row, out),
         Op::Append(symbol) => append(alloc, word, rest, *symbol, out),
         Op::Fresh(symbol) => append_fresh(alloc, word, rest, *symbol, out),
-        Op::SetBit(k) => write(alloc, word | 1 << *k, rest, out),
-        Op::ClearBit(k) => write(alloc, word & (Word::MAX - (1 << *k)), rest, out),
-        Op::NeedBit(k) => write_where(alloc, is_set(word, *k), word, rest, out),
-        Op::BarBit(k) => write_where(alloc, !is_set(word, *k), word, rest, out),
-        Op::Look(entries) => look(alloc, entries.as_slice(), word, rest, out),
         Op::Deny => Err(Halt::Prohibited),
         Op::Fork(jump) => fork(alloc, word, rest, *jump, out),
         Op::Test(jump) => Ok(Next::behind_side(word, rest, *jump)),
         Op::Skip(jump) => Ok(Next { row, jump: *jump }),
+        _ => unreachable!(),
     }
 }
 
@@ -165,39 +163,6 @@ fn write<'a, W: Output>(
 {
     out.push(alloc, word)?;
     Ok(Next::behind(row))
-}
-
-// Writes the word and leaves the row where that is allowed, and else prohibits.
-fn write_where<'a, W: Output>(
-    alloc: Global,
-    allowed: bool,
-    word: Word,
-    row: &'a [Word],
-    out: &mut W,
-) -> Result<Next<'a>, Halt>
-    ensures { Does result (W.written out.old) (W.written out.new) (if allowed then writes word row.now else denies) }
-{
-    if !allowed {
-        return Err(Halt::Prohibited);
-    }
-    write(alloc, word, row, out)
-}
-
-// Writes the entry at that place and leaves the row, or prohibits where it is none.
-fn look<'a, W: Output>(
-    alloc: Global,
-    entries: &[Option<Word>],
-    place: Word,
-    row: &'a [Word],
-    out: &mut W,
-) -> Result<Next<'a>, Halt>
-    requires { place < length entries.now }
-    ensures { Does result (W.written out.old) (W.written out.new) (looks (slice_get entries.now place) row.now) }
-{
-    match item(entries, place) {
-        Some(entry) => write(alloc, entry, row, out),
-        None => Err(Halt::Prohibited),
-    }
 }
 
 // Writes the side and leaves the row, with this jump behind the second side.
@@ -291,12 +256,4 @@ impl<'a> Next<'a> {
             jump: if side == 0 { 0 } else { jump },
         }
     }
-}
-
-// Whether the bit is set.
-fn is_set(word: Word, k: u8) -> bool
-    requires { k < 64 }
-    ensures { result ≡ (bit_at word k == 1) }
-{
-    (word >> k) & 1 == 1
 }

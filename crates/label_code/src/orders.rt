@@ -20,9 +20,13 @@ pub fn compare_words(code: &[OrdOp], first: &[Word], second: &[Word]) -> Orderin
     requires { FitsBoth code.now first.now second.now }
     ensures { RunOrder code.now first.now second.now ≡ Some result }
 {
-    // Most orders of one number are this alone.
-    if let ([OrdOp::Less], [m, ..], [n, ..]) = (code, first, second) {
-        return m.cmp(n);
+    // Most orders look at a number first, and most rows differ there.
+    if let ([OrdOp::Less, rest @ ..], [m, first @ ..], [n, second @ ..]) = (code, first, second) {
+        return match m.cmp(n) {
+            Ordering::Equal if rest.is_empty() => Ordering::Equal,
+            Ordering::Equal => compare_steps(rest, first, second),
+            unequal => unequal,
+        };
     }
     compare_steps(code, first, second)
 }
