@@ -25,7 +25,7 @@ pub(crate) struct Open<A: Algebra, L: Ledger> {
 
 impl<A: Algebra, L: Ledger> Open<A, L> {
     // So many nodes, nothing of which is open.
-    pub fn new(alloc: Global, count: usize, blank: Blank) -> Result<Self, NoMemory>
+    pub(crate) fn new(alloc: Global, count: usize, blank: Blank) -> Result<Self, NoMemory>
         requires name { blank.name ≡ L.name }
         requires parts { blank.parts ≡ L.parts }
         requires some { 0 < L.parts }
@@ -47,7 +47,7 @@ impl<A: Algebra, L: Ledger> Open<A, L> {
     }
 
     // Offers the route, which is kept where it is better than its node's best.
-    pub fn offer(&mut self, algebra: &A, route: OpenRoute<A::Sig>)
+    pub(crate) fn offer(&mut self, algebra: &A, route: OpenRoute<A::Sig>)
         requires node { route.place.node.0 < vec_len self.old.best }
         requires sig { A.is_sig algebra.now route.sig }
         requires sigs { AllFound (λ o. A.is_sig algebra.now o.sig) self.old.best.items }
@@ -69,7 +69,7 @@ impl<A: Algebra, L: Ledger> Open<A, L> {
     // Offers the route there with the spare value, if there is one. It is kept where it is better than the node's
     // best, whose value is the spare one then.
     #[inline(always)]
-    pub fn offer_spare(&mut self, algebra: &A, place: Place)
+    pub(crate) fn offer_spare(&mut self, algebra: &A, place: Place)
         requires node { place.node.0 < vec_len self.old.best }
         requires sig { IfSome self.old.spare (A.is_sig algebra.now) }
         requires sigs { AllFound (λ o. A.is_sig algebra.now o.sig) self.old.best.items }
@@ -135,7 +135,7 @@ impl<A: Algebra, L: Ledger> Open<A, L> {
     }
 
     // Takes out the best route of all, if a route is open.
-    pub fn take_best(&mut self, algebra: &A) -> Option<OpenRoute<A::Sig>>
+    pub(crate) fn take_best(&mut self, algebra: &A) -> Option<OpenRoute<A::Sig>>
         requires places { (k : ℕ) → IfSome (found_at self.old.best.items k) (λ o. o.place.node.0 ≡ k) }
         requires sigs { AllFound (λ o. A.is_sig algebra.now o.sig) self.old.best.items }
         requires ranked { IsRanked (carrier_of (A.expression algebra.now))

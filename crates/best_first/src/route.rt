@@ -70,6 +70,7 @@ impl<'a, A: Algebra> Order<usize> for ByRoute<'a, A> {
     ghost transitive = { λ s k m n i j l. slots_transitive (A.sig_value s.algebra.now) (A.is_sig s.algebra.now)
         (carrier_of (A.expression s.algebra.now)) (A.sig_in s.algebra.now) s.best.now.items i.1 k m n };
 
+    #[inline(always)]
     fn before<L: Ledger>(&self, a: &usize, b: &usize, steps: &mut Steps<L>) -> bool {
         steps.tick();
         match (&self.best[*a], &self.best[*b]) {

@@ -7,11 +7,12 @@ ghost use Rattle.alg_model.specs.Application.{IsLabel};
 ghost use Rattle.alg_model.specs.Bounds.{AtMost, LabelAtMost};
 ghost use Rattle.alg_model.specs.Carriers.{carrier_of, In};
 ghost use Rattle.alg_model.specs.Views.{pure_label, pure_value};
+ghost use Rattle.code_gen.specs.Widths.{HoldValues};
 
 use crate::texts::{label, value};
 use alg_model::{Alg, Algebra, Label, TreeAlgebra, Value, same_value};
 use code_gen::{CodeAlgebra, row_width, rows_have_their_width};
-use label_code::{FixedRow, Words};
+use label_code::{FixedRow, HeldRow, Words};
 use meta_base::NoMemory;
 use std::alloc::Global;
 use std::cmp::Ordering;
@@ -106,6 +107,50 @@ fn are_same(a: &Option<Value>, b: &Option<Value>) -> bool {
     }
 }
 
+// What the compiled algebra tells over rows of this kind.
+fn tell_over<W: HeldRow>(
+    alloc: Global,
+    alg: &Alg,
+    label: &Label,
+    first: &Value,
+    second: &Value,
+) -> Result<Told, NoMemory>
+    requires rows { HoldValues W.can_hold (carrier_of alg.now.expression) }
+    requires label { IsLabel alg.now.expression (pure_label label.now) }
+    requires small_label { LabelAtMost MAX_LABEL_NUMBER (pure_label label.now) }
+    requires first { In (carrier_of alg.now.expression) (pure_value first.now) }
+    requires second { In (carrier_of alg.now.expression) (pure_value second.now) }
+    requires small_first { AtMost MAX_VALUE_NUMBER (pure_value first.now) }
+{
+    let algebra = CodeAlgebra::<W>::new(alloc, alg)?;
+    tell(alloc, &algebra, label, first, second)
+}
+
+// The same over rows of the words that all values have, where they are few.
+fn tell_over_fixed(
+    alloc: Global,
+    alg: &Alg,
+    label: &Label,
+    first: &Value,
+    second: &Value,
+) -> Result<Option<Told>, NoMemory>
+    requires label { IsLabel alg.now.expression (pure_label label.now) }
+    requires small_label { LabelAtMost MAX_LABEL_NUMBER (pure_label label.now) }
+    requires first { In (carrier_of alg.now.expression) (pure_value first.now) }
+    requires second { In (carrier_of alg.now.expression) (pure_value second.now) }
+    requires small_first { AtMost MAX_VALUE_NUMBER (pure_value first.now) }
+{
+    rows_have_their_width();
+    let told = match row_width(alg) {
+        Some(1) => tell_over::<FixedRow<1>>(alloc, alg, label, first, second)?,
+        Some(2) => tell_over::<FixedRow<2>>(alloc, alg, label, first, second)?,
+        Some(3) => tell_over::<FixedRow<3>>(alloc, alg, label, first, second)?,
+        Some(4) => tell_over::<FixedRow<4>>(alloc, alg, label, first, second)?,
+        _ => return Ok(None),
+    };
+    Ok(Some(told))
+}
+
 // Whether both algebras tell the same, and bring the first value back: the compiled one over rows of any length, and
 // over rows of the words that all values have.
 fn agree(
@@ -121,46 +166,9 @@ fn agree(
     requires second { In (carrier_of alg.now.expression) (pure_value second.now) }
     requires small_first { AtMost MAX_VALUE_NUMBER (pure_value first.now) }
 {
-    rows_have_their_width();
     let tree = tell(alloc, &TreeAlgebra::new(alg), label, first, second)?;
-    let words = tell(
-        alloc,
-        &CodeAlgebra::<Words>::new(alloc, alg)?,
-        label,
-        first,
-        second,
-    )?;
-    let fixed = match row_width(alg) {
-        Some(1) => Some(tell(
-            alloc,
-            &CodeAlgebra::<FixedRow<1>>::new(alloc, alg)?,
-            label,
-            first,
-            second,
-        )?),
-        Some(2) => Some(tell(
-            alloc,
-            &CodeAlgebra::<FixedRow<2>>::new(alloc, alg)?,
-            label,
-            first,
-            second,
-        )?),
-        Some(3) => Some(tell(
-            alloc,
-            &CodeAlgebra::<FixedRow<3>>::new(alloc, alg)?,
-            label,
-            first,
-            second,
-        )?),
-        Some(4) => Some(tell(
-            alloc,
-            &CodeAlgebra::<FixedRow<4>>::new(alloc, alg)?,
-            label,
-            first,
-            second,
-        )?),
-        _ => None,
-    };
+    let words = tell_over::<Words>(alloc, alg, label, first, second)?;
+    let fixed = tell_over_fixed(alloc, alg, label, first, second)?;
     Ok(
         same_value(&tree.again, first)
             && are_same(&tree.image, &tree.placed)
