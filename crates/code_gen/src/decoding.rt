@@ -1,10 +1,10 @@
-ghost use Rattle.std.specs.Prelude.{◌≡◌, ◌≢◌, ◌∷◌, ◌^◌, ◌≤◌, ◌<◌, [], true, length, map, IfOk, Some, None};
+ghost use Rattle.std.specs.Prelude.{◌≡◌, ◌≢◌, ◌∷◌, ◌^◌, ◌≤◌, ◌<◌, [], true, length, IfOk, Some, None};
 ghost use Rattle.std.specs.List.{AllByRecursion};
 ghost use Rattle.alg_model.specs.Carriers.{carrier_of, In};
-ghost use Rattle.alg_model.specs.Expressions.{PureValue, number, marks, name, first, second};
+ghost use Rattle.alg_model.specs.Expressions.{PureValue, marks, name, first, second};
 ghost use Rattle.alg_model.specs.Formation.{MeetsRanges, is_table};
 ghost use Rattle.alg_model.specs.Views.{expression_of, pure_value};
-ghost use Rattle.code_gen.specs.Encoding.{Enc, Dec, decoded, IsEncoded, word_front, small_front, symbols_front, side_front};
+ghost use Rattle.code_gen.specs.Encoding.{Enc, Dec, decoded, IsEncoded, small_front, symbols_front, side_front};
 
 use alg_model::{Alg, TableSpec, Tree, Value};
 use label_code::{Row, Word};

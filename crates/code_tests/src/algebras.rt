@@ -1,6 +1,5 @@
 // Tests of both algebras, by the tree and by compiled code, through the trait's bound alone: over a table of
 // algebras they make the same of the same values.
-ghost use Rattle.std.specs.Prelude.{◌≡◌};
 ghost use Rattle.alg_model.specs.declared.alg.TheConstants.{MAX_VALUE_NUMBER};
 ghost use Rattle.alg_model.specs.declared.edition.TheConstants.{MAX_LABEL_NUMBER};
 ghost use Rattle.alg_model.specs.Application.{IsLabel};

@@ -1,9 +1,9 @@
 // What tests read values and labels from, and what they print words and codes to.
-ghost use Rattle.std.specs.Prelude.{◌≡◌, ◌≤◌, IfOk};
+ghost use Rattle.std.specs.Prelude.{IfOk};
 ghost use Rattle.alg_model.specs.declared.alg.TheConstants.{MAX_VALUE_NUMBER};
 ghost use Rattle.alg_model.specs.declared.edition.TheConstants.{MAX_LABEL_NUMBER};
 ghost use Rattle.alg_model.specs.Application.{IsLabel};
-ghost use Rattle.alg_model.specs.Bounds.{AtMost, LabelAtMost, greatest_number};
+ghost use Rattle.alg_model.specs.Bounds.{AtMost, LabelAtMost};
 ghost use Rattle.alg_model.specs.Carriers.{carrier_of, In};
 ghost use Rattle.alg_model.specs.Views.{pure_label, pure_value};
 

@@ -1,7 +1,7 @@
-ghost use Rattle.std.specs.Prelude.{◌≡◌, ◌≤◌, [], ◌∷◌, ◌++◌, length, take, IfNone, IfOk, IfSome, OnOk};
+ghost use Rattle.std.specs.Prelude.{◌≡◌, ◌≤◌, [], ◌∷◌, ◌++◌, length, take, IfOk, OnOk};
 ghost use Rattle.label_code.specs.declared.words.TheConstants.{HERE};
 ghost use Rattle.label_code.specs.Rows.{has_width, MakesOnly, Tells};
-ghost use Rattle.label_code.specs.Machine.{Fits, RunCode, behind, prohibited};
+ghost use Rattle.label_code.specs.Machine.{Fits, RunCode, behind};
 
 use crate::in_place::{InPlace, in_place};
 use crate::{HeldRow, Op, Output, Run, Word, Words, execute};
@@ -42,8 +42,8 @@ impl<const N: usize> HeldRow for FixedRow<N> {
 }
 
 impl<const N: usize> FixedRow<N> {
-    // Writes what the code makes of the row, as [`HeldRow::rewrite`] tells it. Most codes write a word by each operation,
-    // `N` in all; the others are left to the machine from the first operation on that doesn't.
+    // Writes what the code makes of the row, as [`HeldRow::rewrite`] tells it. Most codes write a word in place of each,
+    // `N` in all; what does something else is left to the machine, with all behind it.
     #[inline(never)]
     fn write_all(&mut self, alloc: Global, code: &[Op], row: &[Word]) -> Result<Run, NoMemory>
         requires fits { Fits code.now row.now }

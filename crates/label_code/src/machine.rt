@@ -1,7 +1,6 @@
 ghost use Rattle.std.specs.Prelude.{◌≡◌, ◌≢◌, ◌+◌, ◌<◌, ◌≤◌, ◌==◌, [], ◌∷◌, ◌++◌, length, take, drop, None, if◌then◌else◌, IfOk, OnErr};
 ghost use Rattle.std.specs.List.{list_any};
-ghost use Rattle.std.specs.Int.{bit_at};
-ghost use Rattle.label_code.specs.Effects.{effect, goes_on, writes, looks, turns, denies, lacks};
+ghost use Rattle.label_code.specs.Effects.{effect, goes_on, writes, turns, denies, lacks};
 ghost use Rattle.label_code.specs.Machine.{RunCode, Fits, behind};
 ghost use Rattle.label_code.specs.Rows.{Tells};
 ghost use Rattle.label_code.specs.Steps.{Does, effect_in_place};

@@ -1,5 +1,5 @@
 // The networks behind changes.
-ghost use Rattle.std.specs.Prelude.{◌≡◌, IfOk, map};
+ghost use Rattle.std.specs.Prelude.{◌≡◌, ◌∷◌, IfOk, map};
 ghost use Rattle.net_graph.specs.Changes.{AreChanges, after_all};
 ghost use Rattle.net_graph.specs.Views.{pure_change};
 ghost use Rattle.metacli.specs.Behind.{last_of, nets_after};

@@ -1,5 +1,5 @@
 // What `check` decides.
-ghost use Rattle.std.specs.Prelude.{◌≡◌, IfOk, map, option_map, None, Some};
+ghost use Rattle.std.specs.Prelude.{◌≡◌, IfOk, map, None, Some};
 ghost use Rattle.alg_model.specs.Application.{IsLabel};
 ghost use Rattle.net_graph.specs.Changes.{AreChanges};
 ghost use Rattle.net_graph.specs.Views.{pure_change};

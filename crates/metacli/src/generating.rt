@@ -1,11 +1,11 @@
 // What `demo` decides.
-ghost use Rattle.std.specs.Prelude.{◌≡◌, IfOk, [], map};
+ghost use Rattle.std.specs.Prelude.{◌≡◌, IfOk};
 ghost use Rattle.command_words.specs.Words.{AreDemoNodes};
 ghost use Rattle.net_gen.specs.Networks.{demo_alg};
 ghost use Rattle.topology_file.specs.Views.{pure_file};
 ghost use Rattle.vector_runs.specs.Runs.{pure_phase};
 ghost use Rattle.metacli.specs.Generated.{IsGenerated, IsRunAlone};
-ghost use Rattle.metacli.specs.Outcome.{IsShownAs, demo_turns};
+ghost use Rattle.metacli.specs.Outcome.{IsShownAs};
 ghost use Rattle.metacli.specs.Views.{CanBeWritten, pure_outcome};
 
 use crate::outcome::{Outcome, Stop};

@@ -1,5 +1,5 @@
 // Putting the lines of runs.
-ghost use Rattle.std.specs.Prelude.{◌≡◌, ◌+◌, ◌^◌, ◌<◌, length, map};
+ghost use Rattle.std.specs.Prelude.{◌+◌, ◌^◌, ◌<◌, length, map};
 ghost use Rattle.std.specs.List.{AllByRecursion};
 ghost use Rattle.metacli.specs.Texts.{PutsText, journal_text, number_text, phase_lines, run_text, trace_text};
 ghost use Rattle.vector_runs.specs.Runs.{AreOfNetworks, IsOfNetwork, pure_phase};

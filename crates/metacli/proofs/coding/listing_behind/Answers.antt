@@ -10,11 +10,11 @@ use Rattle.metacli.specs.Outcome.{labels_on}
 use Rattle.metacli.proofs.RowsBehind.{same_algebra}
 use Rattle.metacli.proofs.coding.listing_behind.Goals as goal
 
-pub returns-clause-listing : goal.returns-clause-listing
-returns-clause-listing c =
+pub returns-in-Ok-clause-listing : goal.returns-in-Ok-clause-listing
+returns-in-Ok-clause-listing c =
     let file = c.args.file.now in
-    let listing = c.in_ok-listing.listing in
+    let listing = c.in-Ok.listing in
     let is : c.last_of.result.now ≡ changed_net (pure_file file) =
     c.last_of.ensures ∙ c.in_ok-behind.ensures ∙ ap (λ cs. after_all file.net (map pure_change cs)) c.as_slice.ensures in
     subst (λ (a : PureAlg). IsListing a.expression (labels_on (changed_net (pure_file file))) listing) (same_algebra file.net (map pure_change file.changes))
-    (subst (λ (net : PureNet). IsListing net.alg.expression (labels_on net) listing) is c.in_ok-listing.ensures)
+    (subst (λ (net : PureNet). IsListing net.alg.expression (labels_on net) listing) is c.in-Ok.ensures)

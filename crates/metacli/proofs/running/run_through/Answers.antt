@@ -14,19 +14,19 @@ run_on-requires-clause-changed g c _ _ =
     let changes = map pure_change c.as_slice.result.now in
     subst (AreLater net) (sym (c.as_slice-2.ensures ∙ (c.from_vec-changed.ensures ∙ c.in_ok-nets_behind.ensures))) (nets_are_later net changes)
 
-pub returns-clause-run : goal.returns-clause-run
-returns-clause-run g c =
+pub returns-in-Ok-clause-run : goal.returns-in-Ok-clause-run
+returns-in-Ok-clause-run g c =
     let net = c.args.file.now.net in
     let nets = c.from_vec-changed.result in
     let changes = map pure_change c.as_slice.result.now in
-    let run = c.in_ok-run.run' in
+    let run = c.in-Ok.run' in
     let past = map pure_phase run.past in
     let last = pure_phase run.last in
     let is : nets ≡ nets_after net changes = c.from_vec-changed.ensures ∙ c.in_ok-nets_behind.ensures in
     let may : AreChanges net changes = rw (← c.as_slice.ensures) at c.requires.changes in
     let all : AllByRecursion IsNet nets = subst (AllByRecursion IsNet) (sym is) (nets_are net changes c.run_on.ensures.net may) in
     let later : AreLater net nets = subst (AreLater net) (sym is) (nets_are_later net changes) in
-    let is_run = rw c.as_slice-2.ensures at c.in_ok-run.ensures.run in
+    let is_run = rw c.as_slice-2.ensures at c.in-Ok.ensures.run in
     record {
       is_net = c.run_on.ensures.net;
       is_run = is_run;
