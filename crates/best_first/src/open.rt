@@ -9,7 +9,7 @@ ghost use Rattle.best_first.specs.Queue.{IsOffered, IsOfferedOf, IsRanked, is_wa
 use crate::route::{ByRoute, OpenRoute, Place, comes_first};
 use alg_model::Algebra;
 use frontier::{Steps, Tournament};
-use meta_base::NoMemory;
+use meta_base::{NoMemory, NodeId};
 use std::alloc::Global;
 use std::sync::ledger::{Blank, Ledger};
 
@@ -84,7 +84,7 @@ impl<A: Algebra, L: Ledger> Open<A, L> {
             (best_of value self.old.best.items) (best_of value self.new.best.items) }
     {
         if self.wants_spare(algebra, place) {
-            self.keep_spare(algebra, place);
+            self.keep_spare(algebra, place.size, place.node, place.next);
         }
     }
 
@@ -105,27 +105,29 @@ impl<A: Algebra, L: Ledger> Open<A, L> {
     }
 
     // Keeps a route with the spare value as the node's best. Most offers aren't kept, so this stands apart from their
-    // loop.
+    // loop, and takes the parts of the place, so that the loop need not put one together.
     #[inline(never)]
-    fn keep_spare(&mut self, algebra: &A, place: Place)
-        requires node { place.node.0 < vec_len self.old.best }
+    fn keep_spare(&mut self, algebra: &A, size: u32, node: NodeId, next: NodeId)
+        requires node { node.0 < vec_len self.old.best }
         requires sig { IfSome self.old.spare (A.is_sig algebra.now) }
         requires sigs { AllFound (λ o. A.is_sig algebra.now o.sig) self.old.best.items }
         requires ranked { IsRanked (carrier_of (A.expression algebra.now))
             (best_of (A.sig_value algebra.now) self.old.best.items) self.old.standing }
         requires wanted { let value = A.sig_value algebra.now in
-            is_wanted (carrier_of (A.expression algebra.now)) place (option_map value self.old.spare)
-            (best_of value self.old.best.items) ≡ true }
+            is_wanted (carrier_of (A.expression algebra.now)) (record { size = size; node = node; next = next })
+            (option_map value self.old.spare) (best_of value self.old.best.items) ≡ true }
         ensures count { vec_len self.new.best ≡ vec_len self.old.best }
         ensures sigs { AllFound (λ o. A.is_sig algebra.now o.sig) self.new.best.items }
         ensures ranked { IsRanked (carrier_of (A.expression algebra.now))
             (best_of (A.sig_value algebra.now) self.new.best.items) self.new.standing }
         ensures best { let value = A.sig_value algebra.now in
             best_of value self.new.best.items ≡
-            set (best_of value self.old.best.items) place.node.0
-            (option_map (key_at place) (option_map value self.old.spare)) }
+            set (best_of value self.old.best.items) node.0
+            (option_map (key_at (record { size = size; node = node; next = next }))
+            (option_map value self.old.spare)) }
     {
-        let node = place.node.0 as usize;
+        let place = Place { size, node, next };
+        let node = node.0 as usize;
         exchange(&mut self.best[node], &mut self.spare, place);
         let order = ByRoute {
             algebra,
