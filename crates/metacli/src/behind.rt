@@ -60,7 +60,8 @@ fn led_by(net: Net, mut nets: Vec<Net>) -> Result<Vec<Net>, NoMemory>
 {
     match nets.insert(0, net) {
         Ok(()) => Ok(nets),
-        Err(_) => {
+        Err(refused) => {
+            drop(refused);
             drop(nets);
             Err(NoMemory)
         }

@@ -1,12 +1,6 @@
 use Rattle.std.proofs.Common.{sym, subst, arith, take}
 use Rattle.std.proofs.lemmas.Result.{IfOk-weaker}
-use Rattle.std.specs.List.{AllByRecursion, Contains}
-use Rattle.alg_model.specs.declared.alg.TheConstants.{MAX_INSTANCE_NUMBER}
-use Rattle.alg_model.specs.Bounds.{greatest_number}
-use Rattle.alg_model.specs.Instances.{VerdictsAtMost}
-use Rattle.alg_model.specs.Verdicts.{ExactFor}
 use Rattle.net_graph.specs.Views.{pure_arc}
-use Rattle.profile_labels.specs.Labels.{LabelledOf}
 use Rattle.property_infer.specs.Labels.{CoversLabels}
 use Rattle.property_infer.specs.LabelLaws.{covers_none}
 use Rattle.property_infer.specs.Told.{AreTold}

@@ -16,8 +16,8 @@ returns c =
     let file = c.args.file.now in
     let is : c.last_of.result.now ≡ changed_net (pure_file file) =
     c.last_of.ensures ∙ c.in_ok-behind.ensures ∙ ap (λ cs. after_all file.net (map pure_change cs)) c.as_slice.ensures in
-    IfOk-weaker c.arc_verdicts.result _ _
+    IfOk-weaker c.arc_verdicts-verdicts.result _ _
     (λ v h.
     subst (λ (a : PureAlg). AreVerdictsOn a (IsOnArc (changed_net (pure_file file))) (pure_verdicts v)) (same_algebra file.net (map pure_change file.changes))
     (subst (λ (net : PureNet). AreVerdictsOn net.alg (IsOnArc net) (pure_verdicts v)) is h))
-    c.arc_verdicts.ensures
+    c.arc_verdicts-verdicts.ensures

@@ -1,4 +1,3 @@
-use Rattle.std.proofs.Common.{sym, subst}
 use Rattle.std.proofs.lemmas.Result.{err_from_is_err_and}
 use Rattle.metacli.proofs.Written.{cut_in_room, lines_at, lines_begin, lines_by_room, row_at}
 use Rattle.metacli.proofs.writing.put_rows.Goals as goal
