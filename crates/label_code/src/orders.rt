@@ -20,13 +20,24 @@ pub fn compare_words(code: &[OrdOp], first: &[Word], second: &[Word]) -> Orderin
     requires { FitsBoth code.now first.now second.now }
     ensures { RunOrder code.now first.now second.now ≡ Some result }
 {
-    // Most orders look at a number first, and most rows differ there.
-    if let ([OrdOp::Less, rest @ ..], [m, first @ ..], [n, second @ ..]) = (code, first, second) {
-        return match m.cmp(n) {
-            Ordering::Equal if rest.is_empty() => Ordering::Equal,
-            Ordering::Equal => compare_steps(rest, first, second),
-            unequal => unequal,
-        };
+    let mut code = code;
+    let mut first = first;
+    let mut second = second;
+    // Most orders look at numbers first, and most rows differ there.
+    while let ([OrdOp::Less, others @ ..], [m, left @ ..], [n, right @ ..]) = (
+        code, first, second,
+    ) {
+        match m.cmp(n) {
+            Ordering::Equal => {
+                code = others;
+                first = left;
+                second = right;
+            }
+            unequal => return unequal,
+        }
+    }
+    if code.is_empty() {
+        return Ordering::Equal;
     }
     compare_steps(code, first, second)
 }
