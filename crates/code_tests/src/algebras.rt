@@ -208,3 +208,60 @@ fn both_algebras_agree(rt: HostRuntime) -> Result<(), Fail> {
     }
     Ok(())
 }
+
+// Numbers, each from the one before (a linear congruential generator).
+#[derive(Drop)]
+struct Draws {
+    last: u64,
+}
+
+impl Draws {
+    // One of the cases.
+    fn case(&mut self) -> Result<&'static str, Fail> {
+        self.last = self
+            .last
+            .wrapping_mul(6_364_136_223_846_793_005)
+            .wrapping_add(1_442_695_040_888_963_407);
+        let place = (self.last >> 33) % CASES;
+        Ok(
+            agreed_cases()
+                .lines()
+                .nth(place as usize)
+                .ok_or("no such case")?,
+        )
+    }
+}
+
+// How many cases there are.
+const CASES: u64 = 26;
+
+// The case of the lexical product of the algebras of two cases, with pairs of their labels and values.
+fn product(alloc: Global, one: &str, other: &str) -> Result<String, Fail> {
+    let mut others = other.split(" | ");
+    let mut case = String::new(alloc);
+    case.push_str("lex")?;
+    for a in one.split(" | ") {
+        let b = others.next().ok_or("a case with too few fields")?;
+        if case.as_str() != "lex" {
+            case.push_str(" | ")?;
+        }
+        case.push_str("(")?;
+        case.push_str(a)?;
+        case.push_str(",")?;
+        case.push_str(b)?;
+        case.push_str(")")?;
+    }
+    Ok(case)
+}
+
+#[test]
+fn both_algebras_agree_on_drawn_products(rt: HostRuntime) -> Result<(), Fail> {
+    let mut draws = Draws { last: 1 };
+    for _ in 0..64 {
+        let pair = product(rt.alloc(), draws.case()?, draws.case()?)?;
+        assert!(rt; is_agreed_case(rt.alloc(), pair.as_str())?, "{pair}");
+        let triple = product(rt.alloc(), draws.case()?, pair.as_str())?;
+        assert!(rt; is_agreed_case(rt.alloc(), triple.as_str())?, "{triple}");
+    }
+    Ok(())
+}
