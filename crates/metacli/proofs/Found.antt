@@ -14,11 +14,12 @@ use Rattle.metacli.specs.Outcome.{AreRoutesOn, IsFit}
 use Rattle.metacli.specs.declared.routing.Solution.{Solution}
 use Rattle.metacli.specs.declared.routing.Solution.TheVariants.{Unbeaten, Settled}
 
--- what is made best first is beaten by no walk, or stable, by the labels; stable rows are settled; and rows can be
--- printed
+-- what is made best first is beaten by no walk, or stable, by the labels, which are monotone where they are strict;
+-- stable rows are settled; and rows can be printed
 pub record Laws (net : PureNet) : Type 0 where
   pub optimal : NetHas monotone net → NetHas isotone net → (dest : ℕ) (t : List PureRow) → BestFirst net dest t → Optimal net dest t
-  pub stable : NetHas strict net → (dest : ℕ) (t : List PureRow) → BestFirst net dest t → Stable net dest t
+  pub stable : NetHas monotone net → (dest : ℕ) (t : List PureRow) → BestFirst net dest t → Stable net dest t
+  pub monotone : NetHas strict net → NetHas monotone net
   pub settled : (rows : List PureRow) → AreStableRows net rows → AreSettledRows net rows
   pub rows : (dest : ℕ) (t : List PureRow) → dest < length net.dests → BestFirst net dest t → AllByRecursion (IsRowOf net) t
 
@@ -37,15 +38,15 @@ rows_are net Holds each tables h = record {
   joined = refl;
 }
 
-settled_on : (net : PureNet) → Laws net → NetHas strict net → (tables : List DestTable) → link.AreTablesOf net tables → AreSettledRows net (joined_rows (map rows_of tables))
+settled_on : (net : PureNet) → Laws net → NetHas monotone net → (tables : List DestTable) → link.AreTablesOf net tables → AreSettledRows net (joined_rows (map rows_of tables))
 settled_on net laws all tables h = laws.settled (joined_rows (map rows_of tables)) (rows_are net (Stable net) (laws.stable all) tables h)
 
 pub routes_on : (solution : Solution) (net : PureNet) → Laws net → IsFit solution net → (tables : List DestTable) → link.AreTablesOf net tables → AreRoutesOn solution net (joined_rows (map rows_of tables))
 routes_on Unbeaten net laws fit tables h = (
   rows_are net (λ dest t. BestFirst net dest t × Optimal net dest t) (λ dest t best. (best, laws.optimal fit.0 fit.1.0 dest t best)) tables h,
-  λ all. settled_on net laws all tables h,
+  settled_on net laws fit.0 tables h,
 )
-routes_on Settled net laws fit tables h = (rows_are net (BestFirst net) (λ dest t best. best) tables h, settled_on net laws fit.0 tables h)
+routes_on Settled net laws fit tables h = (rows_are net (BestFirst net) (λ dest t best. best) tables h, settled_on net laws (laws.monotone fit.0) tables h)
 
 all_append : {X : Type 0} (P : X → Type 0) (xs ys : List X) → AllByRecursion P xs → AllByRecursion P ys → AllByRecursion P (xs ++ ys)
 all_append P [] ys h k = k

@@ -165,11 +165,11 @@ asked_of Settled = strict ∷ []
 abbrev pub IsFit : Solution → PureNet → Type 0
 IsFit solution = NetHasAll (asked_of solution)
 
--- The rows are those of the tables of all destinations in order, each of which is made best first. Unbeaten ones are
--- beaten by no walk, and settled too where all labels are strict.
+-- The rows are those of the tables of all destinations in order, each of which is made best first, and no other rows
+-- are stable. Unbeaten ones are beaten by no walk too.
 abbrev pub AreRoutesOn : Solution → PureNet → List PureRow → Type 0
 AreRoutesOn Unbeaten net rows =
-    AreRowsOfTables net (λ dest table. BestFirst net dest table × Optimal net dest table) rows × (NetHas strict net → AreSettledRows net rows)
+    AreRowsOfTables net (λ dest table. BestFirst net dest table × Optimal net dest table) rows × AreSettledRows net rows
 AreRoutesOn Settled net rows = AreRowsOfTables net (BestFirst net) rows × AreSettledRows net rows
 
 -- What route and settle come to where all was read, on the network behind its changes: the routes, where its labels

@@ -28,9 +28,9 @@ use link_state::all_tables;
 use meta_base::{List, NoMemory};
 use net_facts::{Lack, first_lack};
 use net_graph::{DestTable, Net, RouteRow};
+use settled_laws::{best_first_is_stable, stable_rows_are_settled, strict_is_monotone};
 use std::alloc::{AllocGlobal, Global};
 use std::thread::Threads;
-use strict_laws::{best_first_is_stable, stable_rows_are_settled};
 use topology_file::NetFile;
 
 /// Which routes of a network are asked for.
@@ -144,8 +144,8 @@ fn found_on<R: AllocGlobal + Threads + Sync>(
     }
 }
 
-// The routes of all nodes for all destinations. What is made best first is beaten by no walk where labels are
-// monotone and isotone, and is the one stable table where they are strict.
+// The routes of all nodes for all destinations. What is made best first is the one stable table where labels are
+// monotone, and is beaten by no walk where they are isotone too.
 fn all_routes<R: AllocGlobal + Threads + Sync>(
     rt: &R,
     net: &Net,
@@ -160,6 +160,7 @@ fn all_routes<R: AllocGlobal + Threads + Sync>(
     best_first_is_optimal();
     best_first_is_stable();
     stable_rows_are_settled();
+    strict_is_monotone();
     best_first_rows_are_the_networks();
     let tables = tables_of(rt, net, workers)?;
     let room = net.node_count().saturating_mul(net.dest_count());

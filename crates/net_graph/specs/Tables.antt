@@ -5,7 +5,7 @@ use Rattle.std.specs.List.{list_any, AllByRecursion}
 use Rattle.alg_model.specs.Expressions.{PureCarrier, PureValue}
 use Rattle.alg_model.specs.Carriers.{carrier_of, In, IsPreferred}
 use Rattle.alg_model.specs.Bounds.{AtMost}
-use Rattle.alg_model.specs.Properties.{PureProperty, Has, strict}
+use Rattle.alg_model.specs.Properties.{PureProperty, Has, monotone}
 use Rattle.net_graph.specs.declared.route.TheConstants.{MAX_ROW_NUMBER}
 use Rattle.net_graph.specs.Nets.{PureArc, PureNet, origin_value}
 use Rattle.net_graph.specs.Routes.{PureRoute, Better}
@@ -144,7 +144,7 @@ pub record AreRowsOfTables (net : PureNet) (Holds : ℕ → List PureRow → Typ
 abbrev pub AreStableRows : PureNet → List PureRow → Type 0
 AreStableRows net = AreRowsOfTables net (Stable net)
 
--- they are, and where all labels are strict no other rows are
+-- they are, and where all labels are monotone no other rows are
 pub record AreSettledRows (net : PureNet) (rows : List PureRow) : Type 0 where
   pub stable : AreStableRows net rows
-  pub only : NetHas strict net → (others : List PureRow) → AreStableRows net others → others ≡ rows
+  pub only : NetHas monotone net → (others : List PureRow) → AreStableRows net others → others ≡ rows

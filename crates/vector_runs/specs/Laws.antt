@@ -22,7 +22,7 @@ use Rattle.path_vector.specs.Delivering.{node_is}
 use Rattle.path_vector.specs.Quiet.{short_path}
 use Rattle.path_vector.specs.Laws.{carried_nodes_may_begin, new_nodes_may_begin, quiet_runs_are_stable, runs_are_coherent}
 use Rattle.path_vector.specs.Node.{PvState, PureUpdate, carried, dest_rows, may_be_of, node_rows, path_vector, rows_for}
-use Rattle.strict_laws.specs.Rows.{stable_rows_are_settled}
+use Rattle.settled_laws.specs.Rows.{stable_rows_are_settled}
 use Rattle.vector_runs.specs.Runs.{PurePhase, IsPhaseOf, RunsFrom, IsRun, IsSmallIn, AreLater, AreStable, IsOfNetwork, AreOfNetworks}
 
 -- the rows of all destinations from one on are those of their tables
@@ -53,11 +53,11 @@ node_tables net Holds states h =
       joined = joined states dests;
     }
 
--- the rows of a quiet phase are stable, and no others are where all labels are strict
+-- the rows of a quiet phase are stable, and no others are where all labels are monotone
 pub quiet_phase_is_stable : (net : PureNet) (nodes : List PvState) (turns : ℕ) (p : PurePhase) (states : List PvState) → IsNet net → MayBegin net nodes → IsPhaseOf net nodes turns p true states
     → AreSettledRows net p.rows
 quiet_phase_is_stable net nodes turns p states n may is =
-    stable_rows_are_settled net p.rows n (subst (AreStableRows net) (sym is.rows_are)
+    stable_rows_are_settled net p.rows (subst (AreStableRows net) (sym is.rows_are)
     (node_tables net (Stable net) states (λ dest l.
     quiet_runs_are_stable net nodes states p.journal is.end dest n may is.phase.replayed (is.phase.drained refl) is.states_are is.count l)))
 

@@ -59,7 +59,7 @@ AreBegun net i [] = length net.nodes ≡ i
 AreBegun net i (s ∷ nodes) = (s.net ≡ net) × (s.number ≡ i) × (s.is_begun ≡ true) × AreBegun net (i + 1) nodes
 
 -- the rows of the phases that are quiet are stable tables of their networks, and no others are where all labels are
--- strict
+-- monotone
 abbrev pub AreStable : PureNet → List PureNet → List PurePhase → PurePhase → Bool → Type 0
 AreStable net nets [] last quiet = quiet ≡ true → AreSettledRows net last.rows
 AreStable net [] (p ∷ past) last quiet = ⊥

@@ -4,7 +4,7 @@ ghost use Rattle.net_graph.specs.Nets.{PureNet, IsNet};
 ghost use Rattle.vector_runs.specs.Runs.{PurePhase, IsRun, AreLater, AreOfNetworks, AreStable};
 
 /// The rows of each phase of a run that is quiet are a stable table of the phase's network for each destination
-/// (Griffin and Sobrinho 2005), and the only one where all labels are strictly monotone (Sobrinho 2005).
+/// (Griffin and Sobrinho 2005), and the only one where all labels are monotone (after Sobrinho 2005).
 #[tactic(auto, using(crate::specs::Laws::quiet_phases_are_stable))]
 pub fn quiet_phases_are_stable()
     ensures { (net : PureNet) (nets : List PureNet) (turns : ℕ) (past : List PurePhase) (last : PurePhase)

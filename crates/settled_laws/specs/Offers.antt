@@ -1,16 +1,21 @@
--- What holds of offers, and of those over strict labels. Lemmas, so that proofs of other crates may cite them.
-use Rattle.std.proofs.Common.{◌≡◌, ℕ, ◌⊎◌, inl, inr, List, [], ◌∷◌, Option, Some, None, IfSome, ◌==◌, option_and_then}
+-- What holds of offers, and of those over labels that are monotone. Lemmas, so that proofs of other crates may cite
+-- them.
+use Rattle.std.proofs.Common.{◌≡◌, ◌≢◌, ℕ, ◌⊎◌, inl, inr, List, [], ◌∷◌, Some, ◌==◌, arith}
+use Rattle.std.specs.Ordering.{ordering_then, ordering_reverse}
+use Rattle.std.specs.declared.cmp.Ordering.{Ordering}
+use Rattle.std.specs.declared.cmp.Ordering.TheVariants.{Less}
 use Rattle.std.proofs.lemmas.Bool.{or_cases, or_right, eqb-true}
-use Rattle.alg_model.specs.Expressions.{PureLabel, PureValue}
-use Rattle.alg_model.specs.Carriers.{In, IsPreferred}
-use Rattle.alg_model.specs.Application.{App}
-use Rattle.alg_model.specs.Properties.{strict, IsStrict}
-use Rattle.net_graph.specs.Nets.{PureNet, IsNet, label_between, origin_value}
-use Rattle.net_graph.specs.Routes.{PureRoute}
+use Rattle.alg_model.specs.Carriers.{In, Order}
+use Rattle.meta_base.specs.NodePaths.{compare_paths}
+use Rattle.alg_model.specs.Properties.{monotone}
+use Rattle.net_graph.specs.Nets.{PureNet, IsNet, origin_value}
+use Rattle.net_graph.specs.Routes.{PureRoute, Better}
 use Rattle.net_graph.specs.Walks.{along}
 use Rattle.net_graph.specs.Tables.{Told, NetHas, carrier, is_among, IsOfferBy, IsOfferFrom, Offers}
-use Rattle.net_graph.specs.ArcLaws.{of_some, IsOrigin, origins_are, labels_have, along_in}
+use Rattle.net_graph.specs.ArcLaws.{of_some, IsOrigin, origins_are, along_in, along_monotone}
 use Rattle.net_graph.specs.RouteLaws.{same_route}
+use Rattle.settled_laws.specs.BetterLaws.{longer_later}
+use Rattle.settled_laws.specs.OrderTurns.{order_turns}
 
 -- the routes that are told have values of the carrier
 abbrev pub TellsValues : PureNet → Told → Type 0
@@ -20,17 +25,15 @@ TellsValues net told = (j : ℕ) (next : PureRoute) → told j ≡ Some next →
 abbrev pub TellsOwnPaths : Told → Type 0
 TellsOwnPaths told = (j : ℕ) (next : PureRoute) → told j ≡ Some next → (p : List ℕ) × (next.path ≡ j ∷ p)
 
--- an arc whose label is strict makes each value worse
-pub along_strict : (net : PureNet) → NetHas strict net → (i j : ℕ) (v w : PureValue) → In (carrier net) v → along net i j (Some v) ≡ Some w → IsPreferred (carrier net) (Some v) (Some w)
-along_strict net h i j v w value_in e = by (label_between net i j) (labels_have strict net h i j) e
+-- Over labels that are monotone an offer is worse than the route that it is made of: where its value isn't, its path is
+-- longer.
+pub next_better : (net : PureNet) (told : Told) (i j : ℕ) (r : PureRoute) → NetHas monotone net → TellsValues net told → (o : IsOfferBy net told i j r) → Better (carrier net) o.next r
+next_better net told i j r m values o =
+    by (Order (carrier net) o.next.value r.value) (Order (carrier net) r.value o.next.value) (compare_paths o.next.path r.path) (order_turns (carrier net) o.next.value r.value)
+    (rw o.weighs at (along_monotone net m i j (Some o.next.value) (values j o.next o.is_told))) (rw o.path (longer_later i o.next.path))
   where
-    by : (o : Option PureLabel) → IfSome o (IsStrict net.alg.expression) → option_and_then (λ l. option_and_then (App net.alg.expression l) (Some v)) o ≡ Some w → IsPreferred (carrier net) (Some v) (Some w)
-    by None a e = absurd (cc)
-    by (Some l) a e = rw e at (a v value_in)
-
--- so an offer is worse than the route that it is made of
-pub next_preferred : (net : PureNet) (told : Told) (i j : ℕ) (r : PureRoute) → NetHas strict net → TellsValues net told → (o : IsOfferBy net told i j r) → IsPreferred (carrier net) (Some o.next.value) (Some r.value)
-next_preferred net told i j r h values o = along_strict net h i j o.next.value r.value (values j o.next o.is_told) o.weighs
+    by : (a b p : Ordering) → b ≡ ordering_reverse a → b ≢ Less → p ≡ Less → ordering_then a p ≡ Less
+    by a b p e f g = grind arith
 
 -- an offer's value is one of the carrier
 pub offer_in : (net : PureNet) (dest : ℕ) (told : Told) (i : ℕ) (r : PureRoute) → IsNet net → TellsValues net told → Offers net dest told i r → In (carrier net) r.value

@@ -1,30 +1,29 @@
--- Where labels are strict, a table that is made best first is stable. Lemmas, so that proofs of other crates may cite
+-- Where labels are monotone, a table that is made best first is stable. Lemmas, so that proofs of other crates may cite
 -- them.
 use Rattle.std.proofs.Common.{◌≡◌, ℕ, ◌<◌, inl, inr, List, [], ◌∷◌, Some, Bool, true, false, ◌==◌, length, refl, sym, ◌∙◌, subst}
 use Rattle.std.proofs.lemmas.Bool.{cases_lt, or_cases, or_left, or_parts, eqb-true, eq-eqb, false≢true}
-use Rattle.alg_model.specs.Carriers.{In, IsPreferred}
-use Rattle.alg_model.specs.Properties.{strict}
+use Rattle.alg_model.specs.Carriers.{In}
+use Rattle.alg_model.specs.Properties.{monotone}
 use Rattle.net_graph.specs.Nets.{PureNet, IsNet}
 use Rattle.net_graph.specs.Routes.{PureRoute, Better}
 use Rattle.net_graph.specs.Tables.{PureRow, TableOf, NetHas, route_at, carrier, is_among, IsOfferBy, IsOfferFrom, Offers, IsChoice, AreFixed, BestFirst, Stable}
-use Rattle.net_graph.specs.Unbeaten.{IsUnbeatenBy}
+use Rattle.net_graph.specs.RouteOrder.{not_better_trans, better_asymmetric}
 use Rattle.net_graph.specs.RouteLaws.{table_route_in, no_route_past}
-use Rattle.strict_laws.specs.Values.{preferred_unbeaten, unbeaten_then_preferred, unbeaten_by_no_better, beaten_is_no_better}
-use Rattle.strict_laws.specs.Offers.{TellsValues, next_preferred, offer_in, offer_begins, offer_from_offers, offer_from_more, offer_from_split}
+use Rattle.settled_laws.specs.Offers.{TellsValues, next_better, offer_in, offer_begins, offer_from_offers, offer_from_more, offer_from_split}
 
 -- what the law needs of the network and of the table
 record Given (net : PureNet) (dest : ℕ) (t : List PureRow) : Type 0 where
   pub is_net : IsNet net
-  pub are_strict : NetHas strict net
+  pub are_monotone : NetHas monotone net
   pub table_of : TableOf net dest t
 
 -- The node's route is its choice among what these nodes offer to it, and nothing that they offer to another node is
--- preferred to it.
+-- better.
 record IsChosen (net : PureNet) (dest : ℕ) (t : List PureRow) (before : List ℕ) (k : ℕ) (r : PureRoute) : Type 0 where
   pub offer : IsOfferFrom net dest (route_at t) before k r
   pub best : (s : PureRoute) → IsOfferFrom net dest (route_at t) before k s → ¬ Better (carrier net) s r
   pub ahead : (n : ℕ) (s : PureRoute) → n < length net.nodes → is_among before n ≡ false → IsOfferFrom net dest (route_at t) before n s
-      → IsUnbeatenBy (carrier net) (Some r.value) (Some s.value)
+      → ¬ Better (carrier net) s r
 
 -- this holds of each of these nodes
 abbrev AreChosen : PureNet → ℕ → List PureRow → List ℕ → Type 0
@@ -38,10 +37,10 @@ from_in : (net : PureNet) (dest : ℕ) (t : List PureRow) (before : List ℕ) (k
 from_in net dest t before k s g o = offer_in net dest (route_at t) k s g.is_net (values net dest t g) (offer_from_offers net dest (route_at t) before k s o)
 
 -- what a node offers is worse than its route
-by_preferred : (net : PureNet) (dest : ℕ) (t : List PureRow) (i k : ℕ) (r s : PureRoute) → Given net dest t → route_at t i ≡ Some r → IsOfferBy net (route_at t) k i s → IsPreferred (carrier net) (Some r.value) (Some s.value)
-by_preferred net dest t i k r s g told o =
+by_better : (net : PureNet) (dest : ℕ) (t : List PureRow) (i k : ℕ) (r s : PureRoute) → Given net dest t → route_at t i ≡ Some r → IsOfferBy net (route_at t) k i s → Better (carrier net) r s
+by_better net dest t i k r s g told o =
     let same : o.next ≡ r = let e = o.is_told in cc in
-    rw same at (next_preferred net (route_at t) k i s g.are_strict (values net dest t g) o)
+    rw same at (next_better net (route_at t) k i s g.are_monotone (values net dest t g) o)
 
 -- a node makes no offer to itself
 none_to_itself : (net : PureNet) (dest : ℕ) (t : List PureRow) (before : List ℕ) (i : ℕ) (r s : PureRoute) → route_at t i ≡ Some r → IsOfferFrom net dest (route_at t) before i r → ¬ IsOfferBy net (route_at t) i i s
@@ -64,13 +63,11 @@ next_chosen net dest t before i r g told offer within out best = record { offer 
       | inr new ↦ absurd (none_to_itself net dest t before i r s told offer new)
     ]
 
-    ahead : (n : ℕ) (s : PureRoute) → n < length net.nodes → is_among (i ∷ before) n ≡ false → IsOfferFrom net dest (route_at t) (i ∷ before) n s
-        → IsUnbeatenBy (carrier net) (Some r.value) (Some s.value)
+    ahead : (n : ℕ) (s : PureRoute) → n < length net.nodes → is_among (i ∷ before) n ≡ false → IsOfferFrom net dest (route_at t) (i ∷ before) n s → ¬ Better (carrier net) s r
     ahead n s inside other o = elim (offer_from_split net dest (route_at t) before i n s o) [
-      | inl old ↦ unbeaten_by_no_better (carrier net) s r (best n s inside (or_parts (i == n) (is_among before n) other).1 old)
+      | inl old ↦ best n s inside (or_parts (i == n) (is_among before n) other).1 old
       | inr new ↦
-          preferred_unbeaten (carrier net) r.value s.value (values net dest t g i r told) (from_in net dest t (i ∷ before) n s g o)
-          (by_preferred net dest t i n r s g told new)
+          better_asymmetric (carrier net) r s (values net dest t g i r told) (from_in net dest t (i ∷ before) n s g o) (by_better net dest t i n r s g told new)
     ]
 
 -- and then each other's, to which what the next node offers is worse
@@ -78,22 +75,23 @@ kept_chosen : (net : PureNet) (dest : ℕ) (t : List PureRow) (before : List ℕ
     → i < length net.nodes → is_among before i ≡ false → route_at t k ≡ Some q → IsChosen net dest t before k q → IsChosen net dest t (i ∷ before) k q
 kept_chosen net dest t before i k r q g told offer within out told_too chosen = record { offer = offer_from_more net dest (route_at t) before i k q chosen.offer; best = own; ahead = ahead }
   where
-    worse : (n : ℕ) (s : PureRoute) → IsOfferFrom net dest (route_at t) (i ∷ before) n s → IsOfferBy net (route_at t) n i s → IsPreferred (carrier net) (Some q.value) (Some s.value)
+    worse : (n : ℕ) (s : PureRoute) → IsOfferFrom net dest (route_at t) (i ∷ before) n s → IsOfferBy net (route_at t) n i s → ¬ Better (carrier net) s q
     worse n s o new =
-        unbeaten_then_preferred (carrier net) q.value r.value s.value (values net dest t g k q told_too) (values net dest t g i r told) (from_in net dest t (i ∷ before) n s g o)
-        (chosen.ahead i r within out offer) (by_preferred net dest t i n r s g told new)
+        let r_in = values net dest t g i r told in
+        let s_in = from_in net dest t (i ∷ before) n s g o in
+        not_better_trans (carrier net) q r s (values net dest t g k q told_too) r_in s_in
+        (chosen.ahead i r within out offer) (better_asymmetric (carrier net) r s r_in s_in (by_better net dest t i n r s g told new))
 
     own : (s : PureRoute) → IsOfferFrom net dest (route_at t) (i ∷ before) k s → ¬ Better (carrier net) s q
     own s o = elim (offer_from_split net dest (route_at t) before i k s o) [
       | inl old ↦ chosen.best s old
-      | inr new ↦ beaten_is_no_better (carrier net) s q (from_in net dest t (i ∷ before) k s g o) (values net dest t g k q told_too) (worse k s o new)
+      | inr new ↦ worse k s o new
     ]
 
-    ahead : (n : ℕ) (s : PureRoute) → n < length net.nodes → is_among (i ∷ before) n ≡ false → IsOfferFrom net dest (route_at t) (i ∷ before) n s
-        → IsUnbeatenBy (carrier net) (Some q.value) (Some s.value)
+    ahead : (n : ℕ) (s : PureRoute) → n < length net.nodes → is_among (i ∷ before) n ≡ false → IsOfferFrom net dest (route_at t) (i ∷ before) n s → ¬ Better (carrier net) s q
     ahead n s inside other o = elim (offer_from_split net dest (route_at t) before i n s o) [
       | inl old ↦ chosen.ahead n s inside (or_parts (i == n) (is_among before n) other).1 old
-      | inr new ↦ preferred_unbeaten (carrier net) q.value s.value (values net dest t g k q told_too) (from_in net dest t (i ∷ before) n s g o) (worse n s o new)
+      | inr new ↦ worse n s o new
     ]
 
 -- so with the next node too all are chosen
@@ -138,7 +136,7 @@ fixed_stable net dest t before [] g chosen f = all_chosen net dest t before g ch
 fixed_stable net dest t before (i ∷ order) g chosen f =
     fixed_stable net dest t (i ∷ before) order g (chosen_more net dest t before i f.2.0 g chosen f.2.1 f.2.2 f.0 f.1 f.2.3) f.3
 
-pub best_first_is_stable : (net : PureNet) (dest : ℕ) (t : List PureRow) → IsNet net → NetHas strict net → BestFirst net dest t → Stable net dest t
-best_first_is_stable net dest t n s h =
-    let g : Given net dest t = record { is_net = n; are_strict = s; table_of = h.table_of } in
+pub best_first_is_stable : (net : PureNet) (dest : ℕ) (t : List PureRow) → IsNet net → NetHas monotone net → BestFirst net dest t → Stable net dest t
+best_first_is_stable net dest t n m h =
+    let g : Given net dest t = record { is_net = n; are_monotone = m; table_of = h.table_of } in
     fixed_stable net dest t [] h.order g (λ k e. absurd (cc)) h.fixed
