@@ -1,0 +1,24 @@
+// What `gadget` decides.
+ghost use Rattle.std.specs.Prelude.{◌≡◌};
+ghost use Rattle.metacli.specs.Outcome.{IsWedgedAs};
+ghost use Rattle.metacli.specs.Views.{CanBeWritten, pure_outcome};
+
+use crate::outcome::{Outcome, Stop};
+use alg_model::Alg;
+use meta_base::NoMemory;
+use std::alloc::Global;
+
+/// What `gadget` comes to on an algebra.
+pub fn gadget(alloc: Global, alg: Alg) -> Outcome
+    ensures wedged { IsWedgedAs alg (pure_outcome result) }
+    ensures printable { CanBeWritten result }
+{
+    match wedge_nets::gadget(alloc, &alg) {
+        Ok(verdict) => Outcome::Gadget { alg, verdict },
+        Err(NoMemory) => Outcome::Stopped {
+            alg: Some(alg),
+            file: None,
+            stop: Stop::Memory,
+        },
+    }
+}
