@@ -158,15 +158,23 @@ def read_summary(lines):
     return {'summary': {'nodes': int(nodes), 'arcs': int(arcs), 'destinations': sums, 'end': how}}
 
 
-# What reads the text of each command.
+def read_run(lines):
+    return read_phases(lines, is_traced=False)
+
+
+def read_trace(lines):
+    return read_phases(lines, is_traced=True)
+
+
+# For each command the statuses that its answer may come with, and what reads the text of that.
 READERS = {
-    'check': read_verdicts,
-    'code': read_code,
-    'route': read_tables,
-    'settle': read_tables,
-    'run': lambda lines: read_phases(lines, is_traced=False),
-    'trace': lambda lines: read_phases(lines, is_traced=True),
-    'demo': read_summary,
+    'check': ((0,), read_verdicts),
+    'code': ((0,), read_code),
+    'route': ((0,), read_tables),
+    'settle': ((0,), read_tables),
+    'run': ((0, 4), read_run),
+    'trace': ((0, 4), read_trace),
+    'demo': ((0, 4), read_summary),
 }
 
 
@@ -197,8 +205,9 @@ REFUSALS = (
     (7, r'out of memory', lambda lines: {'kind': 'memory'}),
     (8, rf'too long: the ({FILE})', lambda lines, which: {'kind': 'length', 'of': which}),
 )
-# Where the program ended in the middle, what it had printed is no whole text.
-WHOLE = {0, 1, 2, 3, 4, 5, 8}
+# With other statuses the program ended in the middle, and what it had printed is no whole text. Status 7 is both.
+WHOLE = (0, 1, 2, 3, 4, 5, 8)
+MEMORY = 'out of memory\n'
 
 
 def command_and_arguments(words):
@@ -227,28 +236,31 @@ def read_refusal(lines, status, arguments):
     return None
 
 
-def has_end_of(status, found):
-    """Whether a run ended as its status says."""
-    last = found['phases'][-1] if 'phases' in found else found.get('summary', {'end': 'quiet'})
-    return (last['end'] == 'spent') == (status == 4)
+def is_spent(found):
+    """Whether the last phase of a run, or the run of a summary, was spent."""
+    return any(part['end'] == 'spent' for part in [*found.get('phases', []), found.get('summary', {'end': None})])
+
+
+def read_whole(command, status, lines):
+    """The members of the answer that a command printed to its end."""
+    if command not in READERS:
+        raise Refused(f'there is no reader of what {command} prints')
+    statuses, reader = READERS[command]
+    if status not in statuses:
+        raise lines.unknown() if lines.has_more() else Refused(f'the program printed nothing, with status {status}')
+    found = reader(lines)
+    if lines.has_more():
+        raise lines.unknown()
+    if is_spent(found) != (status == 4):
+        raise Refused(f'the end that the program printed does not fit its status {status}')
+    return found
 
 
 def read_answer(words, ran):
     """The members for what a run with these words printed."""
-    command, arguments = command_and_arguments(words)
-    if ran.status not in WHOLE and ran.text != 'out of memory\n':
+    if ran.status not in WHOLE and ran.text != MEMORY:
         return {'front': ran.text.splitlines()} if ran.text else {}
+    command, arguments = command_and_arguments(words)
     lines = Lines(ran.text)
     refusal = read_refusal(lines, ran.status, arguments)
-    if refusal:
-        return {'refusal': refusal}
-    if ran.status not in (0, 3, 4):
-        raise lines.unknown() if lines.has_more() else Refused(f'the program printed nothing, with status {ran.status}')
-    if command not in READERS:
-        raise Refused(f'no reader is there for what {command} prints')
-    found = READERS[command](lines)
-    if lines.has_more():
-        raise lines.unknown()
-    if ran.status == 3 or not has_end_of(ran.status, found):
-        raise Refused(f'what the program printed does not fit its status {ran.status}')
-    return found
+    return {'refusal': refusal} if refusal else read_whole(command, ran.status, lines)

@@ -27,6 +27,8 @@ class Words(argparse.ArgumentParser):
 
 def write_out(text):
     """Writes the whole answer at once, so that no refusal comes after a part of it."""
+    if sys.stdout is None:
+        raise Unwritten('it is closed')
     try:
         sys.stdout.buffer.write(text.encode('utf-8', 'surrogateescape'))
         sys.stdout.buffer.flush()
