@@ -62,6 +62,21 @@ class Words(Over):
                 self.assertIn(program, said)
 
 
+    def test_what_the_program_says(self):
+        """A line that the program says on standard error at each run is shown once."""
+        program = self.file('program', '#!/bin/sh\necho a x none\necho quiet 0\necho said >&2\n')
+        os.chmod(program, 0o755)
+        self.assertEqual(tool('routes_diff', 'p', 'n', 'p', 'n', '--program', program), (0, '', 'said\n'))
+
+    def test_standard_output_that_takes_no_more(self):
+        program = self.file('program', '#!/bin/sh\nshift\necho a x 1 $1\necho quiet 0\n')
+        os.chmod(program, 0o755)
+        words = [sys.executable, os.path.join(TOP, 'tools/routes_diff'), 'a', 'n', 'p', 'n', '--program', program]
+        with open('/dev/full', 'w') as full:
+            ran = subprocess.run(words, stdout=full, stderr=subprocess.PIPE, timeout=60)
+        self.assertEqual((ran.returncode, ran.stderr.count(b'\n')), (2, 1))
+
+
 @needs_program
 class TestPolicy(Over):
     """tools/test_policy"""
@@ -148,7 +163,7 @@ class TestPolicy(Over):
         head, row = 'policy add.raml\nnetwork diamond.net\n', 'expect a x via b\n'
         for text, line in (('network diamond.net\n', 1), (row, 1), ('policy add.raml\n' + row, 2),
                            ('policy add.raml\nnetwork diamond.net\npolicy add.raml\n' + row, 4), ('policy\n' + row, 1),
-                           (head + 'network\n', 3), (head + row + 'expct a x none\n', 4), (head + 'expect a x\n', 3),
+                           (head + 'network\n', 3), (head + 'network a\0\n', 3), (head + row + 'expct a x none\n', 4), (head + 'expect a x\n', 3),
                            (head + 'expect a x via\n', 3), (head + 'expect a x value\n', 3),
                            (head + 'expect a x value none\n', 3), (head + 'expect a x value 1 2\n', 3),
                            (head + 'expect a x value -2\n', 3), (head + 'expect a x none b\n', 3),
@@ -225,21 +240,21 @@ class WhatIf(Over):
                 'link a c down: lost 0, moved 0',
                 'link b d down: lost 1, moved 1', '  moved a x: 2 a b d -> 2 a c d', '  lost b x: 1 b d',
                 'link c d down: lost 1, moved 0', '  lost c x: 1 c d',
-                '4 failures, 1 harmless; lost 2, moved 2'])
+                'failures 4, harmless 1, lost 2, moved 2'])
 
     def test_both_directions(self):
         """A link is one failure, whichever of its arcs stands first."""
         network = 'node a b\nlink b a : 1\nlink a b : 4\norigin x at b : 0\norigin y at a : 0\n'
         self.assertEqual(self.tried(network), [
             'link b a down: lost 2, moved 0', '  lost a x: 4 a b', '  lost b y: 1 b a',
-            '1 failures, 0 harmless; lost 2, moved 0'])
+            'failures 1, harmless 0, lost 2, moved 0'])
 
     def test_nodes(self):
         self.assertEqual(self.tried(LINE, '--nodes'), [
             'node a down: lost 0, moved 0',
             'node b down: lost 1, moved 0', '  lost a x: 5 a b c',
             'node c down: lost 2, moved 0', '  lost a x: 5 a b c', '  lost b x: 3 b c',
-            '3 failures, 1 harmless; lost 3, moved 0'])
+            'failures 3, harmless 1, lost 3, moved 0'])
 
     def test_pairs(self):
         lines = self.tried(DIAMOND, '--pairs')
@@ -247,7 +262,7 @@ class WhatIf(Over):
             'links a b and a c down: lost 1, moved 0', 'links a b and b d down: lost 1, moved 1',
             'links a b and c d down: lost 2, moved 0', 'links a c and b d down: lost 2, moved 0',
             'links a c and c d down: lost 1, moved 0', 'links b d and c d down: lost 3, moved 0',
-            '6 failures, 0 harmless; lost 10, moved 1'])
+            'failures 6, harmless 0, lost 10, moved 1'])
         self.assertEqual(self.tried(LINE, '--pairs')[0], 'links a b and b c down: lost 2, moved 0')
 
     def test_changes(self):
@@ -259,11 +274,11 @@ class WhatIf(Over):
             'link a c down: lost 0, moved 1', '  moved a x: 4 a c d -> 9 a d',
             'link c d down: lost 1, moved 1', '  moved a x: 4 a c d -> 9 a d', '  lost c x: 1 c d',
             'link a d down: lost 0, moved 0',
-            '4 failures, 2 harmless; lost 1, moved 2'])
+            'failures 4, harmless 2, lost 1, moved 2'])
 
     def test_no_failures(self):
-        self.assertEqual(self.tried(''), ['0 failures, 0 harmless; lost 0, moved 0'])
-        self.assertEqual(self.tried('node a\n', '--pairs'), ['0 failures, 0 harmless; lost 0, moved 0'])
+        self.assertEqual(self.tried(''), ['failures 0, harmless 0, lost 0, moved 0'])
+        self.assertEqual(self.tried('node a\n', '--pairs'), ['failures 0, harmless 0, lost 0, moved 0'])
 
     def test_refusals(self):
         bad = self.file('bad.net', 'node a b\nlink a b : 1\nlink a b : 2\n')
