@@ -190,7 +190,7 @@ def refused_network(lines, fault, line):
     return {'kind': 'network', 'fault': fault, 'line': int(line)}
 
 
-def lacks(lines, name, listener, speaker, text):
+def missing_property(lines, name, listener, speaker, text):
     arc = {'listener': listener, 'speaker': speaker}
     return {'kind': 'property', 'property': name, 'arc': arc, 'instance': instance_of(lines, text)}
 
@@ -200,7 +200,7 @@ REFUSALS = (
     (1, r'words refused: (C\d+)', refused_words),
     (2, rf'expression refused: (X\d+) at ({NUMBER}):({NUMBER})', refused_expression),
     (2, rf'network refused: (N\d+) at line ({NUMBER})', refused_network),
-    (3, rf'({PROPERTY}) fails on ({NAME}) ({NAME}): (.+)', lacks),
+    (3, rf'({PROPERTY}) fails on ({NAME}) ({NAME}): (.+)', missing_property),
     (5, rf'read fault on the ({FILE})', lambda lines, which: {'kind': 'read', 'of': which}),
     (7, r'out of memory', lambda lines: {'kind': 'memory'}),
     (8, rf'too long: the ({FILE})', lambda lines, which: {'kind': 'length', 'of': which}),

@@ -17,7 +17,8 @@ ADD = 'main add(1..10);'
 DIAMOND = 'node a b c d\nlink a b : 1\nlink a c : 1\nlink b d : 1\nlink c d : 1\norigin x at d : 0\n'
 # Three nodes on a line, each arc in both directions.
 LINE = 'node a b c\nboth a b : 2\nboth b c : 3\norigin x at c : 0\n'
-# Each of two nodes prefers the way over the next one, which passes on its own way to z alone. No table is stable.
+# Each of p, q and r prefers the route over the next one to its own direct one, and only a direct route is passed on.
+# No table is stable.
 GADGET = 'main table { o < a < d; D: o -> d; N: d -> a };'
 BAD = ('node z p q r\nlink p z : D\nlink q z : D\nlink r z : D\nlink p q : N\nlink q r : N\nlink r p : N\n'
        'origin x at z : o\n')
@@ -135,6 +136,20 @@ class TestPolicy(Over):
         self.assertEqual(self.outcome('policy tags.raml\nnetwork tags.net\nexpect a x value ( 1, {12, 03} )\n'
                                      'expect a x value (1,{3,12})\n')[:2], (0, '2 passed, 0 failed\n'))
 
+    def test_long_numbers(self):
+        """Sums of numbers of 20 digits: 2 and 3 times 18,446,744,073,709,551,615."""
+        most = 2 ** 64 - 1
+        self.file('two.raml', f'raml 2; main add(1..{most});')
+        self.file('two.net', f'node a b c\nlink a b : {most}\nlink b c : {most}\norigin x at c : {most}\n')
+        self.assertEqual(self.outcome('policy two.raml\nnetwork two.net\nexpect a x value 55340232221128654845\n'
+                                      'expect b x value 00036893488147419103230\n')[:2], (0, '2 passed, 0 failed\n'))
+
+    def test_names_that_are_words(self):
+        """A node may be called as a word of the lines is."""
+        self.file('names.net', 'node verdict none\nlink verdict none : 1\norigin strict at none : 0\n')
+        self.assertEqual(self.outcome('policy add.raml\nnetwork names.net\nexpect verdict strict via none\n'
+                                      'expect none strict value 0\nexpect verdict strict value 1\n')[0], 0)
+
     def test_the_last_phase(self):
         self.file('cut.net', DIAMOND + 'then drop b d\n')
         self.assertEqual(self.outcome('policy add.raml\nnetwork cut.net\nexpect b x none\nexpect a x via c\n')[0], 0)
@@ -163,7 +178,9 @@ class TestPolicy(Over):
         head, row = 'policy add.raml\nnetwork diamond.net\n', 'expect a x via b\n'
         for text, line in (('network diamond.net\n', 1), (row, 1), ('policy add.raml\n' + row, 2),
                            ('policy add.raml\nnetwork diamond.net\npolicy add.raml\n' + row, 4), ('policy\n' + row, 1),
-                           (head + 'network\n', 3), (head + 'network a\0\n', 3), (head + row + 'expct a x none\n', 4), (head + 'expect a x\n', 3),
+                           (head + 'network\n', 3), (head + 'network a\0\n', 3),
+                           (head + row + 'expct a x none\n', 4), (head + 'expct verdict total yes\n', 3),
+                           (head + 'expect a x\n', 3),
                            (head + 'expect a x via\n', 3), (head + 'expect a x value\n', 3),
                            (head + 'expect a x value none\n', 3), (head + 'expect a x value 1 2\n', 3),
                            (head + 'expect a x value -2\n', 3), (head + 'expect a x none b\n', 3),
