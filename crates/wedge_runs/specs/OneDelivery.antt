@@ -25,6 +25,7 @@ module _ {S M : Type 0} (k : Kind S M) where
   taken_one nodes a i s m = stepped k (Start k nodes) a i (k.begin s).0 m []
 
   module _ (net : PureNet) (nodes : List S) (a i : ℕ) (s : S) (m : M) (h : HasOneMessage net nodes a i s m) where
+    -- what waits at the start, on that arc and on any other
     starts : (b : ℕ) → (Start k nodes).link b ≡ cond (a == b) (m ∷ []) []
     starts b = rw (h.begun) refl
 
@@ -47,6 +48,7 @@ module _ {S M : Type 0} (k : Kind S M) where
         by true e = refl
         by false e = rw (starts_there b e) refl
 
+    -- the delivery can be made
     front : front_clock k net (Start k nodes) a ≡ Some 1
     front = front_is k net (Start k nodes) a 1 (record { number = i; message = m; rest = []; listens = h.listens; front = starts_here; clock_is = sym at_one })
 

@@ -28,6 +28,7 @@ module _ (net : PureNet) (p q : PvState) (a : ℕ) (p' q' : PvState) (t : TakesO
   abbrev pub one_phase : PurePhase
   one_phase = one_delivery (node_rows net (p' ∷ q' ∷ [])) a
 
+  -- nodes of a machine where the two are p' and q' are these
   states_two : (c : Machine PvState PureUpdate) (states : List PvState) → AreNodesOf c 0 states → length states ≡ 2 → c.node 0 ≡ Some p' → c.node 1 ≡ Some q' → states ≡ p' ∷ q' ∷ []
   states_two c [] are count e f = absurd (omega arith)
   states_two c (s ∷ []) are count e f = absurd (omega arith)
@@ -49,6 +50,7 @@ module _ (net : PureNet) (p q : PvState) (a : ℕ) (p' q' : PvState) (t : TakesO
     (t.first, (t.second, tt)),
   )
 
+  -- so it is a phase, where a turn is left, and every phase that is quiet is it
   pub one_phase_is : (turns : ℕ) → 1 ≤ turns → IsPhaseOf net (p ∷ q ∷ []) turns one_phase true (p' ∷ q' ∷ [])
   one_phase_is turns few = record {
     end = taken_one path_vector (p ∷ q ∷ []) a t.taker t.state t.update;
@@ -95,6 +97,7 @@ puts_out s row same b =
     ∙ (ap (λ r. told_on (filter (λ a. cond (spoke_on s a) (not (same_row r (s.rows 0))) (is_some r)) (arcs_to s.net s.number)) (record { dest = 0; route = r; stamp = 0 }) ++ []) b.chosen
     ∙ ap (λ x. updates_by s row x ++ []) b.known)
 
+-- the two put out nothing else
 pub both_put_out : (p q : PvState) (r s : PureRoute) (x y : Bool) → Begins p r x → Begins q s y
     → begun_messages path_vector (p ∷ q ∷ []) ≡ (updates_by p r x ++ []) ++ ((updates_by q s y ++ []) ++ [])
 both_put_out p q r s x y b d =
@@ -134,6 +137,7 @@ unheard_silent s a r none =
     nothing true = refl
     nothing false = refl
 
+-- where the first node takes the one update, or the second does
 pub first_takes : (net : PureNet) (p q : PvState) (a : ℕ) (r : PureRoute) → begun_messages path_vector (p ∷ q ∷ []) ≡ (a, update_of r) ∷ [] → listener net a ≡ Some 0 → length net.nodes ≡ 2 → Takes p a r
     → TakesOne net p q a (after_taking p a r) (Begin q).0
 first_takes net p q a r begun listens count t = record {
