@@ -1,5 +1,5 @@
 -- The places of a command are places of words.
-use Rattle.std.proofs.Common.{◌≡◌, refl, nat_le, ◌&&◌, lit≤, ℕ, zero, suc, ◌<◌, ◌≤◌, ◌+◌, List, [], ◌∷◌, length, Bool, true, false, Option, Some, None, IfSome, Result, Ok, Err, IfOk, if◌then◌else◌, arith, slice_get, slice_index}
+use Rattle.std.proofs.Common.{◌≡◌, refl, nat_le, ◌&&◌, lit≤, ℕ, zero, suc, ◌<◌, ◌≤◌, ◌+◌, List, [], ◌∷◌, length, Bool, true, false, Option, Some, None, IfSome, Result, Err, IfOk, if◌then◌else◌, arith, slice_get, slice_index}
 use Rattle.std.specs.Prelude.{find}
 use Rattle.std.specs.List.{filter}
 use Rattle.std.specs.Option.{option_map, option_and_then, ok_or}
@@ -16,7 +16,7 @@ use Rattle.command_words.specs.declared.command.Required.{Required}
 use Rattle.command_words.specs.declared.usage.Flag.TheVariants.{Number}
 use Rattle.command_words.specs.declared.usage.NumberFlag.TheVariants.{Workers, Turns}
 use Rattle.command_words.specs.Usages.{usage_of, has_word, kinds}
-use Rattle.command_words.specs.Parts.{PurePart, argument, flag, is_flag, is_argument, word_of, gives, value_of, parts_from, places}
+use Rattle.command_words.specs.Parts.{PurePart, argument, flag, is_flag, is_argument, word_of, parts_from, places}
 use Rattle.command_words.specs.Words.{Words, HasItsWords, AreDemoNodes, AreWorkers, AreTurns, argument_number, greatest_nodes, greatest_seed, least_nodes, with_numbers, has_bad_flag, has_wrong_count, number_given, number_of, required_in, value_given, command_of, meaning_of}
 
 -- each place is below the bound

@@ -1,4 +1,4 @@
-use Rattle.std.proofs.Common.{rules, tests, lit<, ap, ◌∙◌, ◌≡◌, ℕ, List, length, nat_lt}
+use Rattle.std.proofs.Common.{rules, tests, lit<, ap, ◌∙◌, ◌≡◌, length, nat_lt}
 use Rattle.std.specs.List.{filter}
 use Rattle.std.specs.Str.{bytes_eq}
 use Rattle.std.proofs.lemmas.List.Sums.{length-filter}
