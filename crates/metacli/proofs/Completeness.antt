@@ -256,7 +256,7 @@ pub complete : Laws → (text : List (List ℕ)) (old new : Moment) (c : Option 
     → ComesBy text r old new c o → CompleteBy text old new o r
 complete laws text old new c o (Ok (Check file None r)) h = λ bytes t quiet.
     judged laws (word_at text file) bytes (IsAlgebraChecked r) (λ a. IsDecided o) old h.1.between new o h.1.expression h.1.reads.as_read h.1.goes_on t quiet
-    (λ a x. checked_done r a None (IsLabel a.expression) o x.1.0) (λ e a. inl (inr e))
+    (λ a x. checked_done r a None (IsLabel a.expression) o x.1) (λ e a. inl (inr e))
 complete laws text old new c o (Ok (Check file (Some net) r)) h = λ bytes net_bytes t u quiet.
     judged laws (word_at text file) bytes (IsNetworkChecked r (word_at text net)) (IsNetJudged net_bytes IsAny IsDecided o) old h.1.between new o h.1.expression h.1.reads.as_read h.1.goes_on t quiet
     (λ a x. over_network laws a (word_at text net) net_bytes IsAny IsDecided (λ f. IsCheckedAs r a (Some f) (IsOnArc (changed_net f))) old h.1.between new o h.1.reads.keeps x u quiet inl

@@ -12,7 +12,7 @@ use Rattle.net_graph.specs.declared.route.RouteRow.{RouteRow}
 use Rattle.net_graph.specs.Views.{rows_of, pure_row}
 use Rattle.metacli.specs.Outcome.{AreRoutesOn, IsFit}
 use Rattle.metacli.specs.declared.routing.Solution.{Solution}
-use Rattle.metacli.specs.declared.routing.Solution.TheVariants.{Unbeaten, Settled}
+use Rattle.metacli.specs.declared.routing.Solution.TheVariants.{Unbeaten, Settled, AllStable}
 
 -- what is made best first is beaten by no walk, or stable, by the labels, which are monotone where they are strict;
 -- stable rows are settled; and rows can be printed
@@ -47,6 +47,7 @@ routes_on Unbeaten net laws fit tables h = (
   settled_on net laws fit.0 tables h,
 )
 routes_on Settled net laws fit tables h = (rows_are net (BestFirst net) (λ dest t best. best) tables h, settled_on net laws (laws.monotone fit.0) tables h)
+routes_on AllStable net laws fit tables h = (rows_are net (BestFirst net) (λ dest t best. best) tables h, settled_on net laws fit.0 tables h)
 
 all_append : {X : Type 0} (P : X → Type 0) (xs ys : List X) → AllByRecursion P xs → AllByRecursion P ys → AllByRecursion P (xs ++ ys)
 all_append P [] ys h k = k

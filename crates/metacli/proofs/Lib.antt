@@ -9,3 +9,4 @@ mod Refused
 mod RowsBehind
 mod Written
 mod Demos
+mod Tables

@@ -178,10 +178,13 @@ abbrev pub is_failed : PureVerdict → Bool
 is_failed holds = false
 is_failed (fails x) = true
 
--- the first of the five properties that is required and fails
+-- the first of these properties that is required and fails
+abbrev pub first_unmet_of : Required → PureVerdicts → List PureProperty → Option PureProperty
+first_unmet_of r v = find (λ p. asks r p && is_failed (verdict_on v p))
+
+-- the first of the five
 abbrev pub first_unmet : Required → PureVerdicts → Option PureProperty
-first_unmet r v =
-    find (λ p. asks r p && is_failed (verdict_on v p)) (monotone ∷ strict ∷ isotone ∷ cancellative ∷ total ∷ [])
+first_unmet r v = first_unmet_of r v (monotone ∷ strict ∷ isotone ∷ cancellative ∷ total ∷ [])
 
 -- What check comes to where all was read: the verdicts, and the first required property that fails, unless memory is
 -- refused.

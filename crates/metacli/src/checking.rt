@@ -7,7 +7,7 @@ ghost use Rattle.topology_file.specs.Views.{pure_file};
 ghost use Rattle.topology_file.specs.NetText.{changed_net};
 ghost use Rattle.property_infer.specs.Views.{pure_verdicts};
 ghost use Rattle.alg_classes.specs.Instances.{pure_property};
-ghost use Rattle.metacli.specs.Outcome.{AreVerdictsOn, DecidesTables, IsCheckedAs, IsOnArc, asks, first_unmet, is_failed};
+ghost use Rattle.metacli.specs.Outcome.{AreVerdictsOn, DecidesTables, IsCheckedAs, IsOnArc, asks, first_unmet, first_unmet_of, is_failed};
 ghost use Rattle.alg_model.specs.Verdicts.{verdict_on};
 ghost use Rattle.property_infer.specs.Views.{pure_verdict};
 ghost use Rattle.metacli.specs.Views.{CanBeWritten, pure_outcome};
@@ -31,6 +31,8 @@ pub fn check(alloc: Global, alg: Alg, require: Required) -> Outcome
     ensures printable { CanBeWritten result }
 {
     monotone_verdict_decides_uniqueness();
+    // (the tree of an algebra is formed)
+    alg.tree();
     match verdicts(alloc, &alg) {
         Ok(verdicts) => {
             let unmet = first_unmet(require, &verdicts);
@@ -79,8 +81,24 @@ pub fn check_network(alloc: Global, alg: Alg, file: NetFile, require: Required) 
 fn first_unmet(require: Required, verdicts: &Verdicts) -> Option<Property>
     ensures { option_map pure_property result ≡ first_unmet require (pure_verdicts verdicts.now) }
 {
-    Property::ALL.iter().copied().find(|property| asks(require, *property)
-        && is_failed(verdicts.on(*property)))
+    first_unmet_of(require, verdicts, &Property::ALL)
+}
+
+// The first of these.
+fn first_unmet_of(
+    require: Required,
+    verdicts: &Verdicts,
+    properties: &[Property],
+) -> Option<Property>
+    ensures { option_map pure_property result ≡
+        first_unmet_of require (pure_verdicts verdicts.now) (map pure_property properties.now) }
+{
+    let (property, rest) = properties.split_first()?;
+    if asks(require, *property) && is_failed(verdicts.on(*property)) {
+        Some(*property)
+    } else {
+        first_unmet_of(require, verdicts, rest)
+    }
 }
 
 // Whether the property is required.

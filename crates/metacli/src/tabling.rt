@@ -31,7 +31,7 @@ pub(crate) fn put_tables<K: Sink>(
     if dest == net.dest_count() {
         return Ok(());
     }
-    let (table, rest) = rows.split_at(rows.len().min(net.node_count()));
+    let (table, rest) = rows.split_at(net.node_count().min(rows.len()));
     put_line(out, stable_line(alloc, net, DestId(dest as u32), ONE_TABLE))?;
     put_line(out, table_line(alloc, ONE_TABLE))?;
     put_rows(alloc, out, net, table)?;
