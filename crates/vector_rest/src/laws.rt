@@ -38,8 +38,8 @@ pub fn updates_are_read()
 {}
 
 /// So a replay from any coherent machine has no more deliveries than are left there, in whatever order they are made:
-/// that path-vector protocols come to rest where labels are monotone is Sobrinho's (2005), the falling sum and its bound
-/// are this project's own.
+/// that path-vector protocols come to rest where labels are monotone is Sobrinho's (2005), the falling sum and its
+/// bound are this project's own.
 pub fn vector_runs_end()
     ensures { (net : PureNet) (start c : Machine PvState PureUpdate) (journal : List Delivery) → IsNet net
         → NetHas monotone net → IsCoherent net start → IsRunning path_vector net start
@@ -78,8 +78,8 @@ pub fn enough_deliveries_drain()
 {}
 
 /// The values that levels are counted by: each occurs once in the list and is in the carrier, and the route of each row
-/// of each machine that the start leads to has one of them, with a path of at most as many nodes as the network has. For
-/// this, labels need not be monotone.
+/// of each machine that the start leads to has one of them, with a path of at most as many nodes as the network has.
+/// For this, labels need not be monotone.
 pub fn rows_occur()
     ensures once { (net : PureNet) (start : Machine PvState PureUpdate) (dest : ℕ)
         → AreDistinct same_value (values_from net start dest) }
