@@ -9,4 +9,5 @@ mod run;
 pub use laws::{
     enough_turns_are_quiet, phases_are_of_networks, quiet_phases_are_stable, runs_are_short,
 };
+pub use nodes::carried_nodes;
 pub use run::{Phase, Run, run_phases};
