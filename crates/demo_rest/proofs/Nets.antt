@@ -10,7 +10,7 @@ use Rattle.std.proofs.lemmas.Slice.Eq.{bytes_eq-Decides}
 use Rattle.alg_model.specs.Formation.{IsAlg}
 use Rattle.net_graph.specs.Nets.{PureArc, PureNet, IsNet, IsArcOf, AreDistinct, AreNumbered, is_name, joins_same}
 use Rattle.net_gen.specs.declared.links.Link.{Link}
-use Rattle.net_gen.specs.Generated.{AreDemoNodes, node_name, links_of, links_to}
+use Rattle.net_gen.specs.Generated.{AreDemoNodes, Drawn, node_name, links_of, links_to}
 use Rattle.net_gen.specs.Networks.{demo_alg, arcs_of, node_names, generated_net}
 use Rattle.net_gen.proofs.Names.{node_is_name}
 use Rattle.net_gen.proofs.NodeLinks.{IsLinkOf, each_links, all_append, all_links, few_links}
@@ -84,7 +84,7 @@ unfolding links_to
 links_apart seed zero = tt
 links_apart seed (suc k) = distinct_join before.links more (links_apart seed k) here there
   where
-    before : _
+    before : Drawn
     before = links_to seed k
 
     more : List Link
