@@ -8,3 +8,7 @@ use Rattle.std.specs.Prelude.{ℕ}
 
 abbrev pub most_demo_deliveries : ℕ
 most_demo_deliveries = 6223
+
+-- and how many `demo` lets them make
+abbrev pub demo_turns : ℕ
+demo_turns = 100000

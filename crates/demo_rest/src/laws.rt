@@ -1,10 +1,30 @@
-ghost use Rattle.std.specs.Prelude.{ℕ};
+ghost use Rattle.std.specs.Prelude.{◌≡◌, ◌<◌, ◌≤◌, ℕ, Bool, true, List, [], Some, length};
+ghost use Rattle.meta_base.specs.declared.ids.Delivery.{Delivery};
 ghost use Rattle.net_graph.specs.Nets.{IsNet};
+ghost use Rattle.node_core.specs.Machine.{Machine, Replay};
+ghost use Rattle.path_vector.specs.Node.{PvState, PureUpdate, path_vector};
+ghost use Rattle.vector_runs.specs.Runs.{PurePhase, IsRun, new_nodes};
 ghost use Rattle.net_gen.specs.Generated.{AreDemoNodes};
 ghost use Rattle.net_gen.specs.Networks.{generated_net};
+ghost use Rattle.demo_rest.specs.Most.{most_demo_deliveries, demo_turns};
 
-/// The network of a generated text keeps the rules of networks.
-#[tactic(auto, using(crate::proofs::Nets::generated_is_net))]
+/// A generated network keeps the rules of networks.
 pub fn generated_nets_are_nets()
     ensures { (seed n : ℕ) → AreDemoNodes n → IsNet (generated_net seed n) }
+{}
+
+/// Whatever deliveries the new nodes of a generated network make, in whatever order, there are no more of them than
+/// that: the groups of nodes are without a cycle, and each arc has room for twice what the arcs before it have.
+pub fn generated_runs_are_short()
+    ensures { (seed n : ℕ) (journal : List Delivery) (c : Machine PvState PureUpdate) → AreDemoNodes n
+        → Replay path_vector (generated_net seed n) (new_nodes (generated_net seed n)) journal ≡ Some c
+        → length journal ≤ most_demo_deliveries }
+{}
+
+/// So a run of these nodes with more turns than that is quiet, and one with the turns of `demo` is.
+pub fn generated_runs_are_quiet()
+    ensures turns { (seed n turns : ℕ) (last : PurePhase) (quiet : Bool) → AreDemoNodes n
+        → most_demo_deliveries < turns → IsRun (generated_net seed n) [] turns [] last quiet → quiet ≡ true }
+    ensures demo { (seed n : ℕ) (last : PurePhase) (quiet : Bool) → AreDemoNodes n
+        → IsRun (generated_net seed n) [] demo_turns [] last quiet → quiet ≡ true }
 {}

@@ -1,7 +1,7 @@
-//! The nodes of a generated network come to rest within the turns that `demo` gives them. It stands on `rest_laws`,
-//! `path_vector` and `net_gen`; it runs no node.
+//! The nodes of a generated network come to rest within the turns that `demo` gives them, whatever their schedule. It
+//! stands on `rest_laws`, `vector_runs` and `net_gen`; it runs no node.
 #![tactic(auto)]
 
 mod laws;
 
-pub use laws::{generated_nets_are_nets};
+pub use laws::{generated_nets_are_nets, generated_runs_are_quiet, generated_runs_are_short};
