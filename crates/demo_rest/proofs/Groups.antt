@@ -1,11 +1,11 @@
 -- The groups of generated nodes: who listens to whom, and how many links there are by group.
-use Rattle.std.proofs.Common.{◌≡◌, ◌≢◌, ℕ, zero, suc, ◌+◌, ◌-◌, ◌*◌, ◌^◌, ◌/◌, ◌%◌, ◌<◌, ◌≤◌, ◌⊎◌, inl, inr, Bool, true, false, ◌==◌, cond, List, [], ◌∷◌, ◌++◌, length, refl, subst, sym, ap, ◌∙◌, arith}
+use Rattle.std.proofs.Common.{◌≡◌, ℕ, zero, suc, ◌+◌, ◌-◌, ◌*◌, ◌^◌, ◌/◌, ◌%◌, ◌<◌, ◌≤◌, ◌⊎◌, inl, inr, Bool, true, false, ◌==◌, cond, List, [], ◌∷◌, ◌++◌, refl, subst, sym, ap, arith}
 use Rattle.std.specs.List.{AllByRecursion}
-use Rattle.std.proofs.lemmas.Bool.{eqb-true, eqb-false}
+use Rattle.std.proofs.lemmas.Bool.{eqb-true}
 use Rattle.std.proofs.lemmas.Bool.Decides.{nat_tests}
 use Rattle.net_gen.specs.declared.links.Link.{Link}
 use Rattle.net_gen.specs.Draws.{next, drawn}
-use Rattle.net_gen.specs.Generated.{Drawn, group, speaker, hub_link, link, apart_from, links_of, links_to}
+use Rattle.net_gen.specs.Generated.{Drawn, group, hub_link, link, apart_from, links_of, links_to}
 use Rattle.net_gen.proofs.NodeLinks.{all_append}
 use Rattle.demo_rest.proofs.Sums.{summed, summed_join}
 

@@ -1,5 +1,5 @@
 -- A generated network is a network.
-use Rattle.std.proofs.Common.{◌≡◌, ℕ, zero, suc, ◌+◌, ◌-◌, ◌*◌, ◌<◌, ◌≤◌, Bool, true, false, ◌&&◌, ◌==◌, List, [], ◌∷◌, ◌++◌, length, map, refl, sym, subst, ap, ◌∙◌, arith}
+use Rattle.std.proofs.Common.{◌≡◌, ℕ, zero, suc, ◌+◌, ◌-◌, ◌<◌, ◌≤◌, Bool, true, false, ◌&&◌, ◌==◌, List, [], ◌∷◌, ◌++◌, length, map, refl, sym, subst, arith}
 use Rattle.std.specs.Prelude.{decimal}
 use Rattle.std.specs.List.{AllByRecursion, range_with_len}
 use Rattle.std.specs.Str.{bytes_eq}
@@ -8,7 +8,7 @@ use Rattle.std.proofs.lemmas.Fmt.{decimal_injective}
 use Rattle.std.proofs.lemmas.List.FromFn.{length-map-range_with_len}
 use Rattle.std.proofs.lemmas.Slice.Eq.{bytes_eq-Decides}
 use Rattle.alg_model.specs.Formation.{IsAlg}
-use Rattle.net_graph.specs.Nets.{PureArc, PureNet, IsNet, IsArcOf, AreDistinct, AreNumbered, is_name, joins_same}
+use Rattle.net_graph.specs.Nets.{PureArc, IsNet, IsArcOf, AreDistinct, AreNumbered, is_name, joins_same}
 use Rattle.net_gen.specs.declared.links.Link.{Link}
 use Rattle.net_gen.specs.Generated.{AreDemoNodes, Drawn, node_name, links_of, links_to}
 use Rattle.net_gen.specs.Networks.{demo_alg, arcs_of, node_names, generated_net}

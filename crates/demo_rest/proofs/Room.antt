@@ -1,8 +1,8 @@
 -- Each arc of a generated network has room for its deliveries.
-use Rattle.std.proofs.Common.{◌≡◌, ℕ, zero, suc, ◌+◌, ◌-◌, ◌*◌, ◌^◌, ◌<◌, ◌≤◌, ◌⊎◌, inl, inr, Bool, true, false, ◌==◌, cond, List, [], ◌∷◌, Option, Some, None, length, map, slice_get, refl, sym, ap, ◌∙◌, arith}
+use Rattle.std.proofs.Common.{◌≡◌, ℕ, zero, suc, ◌+◌, ◌-◌, ◌*◌, ◌^◌, ◌≤◌, ◌⊎◌, inl, inr, Bool, true, false, ◌==◌, cond, List, [], ◌∷◌, Option, Some, None, length, map, slice_get, refl, sym, ap, ◌∙◌, arith}
 use Rattle.std.specs.List.{AllByRecursion, range_with_len}
 use Rattle.std.specs.Option.{option_map_or}
-use Rattle.std.proofs.lemmas.Bool.{eqb-true, eqb-false}
+use Rattle.std.proofs.lemmas.Bool.{eqb-true}
 use Rattle.std.proofs.lemmas.Bool.Decides.{nat_tests}
 use Rattle.std.proofs.Math.Nat.{pow-succ'}
 use Rattle.std.proofs.lemmas.Nat.{pow_pos}
@@ -11,13 +11,13 @@ use Rattle.node_core.specs.Kinds.{speaker}
 use Rattle.node_core.specs.Machine.{Start}
 use Rattle.path_vector.specs.Items.{item_at, item_there, of_all}
 use Rattle.path_vector.specs.Node.{new_node, path_vector}
-use Rattle.rest_laws.specs.Ways.{total, over_arcs, passes_on}
+use Rattle.rest_laws.specs.Ways.{over_arcs, passes_on}
 use Rattle.rest_laws.specs.WayLaws.{total_more}
 use Rattle.rest_laws.specs.Reach.{HasRoom}
 use Rattle.net_gen.specs.declared.links.Link.{Link}
 use Rattle.net_gen.specs.Generated.{AreDemoNodes, group, links_to}
 use Rattle.net_gen.specs.Networks.{arcs_of, generated_net}
-use Rattle.demo_rest.proofs.Groups.{IsFromBelow, taken_by_group, room_at, room_if, room_to, all_below, all_room, room_more, room_of_all, none_to, some_to}
+use Rattle.demo_rest.proofs.Groups.{taken_by_group, room_at, room_if, room_to, all_below, all_room, room_more, room_of_all, none_to, some_to}
 use Rattle.demo_rest.proofs.Starts.{waits_of, begun_few}
 use Rattle.demo_rest.proofs.Sums.{summed, total_listed, arcs_summed}
 

@@ -1,18 +1,16 @@
 -- What waits on the arcs of a generated network at the start: one message on each arc of the first two nodes.
-use Rattle.std.proofs.Common.{◌≡◌, ℕ, zero, suc, ◌+◌, ◌<◌, ◌≤◌, Bool, true, false, ◌==◌, cond, List, [], ◌∷◌, ◌++◌, Option, Some, None, length, map, length-append, refl, sym, ap, ◌∙◌, arith}
-use Rattle.std.specs.Prelude.{filter, is_some, option_and_then}
+use Rattle.std.proofs.Common.{◌≡◌, ℕ, zero, suc, ◌+◌, ◌<◌, ◌≤◌, Bool, true, false, ◌==◌, cond, List, [], ◌∷◌, ◌++◌, Some, None, length, map, length-append, refl, sym, ap, ◌∙◌, arith}
+use Rattle.std.specs.Prelude.{filter, option_and_then}
 use Rattle.std.specs.List.{filter_map, range_with_len}
 use Rattle.std.proofs.lemmas.Bool.{eqb-true, eqb-false}
 use Rattle.std.proofs.lemmas.Bool.Decides.{nat_tests}
 use Rattle.std.proofs.lemmas.List.{append-nil}
 use Rattle.std.proofs.lemmas.Option.{same_Some}
 use Rattle.net_graph.specs.Nets.{PureArc, PureNet, IsNet, arcs_from, arcs_to, origin_value}
-use Rattle.net_graph.specs.Routes.{PureRoute}
-use Rattle.net_graph.specs.Tables.{carrier}
 use Rattle.node_core.specs.Kinds.{on_arc, speaker}
 use Rattle.node_core.specs.Machine.{AreUnbegun, begun_messages}
 use Rattle.node_core.specs.MachineLaws.{on_arc_join, on_arc_none}
-use Rattle.path_vector.specs.Node.{PvState, PureUpdate, Begin, all_begun_updates, begun_updates, best_of, choice, is_news, new_node, offer_by, offers_to, own_offers, path_vector, told_on}
+use Rattle.path_vector.specs.Node.{PvState, Begin, all_begun_updates, begun_updates, choice, is_news, new_node, offer_by, path_vector}
 use Rattle.path_vector.specs.Lawful.{path_vector_is_lawful}
 use Rattle.path_vector.specs.Telling.{told_at_most_once}
 use Rattle.net_gen.specs.Networks.{generated_net}
