@@ -1,2 +1,4 @@
 pub mod Tested
 pub mod Choices
+pub mod Turns
+pub mod Rounds
