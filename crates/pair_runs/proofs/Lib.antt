@@ -2,3 +2,4 @@ pub mod Tested
 pub mod Choices
 pub mod Turns
 pub mod Rounds
+pub mod Bounded

@@ -2,11 +2,17 @@ ghost use Rattle.std.specs.Prelude.{ℕ};
 ghost use Rattle.alg_model.specs.Expressions.{PureAlg, PureLabel, PureValue};
 ghost use Rattle.alg_model.specs.Formation.{IsAlg};
 ghost use Rattle.settled_laws.specs.Pair.{pair_net, Fits, Improves};
-ghost use Rattle.pair_runs.specs.Unfinished.{HasUnfinishedRun};
+ghost use Rattle.settled_laws.specs.UniqueTables.{LabelsAreMonotone};
+ghost use Rattle.pair_runs.specs.Unfinished.{HasUnfinishedRun, AllRunsAreBounded};
 
 /// Where the label makes the value better, the new nodes of the pair can make any number of deliveries: where they take
 /// turns, each goes over to the other's route and back again, as the other does the same.
 pub fn improving_pair_never_rests()
     ensures { (alg : PureAlg) (l : PureLabel) (v w : PureValue) (count : ℕ) → IsAlg alg → Fits alg l v
         → Improves alg l v w → HasUnfinishedRun (pair_net alg l v) count }
+{}
+
+/// So where the runs of new nodes are bounded on every network over an algebra, all its labels are monotone.
+pub fn bounded_runs_need_monotone_labels()
+    ensures { (alg : PureAlg) → IsAlg alg → AllRunsAreBounded alg → LabelsAreMonotone alg }
 {}

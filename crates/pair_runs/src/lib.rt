@@ -4,4 +4,4 @@
 
 mod laws;
 
-pub use laws::improving_pair_never_rests;
+pub use laws::{bounded_runs_need_monotone_labels, improving_pair_never_rests};
