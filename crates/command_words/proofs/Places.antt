@@ -1,5 +1,5 @@
 -- The places of a command are places of words.
-use Rattle.std.proofs.Common.{◌≡◌, refl, nat_le, ◌&&◌, lit≤, ℕ, zero, suc, ◌<◌, ◌≤◌, ◌+◌, List, [], ◌∷◌, length, Bool, true, false, Option, Some, None, IfSome, Err, IfOk, if◌then◌else◌, arith, slice_get, slice_index}
+use Rattle.std.proofs.Common.{◌≡◌, refl, nat_le, ◌&&◌, lit≤, ℕ, zero, suc, ◌<◌, ◌≤◌, ◌+◌, List, [], ◌∷◌, length, Bool, true, false, Option, Some, None, IfSome, Result, Err, IfOk, if◌then◌else◌, arith, slice_get, slice_index}
 use Rattle.std.specs.Prelude.{find}
 use Rattle.std.specs.List.{filter}
 use Rattle.std.specs.Option.{option_map, option_and_then, ok_or}
@@ -9,12 +9,15 @@ use Rattle.command_words.specs.Numbers.{is_number, number_within}
 use Rattle.command_words.specs.declared.command.Command.{Command}
 use Rattle.command_words.specs.declared.usage.Kind.{Kind}
 use Rattle.command_words.specs.declared.usage.Kind.TheVariants as kind
-use Rattle.command_words.specs.declared.command.Command.TheVariants.{Route, Run, Trace, Demo}
-use Rattle.command_words.specs.declared.command.WordsFault.TheVariants.{BadFlag, WrongCount, BadNumber}
-use Rattle.command_words.specs.declared.usage.Flag.TheVariants.{Workers, Turns}
+use Rattle.command_words.specs.declared.command.Command.TheVariants.{Check, Route, Run, Trace, Demo}
+use Rattle.command_words.specs.declared.command.WordsFault.TheVariants.{BadFlag, WrongCount, BadNumber, BadList}
+use Rattle.command_words.specs.declared.command.WordsFault.{WordsFault}
+use Rattle.command_words.specs.declared.command.Required.{Required}
+use Rattle.command_words.specs.declared.usage.Flag.TheVariants.{Number}
+use Rattle.command_words.specs.declared.usage.NumberFlag.TheVariants.{Workers, Turns}
 use Rattle.command_words.specs.Usages.{usage_of, has_word, kinds}
-use Rattle.command_words.specs.Parts.{PurePart, argument, flag, is_flag, is_argument, word_of, gives, value_of, parts_from, places}
-use Rattle.command_words.specs.Words.{Words, HasItsWords, AreDemoNodes, AreWorkers, AreTurns, argument_number, greatest_nodes, greatest_seed, least_nodes, with_numbers, has_bad_flag, has_wrong_count, number_given, number_of, command_of, meaning_of}
+use Rattle.command_words.specs.Parts.{PurePart, argument, flag, is_flag, is_argument, word_of, parts_from, places}
+use Rattle.command_words.specs.Words.{Words, HasItsWords, AreDemoNodes, AreWorkers, AreTurns, argument_number, greatest_nodes, greatest_seed, least_nodes, with_numbers, has_bad_flag, has_wrong_count, number_given, number_of, required_in, value_given, command_of, meaning_of}
 
 -- each place is below the bound
 abbrev AllBelow : ℕ → List ℕ → Type 0
@@ -74,33 +77,45 @@ nodes_bounded parts = of (slice_get (filter is_argument parts) 1)
 -- what holds of all that is made of good numbers holds of what these parts make
 with_good_numbers : {X : Type 0} (make : ℕ → ℕ → X) (P : X → Type 0) (parts : List PurePart) → ((workers turns : ℕ) → AreWorkers workers → AreTurns turns → P (make workers turns)) → IfSome (with_numbers make parts) P
 with_good_numbers {X = X} make P parts all =
-    by (number_of Workers parts) (number_of Turns parts) (given_bounded (option_and_then value_of (find (gives Workers) parts))) (turns_bounded (option_and_then value_of (find (gives Turns) parts)))
+    by (number_of Workers parts) (number_of Turns parts) (given_bounded (value_given (Number Workers) parts)) (turns_bounded (value_given (Number Turns) parts))
   where
     by : (w t : Option ℕ) → IfSome w AreWorkers → IfSome t AreTurns → IfSome (option_and_then (λ workers. option_map (make workers) t) w) P
     by None t h i = tt
     by (Some w) None h i = tt
     by (Some w) (Some t) h i = all w t h i
 
-command_of_below : (words : List (List ℕ)) (k : Kind) (parts : List PurePart) → 0 < length words → AllBelow (length words) (places parts) → IfSome (command_of k parts) (HasItsWords words)
-command_of_below words kind.Check parts some below = (below_at (length words) (places parts) 0 some below, below_get (length words) (places parts) 1 below)
+-- what holds of a value holds of it too where a fault stands for the one that is missing
+or_fault : {X : Type 0} (o : Option X) (P : X → Type 0) (fault : WordsFault) → IfSome o P → IfOk (ok_or o fault) P
+or_fault None P fault h = tt
+or_fault (Some x) P fault h = h
+
+command_of_below : (words : List (List ℕ)) (k : Kind) (parts : List PurePart) → 0 < length words → AllBelow (length words) (places parts) → IfOk (command_of k parts) (HasItsWords words)
+command_of_below words kind.Check parts some below =
+    by (required_in parts)
+  where
+    by : (o : Option Required) → IfOk (ok_or (option_map (Check (slice_index (places parts) 0) (slice_get (places parts) 1)) o) BadList) (HasItsWords words)
+    by None = tt
+    by (Some require) = (below_at (length words) (places parts) 0 some below, below_get (length words) (places parts) 1 below)
 command_of_below words kind.Code parts some below = (below_at (length words) (places parts) 0 some below, below_get (length words) (places parts) 1 below)
 command_of_below words kind.Route parts some below =
-    by (number_of Workers parts) (given_bounded (option_and_then value_of (find (gives Workers) parts)))
+    by (number_of Workers parts) (given_bounded (value_given (Number Workers) parts))
   where
-    by : (n : Option ℕ) → IfSome n AreWorkers → IfSome (option_map (Route (slice_index (places parts) 0) (slice_index (places parts) 1)) n) (HasItsWords words)
+    by : (n : Option ℕ) → IfSome n AreWorkers → IfOk (ok_or (option_map (Route (slice_index (places parts) 0) (slice_index (places parts) 1)) n) BadNumber) (HasItsWords words)
     by None h = tt
     by (Some n) h = (below_at (length words) (places parts) 0 some below, below_at (length words) (places parts) 1 some below, h)
-command_of_below words kind.Run parts some below =
-    with_good_numbers (Run (slice_index (places parts) 0) (slice_index (places parts) 1)) (HasItsWords words) parts
-    (λ workers turns h i. (below_at (length words) (places parts) 0 some below, below_at (length words) (places parts) 1 some below, h, i))
-command_of_below words kind.Trace parts some below =
-    with_good_numbers (Trace (slice_index (places parts) 0) (slice_index (places parts) 1)) (HasItsWords words) parts
-    (λ workers turns h i. (below_at (length words) (places parts) 0 some below, below_at (length words) (places parts) 1 some below, h, i))
 command_of_below words kind.Settle parts some below = (below_at (length words) (places parts) 0 some below, below_at (length words) (places parts) 1 some below)
+command_of_below words kind.Stable parts some below = (below_at (length words) (places parts) 0 some below, below_at (length words) (places parts) 1 some below)
+command_of_below words kind.Run parts some below =
+    or_fault _ (HasItsWords words) BadNumber (with_good_numbers (Run (slice_index (places parts) 0) (slice_index (places parts) 1)) (HasItsWords words) parts
+    (λ workers turns h i. (below_at (length words) (places parts) 0 some below, below_at (length words) (places parts) 1 some below, h, i)))
+command_of_below words kind.Trace parts some below =
+    or_fault _ (HasItsWords words) BadNumber (with_good_numbers (Trace (slice_index (places parts) 0) (slice_index (places parts) 1)) (HasItsWords words) parts
+    (λ workers turns h i. (below_at (length words) (places parts) 0 some below, below_at (length words) (places parts) 1 some below, h, i)))
+command_of_below words kind.Gadget parts some below = below_at (length words) (places parts) 0 some below
 command_of_below words kind.Demo parts some below =
     by (argument_number 0 greatest_seed 0 parts) (argument_number least_nodes greatest_nodes 1 parts) (nodes_bounded parts)
   where
-    by : (seed nodes : Option ℕ) → IfSome nodes AreDemoNodes → IfSome (option_and_then (λ s. option_map (Demo s) nodes) seed) (HasItsWords words)
+    by : (seed nodes : Option ℕ) → IfSome nodes AreDemoNodes → IfOk (ok_or (option_and_then (λ s. option_map (Demo s) nodes) seed) BadNumber) (HasItsWords words)
     by None nodes h = tt
     by (Some s) None h = tt
     by (Some s) (Some n) h = h
@@ -110,11 +125,10 @@ meaning_of_below words None parts some below = tt
 meaning_of_below words (Some k) parts some below =
     by (has_bad_flag (usage_of k).flags parts) (has_wrong_count (usage_of k) parts) (command_of k parts) (command_of_below words k parts some below)
   where
-    by : (bad wrong : Bool) (o : Option Command) → IfSome o (HasItsWords words) → IfOk (if bad then Err BadFlag else (if wrong then Err WrongCount else ok_or o BadNumber)) (HasItsWords words)
-    by true wrong o h = tt
-    by false true o h = tt
-    by false false None h = tt
-    by false false (Some c) h = h
+    by : (bad wrong : Bool) (r : Result Command WordsFault) → IfOk r (HasItsWords words) → IfOk (if bad then Err BadFlag else (if wrong then Err WrongCount else r)) (HasItsWords words)
+    by true wrong r h = tt
+    by false true r h = tt
+    by false false r h = h
 
 pub words_have_places : (words : List (List ℕ)) → IfOk (Words words) (HasItsWords words)
 unfolding Words

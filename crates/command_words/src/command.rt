@@ -4,11 +4,14 @@ ghost use Rattle.command_words.specs.Words.{words_fault_number};
 /// What the program is asked to do. Its files are places in the words, where their names stand.
 #[derive(Clone, Copy, Debug, PartialEq, Eq)]
 pub enum Command {
-    /// `check FILE [NET]` asks which of the five properties the algebra of an expression file has, or, with a
-    /// network file, the labels on its arcs.
+    /// `check FILE [NET] [--require LIST]` asks which of the five properties the algebra of an expression file has,
+    /// or, with a network file, the labels on its arcs. LIST names the properties that have to hold: one or more of
+    /// `monotone`, `strict`, `isotone`, `cancellative` and `total`, separated by commas, none twice. Where the words
+    /// don't say, none has to hold.
     Check {
         file: usize,
         net: Option<usize>,
+        require: Required,
     },
     /// `code FILE [NET]` asks for the compiled code of the order of the algebra of an expression file, and, with a
     /// network file, of the label on each of its arcs.
@@ -29,6 +32,11 @@ pub enum Command {
         file: usize,
         net: usize,
     },
+    /// `stable FILE NET` asks for the stable tables of each destination of a network file.
+    Stable {
+        file: usize,
+        net: usize,
+    },
     /// `run FILE NET [--workers W] [--turns N]` asks for the routes that path-vector nodes come to, phase by phase,
     /// run by so many workers, as for `route`, with so many turns for all phases: 0 to 1,000,000, and 100,000
     /// where the words don't say.
@@ -45,6 +53,11 @@ pub enum Command {
         workers: u32,
         turns: u64,
     },
+    /// `gadget FILE` asks for a network of two routers on which the policy of an expression file, if it isn't
+    /// monotone, has two stable states.
+    Gadget {
+        file: usize,
+    },
     /// `demo SEED N` asks for a summary of what the nodes of a generated network come to, of 2 to 512 nodes, which
     /// the seed and this number determine.
     Demo {
@@ -53,8 +66,24 @@ pub enum Command {
     },
 }
 
-/// What is wrong with the words of a command line. Of several faults the one told is the first in this order:
-/// `NoCommand`, `UnknownCommand`, `BadFlag`, `WrongCount`, `BadNumber`.
+/// Which of the five properties of labels have to hold.
+#[derive(Clone, Copy, Debug, Default, PartialEq, Eq)]
+pub struct Required {
+    /// No label's image is preferred to the value.
+    pub monotone: bool,
+    /// Each value is preferred to a label's image.
+    pub strict: bool,
+    /// Each label keeps the order of values.
+    pub isotone: bool,
+    /// No label makes values equivalent that weren't.
+    pub cancellative: bool,
+    /// No label prohibits a value.
+    pub total: bool,
+}
+
+/// What is wrong with the words of a command line. Of several faults the one reported is the first in this order:
+/// `NoCommand`, `UnknownCommand`, `BadFlag`, `WrongCount`, then `BadNumber` or `BadList`. No command has both numbers
+/// and a list.
 #[derive(Clone, Copy, Debug, PartialEq, Eq)]
 pub enum WordsFault {
     /// There are no words; printed as C1.
@@ -67,10 +96,13 @@ pub enum WordsFault {
     BadNumber,
     /// The command doesn't have a flag, or it is given twice; printed as C5.
     BadFlag,
+    /// The list of `--require` isn't one or more of the five words, separated by commas, or has one of them twice;
+    /// printed as C6.
+    BadList,
 }
 
 impl WordsFault {
-    /// The number that stands behind the C of a printed fault.
+    /// The number that stands after the C of a printed fault.
     pub fn number(self) -> u8
         ensures { result ≡ words_fault_number self }
     {
@@ -80,6 +112,7 @@ impl WordsFault {
             WordsFault::WrongCount => 3,
             WordsFault::BadNumber => 4,
             WordsFault::BadFlag => 5,
+            WordsFault::BadList => 6,
         }
     }
 }

@@ -3,10 +3,11 @@
 #![tactic(auto)]
 
 mod command;
+mod list;
 mod number;
 mod parts;
 mod reading;
 mod usage;
 
-pub use command::{Command, WordsFault};
+pub use command::{Command, Required, WordsFault};
 pub use reading::read_words;

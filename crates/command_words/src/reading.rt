@@ -1,13 +1,19 @@
-ghost use Rattle.std.specs.Prelude.{◌≡◌, ◌≤◌, Some, IfOk, IfSome, length, slice_get, option_map, option_and_then, find};
+ghost use Rattle.std.specs.Prelude.{◌≡◌, ◌≤◌, ◌<◌, Some, IfOk, length, slice_get, slice_index, option_map};
+ghost use Rattle.std.specs.Option.{ok_or};
 ghost use Rattle.std.specs.List.{list_any, filter};
-ghost use Rattle.command_words.specs.Parts.{parts_from, places, word_of, is_argument, lacks_value, gives, is_unknown, value_of};
+ghost use Rattle.command_words.specs.Parts.{parts_from, places, word_of, is_argument, lacks_value, is_unknown};
 ghost use Rattle.command_words.specs.Usages.{pure_usage, usage_of, limits_of};
-ghost use Rattle.command_words.specs.Words.{Words, HasItsWords, command_of, has_bad_flag, has_wrong_count, is_repeated, meaning_of, argument_number, number_of};
+ghost use Rattle.command_words.specs.Words.{Words, HasItsWords, command_of, has_bad_flag, has_wrong_count, is_repeated, meaning_of, argument_number, number_of, required_in, value_given, with_numbers};
+ghost use Rattle.command_words.specs.declared.command.Command.TheVariants.{Check, Route, Run, Trace};
+ghost use Rattle.command_words.specs.declared.command.WordsFault.TheVariants.{BadList, BadNumber};
+ghost use Rattle.command_words.specs.declared.usage.NumberFlag.TheVariants.{Workers};
+ghost use Rattle.command_words.specs.declared.usage.Kind.TheVariants.{Demo};
 
+use crate::list::required_of;
 use crate::number::number_within;
 use crate::parts::{Part, Parts};
-use crate::usage::{Flag, Kind, Usage};
-use crate::{Command, WordsFault};
+use crate::usage::{Flag, Kind, NumberFlag, Usage};
+use crate::{Command, Required, WordsFault};
 use meta_base::Text;
 
 // How many nodes a generated network may have.
@@ -19,7 +25,8 @@ const GREATEST_NODES: u64 = 512;
 ///
 /// The first word is the command. Of the rest, from left to right, a word that begins with `--` is a flag and
 /// takes the next word as its value, whatever that is; every other word is an argument. A number is 1 to 20
-/// ASCII digits, which may begin with zeros. Faults are looked for in the order that [`WordsFault`] tells.
+/// ASCII digits, which may begin with zeros. A list is one or more words, separated by commas, none twice.
+/// Faults are looked for in the order that [`WordsFault`] gives.
 #[tactic(auto, unfolding(crate::specs::Words::Words))]
 pub fn read_words(words: &[Text]) -> Result<Command, WordsFault>
     ensures command { result ≡ Words words.now }
@@ -32,7 +39,7 @@ pub fn read_words(words: &[Text]) -> Result<Command, WordsFault>
     }
 }
 
-// The command of this kind with these words behind it, or the first fault in them.
+// The command of this kind with these words after it, or the first fault in them.
 fn meaning_of(kind: Kind, rest: &[Text]) -> Result<Command, WordsFault>
     ensures { result ≡ meaning_of (Some kind) (parts_from 1 rest.now) }
 {
@@ -43,7 +50,7 @@ fn meaning_of(kind: Kind, rest: &[Text]) -> Result<Command, WordsFault>
     if has_wrong_count(&usage, rest) {
         return Err(WordsFault::WrongCount);
     }
-    command_of(kind, rest).ok_or(WordsFault::BadNumber)
+    command_of(kind, rest)
 }
 
 // Whether a flag is none of these, or one of these is given more than once.
@@ -104,50 +111,101 @@ fn argument(rest: &[Text], number: usize) -> Option<usize>
         .nth(number)
 }
 
-// The command that these words make, unless a number of it is bad.
-fn command_of(kind: Kind, rest: &[Text]) -> Option<Command>
+// The place of the argument with this number, from 0, which is given.
+fn given_argument(rest: &[Text], number: usize) -> usize
+    requires { number < length (places (parts_from 1 rest.now)) }
+    ensures { result ≡ slice_index (places (parts_from 1 rest.now)) number }
+{
+    argument(rest, number).unwrap()
+}
+
+// The command that these words make, or the fault of a number or a list among them.
+fn command_of(kind: Kind, rest: &[Text]) -> Result<Command, WordsFault>
     requires { (usage_of kind).least ≤ length (places (parts_from 1 rest.now)) }
     ensures { result ≡ command_of kind (parts_from 1 rest.now) }
 {
-    let file = argument(rest, 0).unwrap();
+    let file = given_argument(rest, 0);
     let net = argument(rest, 1);
     match kind {
-        Kind::Check => Some(Command::Check { file, net }),
-        Kind::Code => Some(Command::Code { file, net }),
-        Kind::Route => Some(Command::Route {
+        Kind::Check => check_of(file, net, rest),
+        Kind::Code => Ok(Command::Code { file, net }),
+        Kind::Route => route_of(file, given_argument(rest, 1), rest),
+        Kind::Settle => Ok(Command::Settle {
             file,
-            net: net.unwrap(),
-            workers: number_of(Flag::Workers, rest)? as u32,
+            net: given_argument(rest, 1),
         }),
-        Kind::Settle => Some(Command::Settle {
+        Kind::Stable => Ok(Command::Stable {
             file,
-            net: net.unwrap(),
+            net: given_argument(rest, 1),
         }),
-        Kind::Run => Some(Command::Run {
-            file,
-            net: net.unwrap(),
-            workers: number_of(Flag::Workers, rest)? as u32,
-            turns: number_of(Flag::Turns, rest)?,
-        }),
-        Kind::Trace => Some(Command::Trace {
-            file,
-            net: net.unwrap(),
-            workers: number_of(Flag::Workers, rest)? as u32,
-            turns: number_of(Flag::Turns, rest)?,
-        }),
-        Kind::Demo => Some(Command::Demo {
-            seed: argument_number(0, u64::MAX, 0, rest)?,
-            nodes: argument_number(LEAST_NODES, GREATEST_NODES, 1, rest)? as u32,
-        }),
+        Kind::Run => run_of(file, given_argument(rest, 1), rest),
+        Kind::Trace => trace_of(file, given_argument(rest, 1), rest),
+        Kind::Gadget => Ok(Command::Gadget { file }),
+        Kind::Demo => demo_of(rest),
     }
 }
 
-// The argument with this number, from 0, as a number of that range, unless it is bad.
-fn argument_number(least: u64, greatest: u64, number: usize, rest: &[Text]) -> Option<u64>
-    ensures number { result ≡ argument_number least greatest number (parts_from 1 rest.now) }
-    ensures bounded { IfSome result (λ n. n ≤ greatest) }
+fn check_of(file: usize, net: Option<usize>, rest: &[Text]) -> Result<Command, WordsFault>
+    ensures { result ≡ ok_or (option_map (Check file net) (required_in (parts_from 1 rest.now))) BadList }
 {
-    number_within(least, greatest, argument_word(number, rest)?)
+    let require = required_in(rest)?;
+    Ok(Command::Check { file, net, require })
+}
+
+fn route_of(file: usize, net: usize, rest: &[Text]) -> Result<Command, WordsFault>
+    ensures { result ≡ ok_or (option_map (Route file net) (number_of Workers (parts_from 1 rest.now))) BadNumber }
+{
+    let workers = number_of(NumberFlag::Workers, rest)? as u32;
+    Ok(Command::Route { file, net, workers })
+}
+
+fn run_of(file: usize, net: usize, rest: &[Text]) -> Result<Command, WordsFault>
+    ensures { result ≡ ok_or (with_numbers (Run file net) (parts_from 1 rest.now)) BadNumber }
+{
+    let workers = number_of(NumberFlag::Workers, rest)? as u32;
+    let turns = number_of(NumberFlag::Turns, rest)?;
+    Ok(Command::Run {
+        file,
+        net,
+        workers,
+        turns,
+    })
+}
+
+fn trace_of(file: usize, net: usize, rest: &[Text]) -> Result<Command, WordsFault>
+    ensures { result ≡ ok_or (with_numbers (Trace file net) (parts_from 1 rest.now)) BadNumber }
+{
+    let workers = number_of(NumberFlag::Workers, rest)? as u32;
+    let turns = number_of(NumberFlag::Turns, rest)?;
+    Ok(Command::Trace {
+        file,
+        net,
+        workers,
+        turns,
+    })
+}
+
+fn demo_of(rest: &[Text]) -> Result<Command, WordsFault>
+    ensures { result ≡ command_of Demo (parts_from 1 rest.now) }
+{
+    let seed = argument_number(0, u64::MAX, 0, rest)?;
+    let nodes = argument_number(LEAST_NODES, GREATEST_NODES, 1, rest)? as u32;
+    Ok(Command::Demo { seed, nodes })
+}
+
+// The argument with this number, from 0, as a number of that range, or that it is bad.
+fn argument_number(
+    least: u64,
+    greatest: u64,
+    number: usize,
+    rest: &[Text],
+) -> Result<u64, WordsFault>
+    ensures number { result ≡ ok_or (argument_number least greatest number (parts_from 1 rest.now)) BadNumber }
+    ensures bounded { IfOk result (λ n. n ≤ greatest) }
+{
+    argument_word(number, rest)
+        .and_then(|word| number_within(least, greatest, word))
+        .ok_or(WordsFault::BadNumber)
 }
 
 // The word of the argument with this number, if there are so many.
@@ -161,22 +219,32 @@ fn argument_word(number: usize, rest: &[Text]) -> Option<&str>
     Some(part.word())
 }
 
-// The number of the flag, unless its value is bad.
-fn number_of(flag: Flag, rest: &[Text]) -> Option<u64>
-    ensures number { result ≡ number_of flag (parts_from 1 rest.now) }
-    ensures bounded { IfSome result (λ n. n ≤ (limits_of flag).greatest) }
+// The number of the flag, or that it is bad.
+fn number_of(flag: NumberFlag, rest: &[Text]) -> Result<u64, WordsFault>
+    ensures number { result ≡ ok_or (number_of flag (parts_from 1 rest.now)) BadNumber }
+    ensures bounded { IfOk result (λ n. n ≤ (limits_of flag).greatest) }
 {
     let limits = flag.limits();
-    match value_of(flag, rest) {
+    let number = match value_given(Flag::Number(flag), rest) {
         Some(word) => number_within(limits.least, limits.greatest, word),
         None => Some(limits.default),
+    };
+    number.ok_or(WordsFault::BadNumber)
+}
+
+// What `--require` asks for, or that its list is bad.
+fn required_in(rest: &[Text]) -> Result<Required, WordsFault>
+    ensures { result ≡ ok_or (required_in (parts_from 1 rest.now)) BadList }
+{
+    match value_given(Flag::Require, rest) {
+        Some(list) => required_of(list).ok_or(WordsFault::BadList),
+        None => Ok(Required::default()),
     }
 }
 
 // The value of the flag, if it is given.
-fn value_of(flag: Flag, rest: &[Text]) -> Option<&str>
-    ensures { option_map (λ v. v.now) result ≡
-        option_and_then value_of (find (gives flag) (parts_from 1 rest.now)) }
+fn value_given(flag: Flag, rest: &[Text]) -> Option<&str>
+    ensures { option_map (λ v. v.now) result ≡ value_given flag (parts_from 1 rest.now) }
 {
     Parts::behind_command(rest)
         .find(|part| part.gives(flag))?

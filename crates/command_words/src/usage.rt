@@ -9,8 +9,10 @@ pub enum Kind {
     Code,
     Route,
     Settle,
+    Stable,
     Run,
     Trace,
+    Gadget,
     Demo,
 }
 
@@ -23,18 +25,42 @@ pub struct Usage {
     pub flags: &'static [Flag],
 }
 
+// The flags of the commands that run nodes.
+const RUN_FLAGS: [Flag; 2] = [
+    Flag::Number(NumberFlag::Workers),
+    Flag::Number(NumberFlag::Turns),
+];
+
+impl Usage {
+    ghost use Rattle.command_words.specs.Usages.{pure_usage};
+
+    // The usage of the command of this word, with so many arguments at least and at most, and these flags.
+    fn of(word: &'static str, least: usize, most: usize, flags: &'static [Flag]) -> Usage
+        ensures { pure_usage result ≡ record { word = word.now; least = least; most = most; flags = flags.now } }
+    {
+        Usage {
+            word,
+            least,
+            most,
+            flags,
+        }
+    }
+}
+
 impl Kind {
     ghost use Rattle.std.specs.Prelude.{find};
     ghost use Rattle.command_words.specs.Usages.{has_word, kinds, pure_usage, usage_of};
 
     // All commands.
-    const ALL: [Kind; 7] = [
+    const ALL: [Kind; 9] = [
         Kind::Check,
         Kind::Code,
         Kind::Route,
         Kind::Settle,
+        Kind::Stable,
         Kind::Run,
         Kind::Trace,
+        Kind::Gadget,
         Kind::Demo,
     ];
 
@@ -43,48 +69,15 @@ impl Kind {
         ensures { pure_usage result ≡ usage_of self }
     {
         match self {
-            Kind::Check => Usage {
-                word: "check",
-                least: 1,
-                most: 2,
-                flags: &[],
-            },
-            Kind::Code => Usage {
-                word: "code",
-                least: 1,
-                most: 2,
-                flags: &[],
-            },
-            Kind::Route => Usage {
-                word: "route",
-                least: 2,
-                most: 2,
-                flags: &[Flag::Workers],
-            },
-            Kind::Settle => Usage {
-                word: "settle",
-                least: 2,
-                most: 2,
-                flags: &[],
-            },
-            Kind::Run => Usage {
-                word: "run",
-                least: 2,
-                most: 2,
-                flags: &[Flag::Workers, Flag::Turns],
-            },
-            Kind::Trace => Usage {
-                word: "trace",
-                least: 2,
-                most: 2,
-                flags: &[Flag::Workers, Flag::Turns],
-            },
-            Kind::Demo => Usage {
-                word: "demo",
-                least: 2,
-                most: 2,
-                flags: &[],
-            },
+            Kind::Check => Usage::of("check", 1, 2, &[Flag::Require]),
+            Kind::Code => Usage::of("code", 1, 2, &[]),
+            Kind::Route => Usage::of("route", 2, 2, &[Flag::Number(NumberFlag::Workers)]),
+            Kind::Settle => Usage::of("settle", 2, 2, &[]),
+            Kind::Stable => Usage::of("stable", 2, 2, &[]),
+            Kind::Run => Usage::of("run", 2, 2, &RUN_FLAGS),
+            Kind::Trace => Usage::of("trace", 2, 2, &RUN_FLAGS),
+            Kind::Gadget => Usage::of("gadget", 1, 1, &[]),
+            Kind::Demo => Usage::of("demo", 2, 2, &[]),
         }
     }
 
@@ -99,21 +92,13 @@ impl Kind {
     }
 }
 
-/// A flag, whose value is a number.
+/// A flag.
 #[derive(Clone, Copy)]
 pub enum Flag {
-    /// How many workers find routes, or run nodes.
-    Workers,
-    /// How many deliveries may be made.
-    Turns,
-}
-
-/// What the value of a flag may be: the least and the greatest number, and the one where it isn't given.
-#[derive(Clone, Copy)]
-pub struct Limits {
-    pub least: u64,
-    pub greatest: u64,
-    pub default: u64,
+    /// One whose value is a number.
+    Number(NumberFlag),
+    /// `--require`, whose value is a list of properties.
+    Require,
 }
 
 impl Flag {
@@ -122,22 +107,42 @@ impl Flag {
         ensures { result.now ≡ flag_word self }
     {
         match self {
-            Flag::Workers => "--workers",
-            Flag::Turns => "--turns",
+            Flag::Number(NumberFlag::Workers) => "--workers",
+            Flag::Number(NumberFlag::Turns) => "--turns",
+            Flag::Require => "--require",
         }
     }
+}
 
-    /// What its value may be.
+/// A flag whose value is a number.
+#[derive(Clone, Copy)]
+pub enum NumberFlag {
+    /// How many workers find routes, or run nodes.
+    Workers,
+    /// How many deliveries may be made.
+    Turns,
+}
+
+/// What the number of a flag may be: the least and the greatest, and the one where the flag isn't given.
+#[derive(Clone, Copy)]
+pub struct Limits {
+    pub least: u64,
+    pub greatest: u64,
+    pub default: u64,
+}
+
+impl NumberFlag {
+    /// What its number may be.
     pub fn limits(self) -> Limits
         ensures { result ≡ limits_of self }
     {
         match self {
-            Flag::Workers => Limits {
+            NumberFlag::Workers => Limits {
                 least: 1,
                 greatest: 16,
                 default: 4,
             },
-            Flag::Turns => Limits {
+            NumberFlag::Turns => Limits {
                 least: 0,
                 greatest: 1_000_000,
                 default: 100_000,

@@ -14,13 +14,14 @@ use Rattle.topology_file.specs.NetText.{PureNetFile, NetText, HasOneOutcome, cha
 use Rattle.report_text.specs.Refusals.{PureRefusal, words, expr, network, lacks, read, long, memory}
 use Rattle.metacli.specs.Answers.{done, refused}
 use Rattle.metacli.specs.Reading.{Holds, IsUntaken, IsReadAs, IsExprRefusal, IsNetRefusal}
-use Rattle.metacli.specs.Outcome.{PureOutcome, stopped, checked, coded, routed, ran, shown, answer_in, IsCheckedAs, IsAlgebraChecked, IsNetworkChecked, IsOnArc, IsCodedAs, IsAlgebraCoded, IsNetworkCoded, labels_on, IsRoutedAs, IsNetworkRouted, IsRunAs, IsNetworkRun, IsRunOn, IsShownAs, IsFit, IsRouted, asked_of, GoesOnFrom, GoesOnOver, WithNetwork, ComesBy, word_at}
-use Rattle.metacli.specs.Complete.{IsUnlessMemory, IsTold, IsJudged, IsNetJudged, IsAny, IsDone, IsRunOut, IsRoutedWholly, CompleteBy}
+use Rattle.metacli.specs.Outcome.{PureOutcome, stopped, checked, coded, routed, wedged, ran, shown, answer_in, IsCheckedAs, IsWedgedAs, IsAlgebraChecked, IsAlgebraWedged, IsNetworkChecked, IsOnArc, IsCodedAs, IsAlgebraCoded, IsNetworkCoded, labels_on, IsRoutedAs, IsNetworkRouted, IsRunAs, IsNetworkRun, IsRunOn, IsShownAs, IsFit, IsRouted, asked_of, GoesOnFrom, GoesOnOver, WithNetwork, ComesBy, word_at}
+use Rattle.metacli.specs.Complete.{IsUnlessMemory, IsTold, IsJudged, IsNetJudged, IsAny, IsDecided, IsDone, IsRunOut, IsRoutedWholly, CompleteBy}
 use Rattle.command_words.specs.declared.command.Command.{Command}
-use Rattle.command_words.specs.declared.command.Command.TheVariants.{Check, Code, Route, Settle, Run, Trace, Demo}
+use Rattle.command_words.specs.declared.command.Command.TheVariants.{Check, Code, Route, Settle, Stable, Run, Trace, Gadget, Demo}
+use Rattle.command_words.specs.declared.required.Required.{Required}
 use Rattle.command_words.specs.declared.command.WordsFault.{WordsFault}
 use Rattle.metacli.specs.declared.routing.Solution.{Solution}
-use Rattle.metacli.specs.declared.routing.Solution.TheVariants.{Unbeaten, Settled}
+use Rattle.metacli.specs.declared.routing.Solution.TheVariants.{Unbeaten, Settled, AllStable}
 
 -- the laws of texts
 pub record Laws : Type 0 where
@@ -139,19 +140,37 @@ over_network laws a name bytes Fits Carries Then old between new o k w t quiet o
 
 -- What was read is carried out.
 
-checked_done : (a : PureAlg) (file : Option PureNetFile) (S : PureLabel → Type 0) (o : PureOutcome) → IsCheckedAs a file S o → IsUnlessMemory o done
-checked_done a file S (checked b f v) h = inl refl
-checked_done a file S (stopped b f memory) h = inr refl
-checked_done a file S (stopped b f (words n)) h = absurd h
-checked_done a file S (stopped b f (expr g)) h = absurd h
-checked_done a file S (stopped b f (network g)) h = absurd h
-checked_done a file S (stopped b f (lacks arc x)) h = absurd h
-checked_done a file S (stopped b f (read w)) h = absurd h
-checked_done a file S (stopped b f (long w)) h = absurd h
-checked_done a file S (coded b f listing) h = absurd h
-checked_done a file S (routed b f rows) h = absurd h
-checked_done a file S (ran b f t past last quiet) h = absurd h
-checked_done a file S (shown b f last quiet) h = absurd h
+checked_done : (r : Required) (a : PureAlg) (file : Option PureNetFile) (S : PureLabel → Type 0) (o : PureOutcome) → IsCheckedAs r a file S o → IsDecided o
+checked_done r a file S (checked b f v None) h = inl (inl refl)
+checked_done r a file S (checked b f v (Some p)) h = inr (p, refl)
+checked_done r a file S (stopped b f memory) h = inl (inr refl)
+checked_done r a file S (stopped b f (words n)) h = absurd h
+checked_done r a file S (stopped b f (expr g)) h = absurd h
+checked_done r a file S (stopped b f (network g)) h = absurd h
+checked_done r a file S (stopped b f (lacks arc x)) h = absurd h
+checked_done r a file S (stopped b f (read w)) h = absurd h
+checked_done r a file S (stopped b f (long w)) h = absurd h
+checked_done r a file S (coded b f listing) h = absurd h
+checked_done r a file S (routed s b f rows) h = absurd h
+checked_done r a file S (wedged b v) h = absurd h
+checked_done r a file S (ran b f t past last quiet) h = absurd h
+checked_done r a file S (shown b f last quiet) h = absurd h
+
+wedged_done : (a : PureAlg) (o : PureOutcome) → IsWedgedAs a o → IsUnlessMemory o done
+wedged_done a (wedged b v) h = inl refl
+wedged_done a (stopped b None memory) h = inr refl
+wedged_done a (stopped b None (words n)) h = absurd h
+wedged_done a (stopped b None (expr g)) h = absurd h
+wedged_done a (stopped b None (network g)) h = absurd h
+wedged_done a (stopped b None (lacks arc x)) h = absurd h
+wedged_done a (stopped b None (read w)) h = absurd h
+wedged_done a (stopped b None (long w)) h = absurd h
+wedged_done a (stopped b (Some f) r) h = absurd h
+wedged_done a (checked b f v u) h = absurd h
+wedged_done a (coded b f listing) h = absurd h
+wedged_done a (routed s b f rows) h = absurd h
+wedged_done a (ran b f t past last quiet) h = absurd h
+wedged_done a (shown b f last quiet) h = absurd h
 
 coded_done : (a : PureAlg) (file : Option PureNetFile) (labels : List PureLabel) (o : PureOutcome) → IsCodedAs a file labels o → IsUnlessMemory o done
 coded_done a file labels (coded b f listing) h = inl refl
@@ -162,14 +181,15 @@ coded_done a file labels (stopped b f (network g)) h = absurd h
 coded_done a file labels (stopped b f (lacks arc x)) h = absurd h
 coded_done a file labels (stopped b f (read w)) h = absurd h
 coded_done a file labels (stopped b f (long w)) h = absurd h
-coded_done a file labels (checked b f v) h = absurd h
-coded_done a file labels (routed b f rows) h = absurd h
+coded_done a file labels (checked b f v u) h = absurd h
+coded_done a file labels (routed s b f rows) h = absurd h
+coded_done a file labels (wedged b v) h = absurd h
 coded_done a file labels (ran b f t past last quiet) h = absurd h
 coded_done a file labels (shown b f last quiet) h = absurd h
 
 -- a network whose labels are fit has no arc that lacks what is asked
 routed_done : (solution : Solution) (a : PureAlg) (file : PureNetFile) (o : PureOutcome) → IsRoutedAs solution a file o → IsFit solution (changed_net file) → IsUnlessMemory o done
-routed_done solution a file (routed b f rows) h fit = inl refl
+routed_done solution a file (routed s b f rows) h fit = inl refl
 routed_done solution a file (stopped b f (lacks arc x)) h fit = absurd (first_refutes (asked_of solution) (changed_net file) arc x.property h.2.first fit)
 routed_done solution a file (stopped b f memory) h fit = inr refl
 routed_done solution a file (stopped b f (words n)) h fit = absurd h
@@ -177,8 +197,9 @@ routed_done solution a file (stopped b f (expr g)) h fit = absurd h
 routed_done solution a file (stopped b f (network g)) h fit = absurd h
 routed_done solution a file (stopped b f (read w)) h fit = absurd h
 routed_done solution a file (stopped b f (long w)) h fit = absurd h
-routed_done solution a file (checked b f v) h fit = absurd h
+routed_done solution a file (checked b f v u) h fit = absurd h
 routed_done solution a file (coded b f listing) h fit = absurd h
+routed_done solution a file (wedged b v) h fit = absurd h
 routed_done solution a file (ran b f t past last quiet) h fit = absurd h
 routed_done solution a file (shown b f last quiet) h fit = absurd h
 
@@ -192,9 +213,10 @@ run_out traced turns a file (stopped b f (network g)) h = absurd h
 run_out traced turns a file (stopped b f (lacks arc x)) h = absurd h
 run_out traced turns a file (stopped b f (read w)) h = absurd h
 run_out traced turns a file (stopped b f (long w)) h = absurd h
-run_out traced turns a file (checked b f v) h = absurd h
+run_out traced turns a file (checked b f v u) h = absurd h
 run_out traced turns a file (coded b f listing) h = absurd h
-run_out traced turns a file (routed b f rows) h = absurd h
+run_out traced turns a file (routed s b f rows) h = absurd h
+run_out traced turns a file (wedged b v) h = absurd h
 run_out traced turns a file (shown b f last quiet) h = absurd h
 
 shown_out : (seed nodes : ℕ) (o : PureOutcome) → IsShownAs seed nodes o → IsRunOut o
@@ -209,9 +231,10 @@ shown_out seed nodes (stopped None None (read w)) h = absurd h
 shown_out seed nodes (stopped None None (long w)) h = absurd h
 shown_out seed nodes (stopped (Some a) f r) h = absurd h
 shown_out seed nodes (stopped None (Some f) r) h = absurd h
-shown_out seed nodes (checked b f v) h = absurd h
+shown_out seed nodes (checked b f v u) h = absurd h
 shown_out seed nodes (coded b f listing) h = absurd h
-shown_out seed nodes (routed b f rows) h = absurd h
+shown_out seed nodes (routed s b f rows) h = absurd h
+shown_out seed nodes (wedged b v) h = absurd h
 shown_out seed nodes (ran b f t past last quiet) h = absurd h
 
 -- what route or settle comes to is judged
@@ -231,14 +254,14 @@ ran_complete laws file net traced turns old new o h bytes net_bytes t u quiet =
 
 pub complete : Laws → (text : List (List ℕ)) (old new : Moment) (c : Option Command) (o : PureOutcome) (r : Result Command WordsFault)
     → ComesBy text r old new c o → CompleteBy text old new o r
-complete laws text old new c o (Ok (Check file None)) h = λ bytes t quiet.
-    judged laws (word_at text file) bytes IsAlgebraChecked (λ a. IsUnlessMemory o done) old h.1.between new o h.1.expression h.1.reads.as_read h.1.goes_on t quiet
-    (λ a x. checked_done a None (IsLabel a.expression) o x.1) (λ e a. inr e)
-complete laws text old new c o (Ok (Check file (Some net))) h = λ bytes net_bytes t u quiet.
-    judged laws (word_at text file) bytes (IsNetworkChecked (word_at text net)) (IsNetJudged net_bytes IsAny IsDone o) old h.1.between new o h.1.expression h.1.reads.as_read h.1.goes_on t quiet
-    (λ a x. over_network laws a (word_at text net) net_bytes IsAny IsDone (λ f. IsCheckedAs a (Some f) (IsOnArc (changed_net f))) old h.1.between new o h.1.reads.keeps x u quiet (λ d. d)
-    (λ f y any. checked_done a (Some f) (IsOnArc (changed_net f)) o y))
-    (λ e a. net_judged_memory net_bytes IsAny IsDone o a e (λ d. d))
+complete laws text old new c o (Ok (Check file None r)) h = λ bytes t quiet.
+    judged laws (word_at text file) bytes (IsAlgebraChecked r) (λ a. IsDecided o) old h.1.between new o h.1.expression h.1.reads.as_read h.1.goes_on t quiet
+    (λ a x. checked_done r a None (IsLabel a.expression) o x.1.0) (λ e a. inl (inr e))
+complete laws text old new c o (Ok (Check file (Some net) r)) h = λ bytes net_bytes t u quiet.
+    judged laws (word_at text file) bytes (IsNetworkChecked r (word_at text net)) (IsNetJudged net_bytes IsAny IsDecided o) old h.1.between new o h.1.expression h.1.reads.as_read h.1.goes_on t quiet
+    (λ a x. over_network laws a (word_at text net) net_bytes IsAny IsDecided (λ f. IsCheckedAs r a (Some f) (IsOnArc (changed_net f))) old h.1.between new o h.1.reads.keeps x u quiet inl
+    (λ f y any. checked_done r a (Some f) (IsOnArc (changed_net f)) o y))
+    (λ e a. net_judged_memory net_bytes IsAny IsDecided o a e inl)
 complete laws text old new c o (Ok (Code file None)) h = λ bytes t quiet.
     judged laws (word_at text file) bytes IsAlgebraCoded (λ a. IsUnlessMemory o done) old h.1.between new o h.1.expression h.1.reads.as_read h.1.goes_on t quiet
     (λ a x. coded_done a None [] o x.1) (λ e a. inr e)
@@ -249,7 +272,11 @@ complete laws text old new c o (Ok (Code file (Some net))) h = λ bytes net_byte
     (λ e a. net_judged_memory net_bytes IsAny IsDone o a e (λ d. d))
 complete laws text old new c o (Ok (Route file net workers)) h = routed_wholly laws Unbeaten (word_at text file) (word_at text net) old new o h.1
 complete laws text old new c o (Ok (Settle file net)) h = routed_wholly laws Settled (word_at text file) (word_at text net) old new o h.1
+complete laws text old new c o (Ok (Stable file net)) h = routed_wholly laws AllStable (word_at text file) (word_at text net) old new o h.1
 complete laws text old new c o (Ok (Run file net workers turns)) h = ran_complete laws (word_at text file) (word_at text net) false turns old new o h.1
 complete laws text old new c o (Ok (Trace file net workers turns)) h = ran_complete laws (word_at text file) (word_at text net) true turns old new o h.1
+complete laws text old new c o (Ok (Gadget file)) h = λ bytes t quiet.
+    judged laws (word_at text file) bytes IsAlgebraWedged (λ a. IsUnlessMemory o done) old h.1.between new o h.1.expression h.1.reads.as_read h.1.goes_on t quiet
+    (λ a x. wedged_done a o x.1) (λ e a. inr e)
 complete laws text old new c o (Ok (Demo seed nodes)) h = shown_out seed nodes o h.2
 complete laws text old new c o (Err f) h = tt

@@ -19,7 +19,7 @@ use Rattle.report_text.specs.RunTexts.{delivery_text}
 use Rattle.report_text.specs.SummaryTexts.{reach_text, reaches_text}
 use Rattle.report_text.specs.Refusals.{words, expr, network, lacks, read, long, memory}
 use Rattle.report_text.specs.VerdictTexts.{verdict_text, lines_on}
-use Rattle.metacli.specs.Answers.{PureAnswer, done, refused, spent, write_fault}
+use Rattle.metacli.specs.Answers.{PureAnswer, done, refused, spent, unmet, write_fault}
 use Rattle.metacli.specs.Texts.{HasLines, PutsText, Written, cut_answer, journal_text, rows_text}
 use Rattle.metacli.specs.declared.putting.Cut.{Cut}
 use Rattle.metacli.specs.declared.putting.Cut.TheVariants as cut
@@ -28,6 +28,7 @@ use Rattle.metacli.specs.declared.putting.Cut.TheVariants as cut
 pub all_written : (old new : Held) (text : List ℕ) (d : PureAnswer) → d ≢ write_fault → Appended old text new → Written old text new d d
 all_written old new text done h a = (refl, a)
 all_written old new text spent h a = (refl, a)
+all_written old new text (unmet p) h a = (refl, a)
 all_written old new text (refused memory) h a = (λ _. a, (length text, rw (take_all (length text) text (omega arith)) a))
 all_written old new text (refused (words n)) h a = (refl, a)
 all_written old new text (refused (expr f)) h a = (refl, a)

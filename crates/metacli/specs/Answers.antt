@@ -1,17 +1,20 @@
 -- What answers stand for, and their statuses.
 use Rattle.std.specs.Prelude.{ℕ}
-use Rattle.alg_classes.specs.Instances.{pure_instance}
+use Rattle.alg_model.specs.Properties.{PureProperty}
+use Rattle.alg_classes.specs.Instances.{pure_instance, pure_property}
 use Rattle.report_text.specs.Refusals.{PureRefusal, words, expr, network, lacks, read, long, memory}
 use Rattle.command_words.specs.Words.{words_fault_number}
 use Rattle.metacli.specs.declared.ended.Answer.{Answer}
-use Rattle.metacli.specs.declared.ended.Answer.TheVariants.{Done, Spent, BadWords, BadExpr, BadNet, Lacks, ReadFault, WriteFault, NoMemory, TooLong}
+use Rattle.metacli.specs.declared.ended.Answer.TheVariants.{Done, Spent, Unmet, BadWords, BadExpr, BadNet, Lacks, ReadFault, WriteFault, NoMemory, TooLong}
 use Rattle.metacli.specs.declared.outcome.Stop.{Stop}
 use Rattle.metacli.specs.declared.outcome.Stop.TheVariants as stop
 
--- the command was carried out, or until all turns were used; or it was refused; or its text could not be written
+-- the command was carried out, or until all turns were used, or a property that was required fails; or it was refused;
+-- or its text could not be written
 pub data PureAnswer : Type 0 where
   done : PureAnswer
   spent : PureAnswer
+  unmet : PureProperty → PureAnswer
   refused : PureRefusal → PureAnswer
   write_fault : PureAnswer
 
@@ -21,6 +24,7 @@ memory_refused = refused memory
 abbrev pub pure_answer : Answer → PureAnswer
 pure_answer Done = done
 pure_answer Spent = spent
+pure_answer (Unmet p) = unmet (pure_property p)
 pure_answer (BadWords f) = refused (words (words_fault_number f))
 pure_answer (BadExpr f) = refused (expr f)
 pure_answer (BadNet f) = refused (network f)
@@ -44,6 +48,7 @@ status_of (BadWords f) = 1
 status_of (BadExpr f) = 2
 status_of (BadNet f) = 2
 status_of (Lacks arc x) = 3
+status_of (Unmet p) = 3
 status_of Spent = 4
 status_of (ReadFault w) = 5
 status_of WriteFault = 6

@@ -5,20 +5,21 @@ use Rattle.meta_base.specs.Count.{HasRisen}
 use Rattle.meta_base.specs.Shelf.{Moment}
 use Rattle.meta_base.specs.declared.limits.TheConstants.{MAX_FILE_BYTES}
 use Rattle.alg_model.specs.Expressions.{PureAlg}
+use Rattle.alg_model.specs.Properties.{PureProperty}
 use Rattle.raml_syntax.specs.ExprText.{ExprText, IsExprFault}
 use Rattle.raml_syntax.specs.declared.faults.ExprFault.{ExprFault}
 use Rattle.net_graph.specs.Nets.{PureNet}
 use Rattle.topology_file.specs.NetText.{PureNetFile, NetText, IsNetFault, changed_net}
 use Rattle.topology_file.specs.declared.faults.NetFault.{NetFault}
 use Rattle.report_text.specs.Refusals.{expr, network, memory}
-use Rattle.metacli.specs.Answers.{PureAnswer, done, refused, spent}
+use Rattle.metacli.specs.Answers.{PureAnswer, done, refused, spent, unmet}
 use Rattle.command_words.specs.Words.{Words}
 use Rattle.metacli.specs.Outcome.{PureOutcome, answer_in, IsFit, word_at}
 use Rattle.command_words.specs.declared.command.Command.{Command}
-use Rattle.command_words.specs.declared.command.Command.TheVariants.{Check, Code, Route, Settle, Run, Trace, Demo}
+use Rattle.command_words.specs.declared.command.Command.TheVariants.{Check, Code, Route, Settle, Stable, Run, Trace, Gadget, Demo}
 use Rattle.command_words.specs.declared.command.WordsFault.{WordsFault}
 use Rattle.metacli.specs.declared.routing.Solution.{Solution}
-use Rattle.metacli.specs.declared.routing.Solution.TheVariants.{Unbeaten, Settled}
+use Rattle.metacli.specs.declared.routing.Solution.TheVariants.{Unbeaten, Settled, AllStable}
 
 -- this was decided, or memory was refused
 abbrev pub IsUnlessMemory : PureOutcome → PureAnswer → Type 0
@@ -44,10 +45,15 @@ pub record IsNetJudged (bytes : List ℕ) (Fits : PureNet → Type 0) (Carries :
 abbrev pub IsAny : PureNet → Type 0
 IsAny net = Unit {0}
 
--- all is done, unless memory is refused; or that, or all turns are used
+-- all is done, unless memory is refused
 abbrev pub IsDone : PureOutcome → Type 0
 IsDone o = IsUnlessMemory o done
 
+-- or that, or a required property fails
+abbrev pub IsDecided : PureOutcome → Type 0
+IsDecided o = IsDone o ⊎ ((p : PureProperty) × (answer_in o ≡ unmet p))
+
+-- or that, or all turns are used
 abbrev pub IsRunOut : PureOutcome → Type 0
 IsRunOut o = IsDone o ⊎ (answer_in o ≡ spent)
 
@@ -57,20 +63,23 @@ IsRoutedWholly solution file net old new o = (bytes net_bytes : List ℕ) → Is
     → ¬ HasRisen old.faults new.faults → IsJudged bytes (IsNetJudged net_bytes (IsFit solution) IsDone o) o
 
 abbrev pub CompleteBy : List (List ℕ) → Moment → Moment → PureOutcome → Result Command WordsFault → Type 0
-CompleteBy words old new o (Ok (Check file None)) = (bytes : List ℕ) → IsTold old (word_at words file) bytes → ¬ HasRisen old.faults new.faults
-    → IsJudged bytes (λ a. IsDone o) o
-CompleteBy words old new o (Ok (Check file (Some net))) = (bytes net_bytes : List ℕ) → IsTold old (word_at words file) bytes → IsTold old (word_at words net) net_bytes
-    → ¬ HasRisen old.faults new.faults → IsJudged bytes (IsNetJudged net_bytes IsAny IsDone o) o
+CompleteBy words old new o (Ok (Check file None r)) = (bytes : List ℕ) → IsTold old (word_at words file) bytes → ¬ HasRisen old.faults new.faults
+    → IsJudged bytes (λ a. IsDecided o) o
+CompleteBy words old new o (Ok (Check file (Some net) r)) = (bytes net_bytes : List ℕ) → IsTold old (word_at words file) bytes → IsTold old (word_at words net) net_bytes
+    → ¬ HasRisen old.faults new.faults → IsJudged bytes (IsNetJudged net_bytes IsAny IsDecided o) o
 CompleteBy words old new o (Ok (Code file None)) = (bytes : List ℕ) → IsTold old (word_at words file) bytes → ¬ HasRisen old.faults new.faults
     → IsJudged bytes (λ a. IsDone o) o
 CompleteBy words old new o (Ok (Code file (Some net))) = (bytes net_bytes : List ℕ) → IsTold old (word_at words file) bytes → IsTold old (word_at words net) net_bytes
     → ¬ HasRisen old.faults new.faults → IsJudged bytes (IsNetJudged net_bytes IsAny IsDone o) o
 CompleteBy words old new o (Ok (Route file net workers)) = IsRoutedWholly Unbeaten (word_at words file) (word_at words net) old new o
 CompleteBy words old new o (Ok (Settle file net)) = IsRoutedWholly Settled (word_at words file) (word_at words net) old new o
+CompleteBy words old new o (Ok (Stable file net)) = IsRoutedWholly AllStable (word_at words file) (word_at words net) old new o
 CompleteBy words old new o (Ok (Run file net workers turns)) = (bytes net_bytes : List ℕ) → IsTold old (word_at words file) bytes → IsTold old (word_at words net) net_bytes
     → ¬ HasRisen old.faults new.faults → IsJudged bytes (IsNetJudged net_bytes IsAny IsRunOut o) o
 CompleteBy words old new o (Ok (Trace file net workers turns)) = (bytes net_bytes : List ℕ) → IsTold old (word_at words file) bytes → IsTold old (word_at words net) net_bytes
     → ¬ HasRisen old.faults new.faults → IsJudged bytes (IsNetJudged net_bytes IsAny IsRunOut o) o
+CompleteBy words old new o (Ok (Gadget file)) = (bytes : List ℕ) → IsTold old (word_at words file) bytes → ¬ HasRisen old.faults new.faults
+    → IsJudged bytes (λ a. IsDone o) o
 CompleteBy words old new o (Ok (Demo seed nodes)) = IsRunOut o
 CompleteBy words old new o (Err f) = Unit {0}
 

@@ -1,27 +1,51 @@
 -- The printed text of what was decided, and what of it was written.
-use Rattle.std.specs.Prelude.{◌≡◌, ℕ, ◌+◌, Bool, true, List, [], ◌∷◌, ◌++◌, length, map, nat_eq, Option, Result, Ok, Err, take, option_map, if◌then◌else◌}
-use Rattle.std.specs.List.{concat, AllByRecursion}
+use Rattle.std.specs.Prelude.{◌≡◌, ℕ, ◌+◌, Bool, true, List, [], ◌∷◌, ◌++◌, length, map, nat_eq, Option, Some, None, Result, Ok, Err, take, drop, option_map, if◌then◌else◌}
+use Rattle.std.specs.List.{concat, range_with_len, AllByRecursion}
 use Rattle.meta_base.specs.Sink.{Held, Appended, AppendedPart}
 use Rattle.meta_base.specs.declared.ids.Delivery.{Delivery}
 use Rattle.net_graph.specs.Nets.{PureNet}
 use Rattle.net_graph.specs.Tables.{PureRow}
 use Rattle.net_graph.specs.RowTexts.{IsRowOf, row_text}
 use Rattle.topology_file.specs.NetText.{PureNetFile, changed_net}
-use Rattle.report_text.specs.VerdictTexts.{verdicts_text, CanPrintVerdicts}
+use Rattle.report_text.specs.TableTexts.{stable_text, table_text}
+use Rattle.report_text.specs.VerdictTexts.{required_text, verdicts_text, CanPrintVerdicts}
+use Rattle.wedge_nets.specs.Gadgets.{CanPrintGadget, gadget_text}
+use Rattle.alg_model.specs.Properties.{PureProperty}
 use Rattle.report_text.specs.CodeTexts.{CanList, code_text}
 use Rattle.report_text.specs.Refusals.{memory, refusal_text, CanRefuse}
 use Rattle.report_text.specs.RunTexts.{delivery_text, end_text, phase_text}
 use Rattle.report_text.specs.SummaryTexts.{AreSummed, summary_text}
 use Rattle.vector_runs.specs.Runs.{AreOfNetworks, PurePhase}
-use Rattle.metacli.specs.Answers.{PureAnswer, done, refused, spent, write_fault}
+use Rattle.metacli.specs.Answers.{PureAnswer, done, refused, spent, unmet, write_fault}
 use Rattle.metacli.specs.Behind.{nets_after}
 use Rattle.metacli.specs.declared.putting.Cut.{Cut}
 use Rattle.metacli.specs.declared.putting.Cut.TheVariants.{Sink, Memory}
-use Rattle.metacli.specs.Outcome.{PureOutcome, stopped, checked, coded, routed, ran, shown}
+use Rattle.metacli.specs.Outcome.{PureOutcome, stopped, checked, coded, routed, wedged, ran, shown}
+use Rattle.metacli.specs.declared.routing.Solution.{Solution}
+use Rattle.metacli.specs.declared.routing.Solution.TheVariants.{Unbeaten, Settled, AllStable}
 
 -- the lines of routes; changes leave all names as they are
 abbrev pub rows_text : PureNet → List PureRow → List ℕ
 rows_text net rows = concat (map (row_text net) rows)
+
+-- the one stable table of each of these destinations: how many it has, the number of that one, and as many rows as
+-- there are nodes
+abbrev pub tables_text : PureNet → List ℕ → List PureRow → List ℕ
+tables_text net [] rows = []
+tables_text net (dest ∷ dests) rows =
+    stable_text net dest 1
+    ++ (table_text 1 ++ (rows_text net (take (length net.nodes) rows) ++ tables_text net dests (drop (length net.nodes) rows)))
+
+-- routes, or stable tables
+abbrev pub routes_text : Solution → PureNet → List PureRow → List ℕ
+routes_text Unbeaten net rows = rows_text net rows
+routes_text Settled net rows = rows_text net rows
+routes_text AllStable net rows = tables_text net (range_with_len 0 (length net.dests)) rows
+
+-- the line of a required property that fails, if one does
+abbrev pub unmet_text : Option PureProperty → List ℕ
+unmet_text None = []
+unmet_text (Some p) = required_text p
 
 -- the network of a file behind its changes, if there is one: the arc of a refusal is one of its arcs
 abbrev pub last_net : Option PureNetFile → Option PureNet
@@ -49,21 +73,23 @@ run_text traced net nets number [] last quiet = phase_lines traced net number la
 run_text traced net [] number (p ∷ past) last quiet = []
 run_text traced net (m ∷ nets) number (p ∷ past) last quiet = phase_lines traced net number p true ++ run_text traced m nets (number + 1) past last quiet
 
--- the text of what a command came to: verdicts, code, routes, phases, a summary, or the one line of a refusal
+-- the text of what a command came to: verdicts, code, routes, a gadget, phases, a summary, or the one line of a refusal
 abbrev pub TextOf : PureOutcome → List ℕ
 TextOf (stopped a f r) = refusal_text r (last_net f)
-TextOf (checked a f v) = verdicts_text a.expression v
+TextOf (checked a f v u) = verdicts_text a.expression v ++ unmet_text u
 TextOf (coded a f listing) = code_text a.expression (last_net f) listing
-TextOf (routed a f rows) = rows_text f.net rows
+TextOf (routed s a f rows) = routes_text s f.net rows
+TextOf (wedged a v) = gadget_text a v
 TextOf (ran a f traced past last quiet) = run_text traced f.net (nets_after f.net f.changes) 0 past last quiet
 TextOf (shown a f last quiet) = summary_text f.net last.rows quiet
 
 -- that text can be made
 abbrev pub IsPrintable : PureOutcome → Type 0
 IsPrintable (stopped a f r) = CanRefuse r (last_net f)
-IsPrintable (checked a f v) = CanPrintVerdicts a.expression v
+IsPrintable (checked a f v u) = CanPrintVerdicts a.expression v
 IsPrintable (coded a f listing) = CanList a (last_net f) listing
-IsPrintable (routed a f rows) = AllByRecursion (IsRowOf f.net) rows
+IsPrintable (routed s a f rows) = AllByRecursion (IsRowOf f.net) rows
+IsPrintable (wedged a v) = CanPrintGadget a v
 IsPrintable (ran a f traced past last quiet) = AreOfNetworks f.net (nets_after f.net f.changes) past last
 IsPrintable (shown a f last quiet) = AreSummed last.rows
 
@@ -87,6 +113,7 @@ Written old text new decided (refused memory) = (decided ≡ refused memory → 
 Written old text new decided (refused r) = (refused r ≡ decided) × Appended old text new
 Written old text new decided done = (done ≡ decided) × Appended old text new
 Written old text new decided spent = (spent ≡ decided) × Appended old text new
+Written old text new decided (unmet p) = (unmet p ≡ decided) × Appended old text new
 
 -- the answer where it was cut short
 abbrev pub cut_answer : Cut → PureAnswer

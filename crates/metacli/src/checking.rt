@@ -1,34 +1,46 @@
 // What `check` decides.
-ghost use Rattle.std.specs.Prelude.{◌≡◌, IfOk, map, None, Some};
+ghost use Rattle.std.specs.Prelude.{◌≡◌, IfOk, map, None, Some, option_map};
 ghost use Rattle.alg_model.specs.Application.{IsLabel};
 ghost use Rattle.net_graph.specs.Changes.{AreChanges};
 ghost use Rattle.net_graph.specs.Views.{pure_change};
 ghost use Rattle.topology_file.specs.Views.{pure_file};
 ghost use Rattle.topology_file.specs.NetText.{changed_net};
 ghost use Rattle.property_infer.specs.Views.{pure_verdicts};
-ghost use Rattle.metacli.specs.Outcome.{AreVerdictsOn, IsCheckedAs, IsOnArc};
+ghost use Rattle.alg_classes.specs.Instances.{pure_property};
+ghost use Rattle.metacli.specs.Outcome.{AreVerdictsOn, DecidesTables, IsCheckedAs, IsOnArc, asks, first_unmet, is_failed};
+ghost use Rattle.alg_model.specs.Verdicts.{verdict_on};
+ghost use Rattle.property_infer.specs.Views.{pure_verdict};
 ghost use Rattle.metacli.specs.Views.{CanBeWritten, pure_outcome};
 
 use crate::behind::{last_of, net_behind};
 use crate::outcome::{Outcome, Stop};
+use alg_classes::Property;
 use alg_model::Alg;
+use command_words::Required;
 use meta_base::{ArcId, List, NoMemory};
 use net_graph::Net;
-use property_infer::{Verdicts, add_label, verdicts, verdicts_of};
+use property_infer::{Verdict, Verdicts, add_label, verdicts, verdicts_of};
+use settled_laws::monotone_verdict_decides_uniqueness;
 use std::alloc::Global;
 use topology_file::NetFile;
 
-/// What `check` comes to on an algebra.
-pub fn check(alloc: Global, alg: Alg) -> Outcome
-    ensures checked { IsCheckedAs alg None (IsLabel alg.expression) (pure_outcome result) }
+/// What `check` comes to on an algebra, with these properties required.
+pub fn check(alloc: Global, alg: Alg, require: Required) -> Outcome
+    ensures checked { IsCheckedAs require alg None (IsLabel alg.expression) (pure_outcome result) }
+    ensures decides { DecidesTables alg (pure_outcome result) }
     ensures printable { CanBeWritten result }
 {
+    monotone_verdict_decides_uniqueness();
     match verdicts(alloc, &alg) {
-        Ok(verdicts) => Outcome::Checked {
-            alg,
-            file: None,
-            verdicts,
-        },
+        Ok(verdicts) => {
+            let unmet = first_unmet(require, &verdicts);
+            Outcome::Checked {
+                alg,
+                file: None,
+                verdicts,
+                unmet,
+            }
+        }
         Err(NoMemory) => Outcome::Stopped {
             alg: Some(alg),
             file: None,
@@ -37,26 +49,58 @@ pub fn check(alloc: Global, alg: Alg) -> Outcome
     }
 }
 
-/// What `check` comes to on a network over the algebra, behind all its changes.
-pub fn check_network(alloc: Global, alg: Alg, file: NetFile) -> Outcome
+/// What `check` comes to on a network over the algebra, after all its changes, with these properties required.
+pub fn check_network(alloc: Global, alg: Alg, file: NetFile, require: Required) -> Outcome
     requires over { file.net.alg ≡ alg }
     requires changes { AreChanges file.net (map pure_change file.changes) }
-    ensures checked { IsCheckedAs alg (Some (pure_file file))
+    ensures checked { IsCheckedAs require alg (Some (pure_file file))
         (IsOnArc (changed_net (pure_file file))) (pure_outcome result) }
     ensures printable { CanBeWritten result }
 {
     match verdicts_behind(alloc, &file) {
-        Ok(verdicts) => Outcome::Checked {
-            alg,
-            file: Some(file),
-            verdicts,
-        },
+        Ok(verdicts) => {
+            let unmet = first_unmet(require, &verdicts);
+            Outcome::Checked {
+                alg,
+                file: Some(file),
+                verdicts,
+                unmet,
+            }
+        }
         Err(NoMemory) => Outcome::Stopped {
             alg: Some(alg),
             file: Some(file),
             stop: Stop::Memory,
         },
     }
+}
+
+// The first of the five properties that is required and fails.
+fn first_unmet(require: Required, verdicts: &Verdicts) -> Option<Property>
+    ensures { option_map pure_property result ≡ first_unmet require (pure_verdicts verdicts.now) }
+{
+    Property::ALL.iter().copied().find(|property| asks(require, *property)
+        && is_failed(verdicts.on(*property)))
+}
+
+// Whether the property is required.
+fn asks(require: Required, property: Property) -> bool
+    ensures { result ≡ asks require (pure_property property) }
+{
+    match property {
+        Property::Monotone => require.monotone,
+        Property::Strict => require.strict,
+        Property::Isotone => require.isotone,
+        Property::Cancellative => require.cancellative,
+        Property::Total => require.total,
+    }
+}
+
+// Whether the property fails.
+fn is_failed(verdict: &Verdict) -> bool
+    ensures { result ≡ is_failed (pure_verdict verdict.now) }
+{
+    matches!(verdict, Verdict::No(_))
 }
 
 // The verdicts on the labels of the network behind all its changes.

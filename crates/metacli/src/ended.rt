@@ -2,12 +2,12 @@ ghost use Rattle.std.specs.Prelude.{◌≡◌};
 ghost use Rattle.metacli.specs.Answers.{status_of};
 
 use crate::{Command, WordsFault};
-use alg_classes::Instance;
+use alg_classes::{Instance, Property};
 use alg_model::Alg;
 use code_gen::Listing;
 use meta_base::{ArcId, Delivery, List, Which};
 use net_graph::{Change, Net, RouteRow};
-use property_infer::Verdicts;
+use property_infer::{Verdict, Verdicts};
 use raml_syntax::ExprFault;
 use topology_file::NetFault;
 use vector_runs::Phase;
@@ -19,6 +19,8 @@ pub enum Answer {
     Done,
     /// It was carried out until all turns were used, and something was on its way still.
     Spent,
+    /// It was carried out, and this property, which was required, fails: the first such of the five in their order.
+    Unmet(Property),
     /// The words mean no command.
     BadWords(WordsFault),
     /// The bytes of the expression file mean no algebra.
@@ -54,8 +56,11 @@ pub struct Ended {
     /// The code of the algebra's order and, where there is a network, of the label on each arc in file order of the
     /// network behind all changes, where `code` was carried out.
     pub listing: Option<Listing>,
-    /// The routes, where `route` was carried out, on the network behind all changes; those of the last phase, where
-    /// `run` or `trace` was: for each destination in order, each node in order.
+    /// The verdict on monotone, where `gadget` was carried out: no number of its instance is above those of a network
+    /// file.
+    pub gadget: Option<Verdict>,
+    /// The routes, where `route`, `settle` or `stable` was carried out, on the network after all changes; those of the
+    /// last phase, where `run` or `trace` was: for each destination in order, each node in order.
     pub rows: List<RouteRow>,
     /// The deliveries of the last phase, where `run` or `trace` was carried out, by clock, then by listener.
     pub journal: List<Delivery>,
@@ -67,9 +72,9 @@ pub struct Ended {
     pub answer: Answer,
 }
 
-/// The status that the program ends with: 0 done, 1 bad words, 2 a bad expression or network, 3 a label that
-/// lacks a property, 4 turns that were used up, 5 a read fault, 6 a write fault, 7 out of memory, 8 a file that is
-/// too long.
+/// The status that the program ends with: 0 done, 1 bad words, 2 a bad expression or network, 3 a property that a
+/// label lacks or that was required and fails, 4 turns that were used up, 5 a read fault, 6 a write fault, 7 out of
+/// memory, 8 a file that is too long.
 pub fn status(answer: &Answer) -> u8
     ensures { result ≡ status_of answer.now }
 {
@@ -77,7 +82,7 @@ pub fn status(answer: &Answer) -> u8
         Answer::Done => 0,
         Answer::BadWords(_) => 1,
         Answer::BadExpr(_) | Answer::BadNet(_) => 2,
-        Answer::Lacks { .. } => 3,
+        Answer::Lacks { .. } | Answer::Unmet(_) => 3,
         Answer::Spent => 4,
         Answer::ReadFault(_) => 5,
         Answer::WriteFault => 6,

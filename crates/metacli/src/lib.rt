@@ -14,10 +14,12 @@ mod reading;
 mod routing;
 mod running;
 mod summing;
+mod tabling;
 mod top;
+mod wedging;
 mod writing;
 
-pub use command_words::{Command, WordsFault, read_words};
+pub use command_words::{Command, Required, WordsFault, read_words};
 pub use ended::{Answer, Ended, status};
 pub use top::run_meta;
 pub use vector_runs::Phase;

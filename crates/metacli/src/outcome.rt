@@ -1,19 +1,22 @@
 // What a run comes to before anything is written, and the end that shows it.
 ghost use Rattle.std.specs.Prelude.{◌≡◌, ◌≢◌, None, if◌then◌else◌};
 ghost use Rattle.metacli.specs.Answers.{done, memory_refused, pure_answer, pure_stop, refused, spent, write_fault};
-ghost use Rattle.metacli.specs.Outcome.{Shows, stopped};
+ghost use Rattle.std.specs.Prelude.{option_map};
+ghost use Rattle.metacli.specs.Outcome.{Shows, met_or, stopped};
 ghost use Rattle.metacli.specs.declared.outcome.Stop.TheVariants.{Memory};
 ghost use Rattle.metacli.specs.Views.{pure_outcome};
-ghost use Rattle.alg_classes.specs.Instances.{pure_instance};
+ghost use Rattle.alg_classes.specs.Instances.{pure_instance, pure_property};
 ghost use Rattle.report_text.specs.Refusals.{lacks, pure_refusal};
 
+use crate::routing::Solution;
 use crate::{Answer, Command, Ended, WordsFault};
+use alg_classes::Property;
 use alg_model::Alg;
 use code_gen::Listing;
 use meta_base::{Delivery, List, NoMemory, Which};
 use net_facts::Lack;
 use net_graph::{Net, RouteRow};
-use property_infer::Verdicts;
+use property_infer::{Verdict, Verdicts};
 use raml_syntax::ExprFault;
 use report_text::Refusal;
 use std::alloc::Global;
@@ -85,11 +88,12 @@ pub enum Outcome {
         behind: Option<Net>,
         lack: Lack,
     },
-    /// The verdicts on an algebra, or on the labels of a network over it.
+    /// The verdicts on an algebra, or on the labels of a network over it, and the first required property that fails.
     Checked {
         alg: Alg,
         file: Option<NetFile>,
         verdicts: Verdicts,
+        unmet: Option<Property>,
     },
     /// The code of an algebra's order, and of the labels of a network over it behind its changes, where there is one:
     /// `behind` is `None` where there are no changes.
@@ -99,11 +103,17 @@ pub enum Outcome {
         behind: Option<Net>,
         listing: Listing,
     },
-    /// The routes of a network over an algebra.
+    /// The routes of a network over an algebra that were asked for.
     Routed {
+        solution: Solution,
         alg: Alg,
         file: NetFile,
         rows: List<RouteRow>,
+    },
+    /// The verdict on monotone of an algebra, with an instance that a network file can hold.
+    Gadget {
+        alg: Alg,
+        verdict: Verdict,
     },
     /// The phases of path-vector nodes on the network of a file, and on those behind its changes.
     Ran {
@@ -163,11 +173,12 @@ impl Outcome {
                 alg,
                 file,
                 verdicts,
+                unmet,
             } => (
                 Some(alg),
                 file,
                 Made::of_verdicts(alloc, verdicts),
-                Answer::Done,
+                checked_answer(unmet),
             ),
             Outcome::Coded {
                 alg,
@@ -183,10 +194,21 @@ impl Outcome {
                     Answer::Done,
                 )
             }
-            Outcome::Routed { alg, file, rows } => (
+            Outcome::Routed {
+                alg,
+                file,
+                rows,
+                ..
+            } => (
                 Some(alg),
                 Some(file),
                 Made::of_rows(alloc, rows),
+                Answer::Done,
+            ),
+            Outcome::Gadget { alg, verdict } => (
+                Some(alg),
+                None,
+                Made::of_gadget(alloc, verdict),
                 Answer::Done,
             ),
             Outcome::Ran {
@@ -223,6 +245,7 @@ impl Outcome {
             changes,
             verdicts: made.verdicts,
             listing: made.listing,
+            gadget: made.gadget,
             rows: made.rows,
             journal: made.journal,
             past: made.past,
@@ -237,6 +260,7 @@ impl Outcome {
 struct Made {
     verdicts: Option<Verdicts>,
     listing: Option<Listing>,
+    gadget: Option<Verdict>,
     rows: List<RouteRow>,
     journal: List<Delivery>,
     past: List<Phase>,
@@ -247,11 +271,12 @@ impl Made {
 
     // Nothing.
     fn nothing(alloc: Global) -> Made
-        ensures { result ≡ record { verdicts = None; listing = None; rows = []; journal = []; past = [] } }
+        ensures { result ≡ record { verdicts = None; listing = None; gadget = None; rows = []; journal = []; past = [] } }
     {
         Made {
             verdicts: None,
             listing: None,
+            gadget: None,
             rows: List::new(alloc),
             journal: List::new(alloc),
             past: List::new(alloc),
@@ -260,11 +285,12 @@ impl Made {
 
     // Verdicts.
     fn of_verdicts(alloc: Global, verdicts: Verdicts) -> Made
-        ensures { result ≡ record { verdicts = Some verdicts; listing = None; rows = []; journal = []; past = [] } }
+        ensures { result ≡ record { verdicts = Some verdicts; listing = None; gadget = None; rows = []; journal = []; past = [] } }
     {
         Made {
             verdicts: Some(verdicts),
             listing: None,
+            gadget: None,
             rows: List::new(alloc),
             journal: List::new(alloc),
             past: List::new(alloc),
@@ -273,11 +299,33 @@ impl Made {
 
     // Code.
     fn of_listing(alloc: Global, listing: Listing) -> Made
-        ensures { result ≡ record { verdicts = None; listing = Some listing; rows = []; journal = []; past = [] } }
+        ensures { result ≡ record { verdicts = None; listing = Some listing; gadget = None; rows = []; journal = []; past = [] } }
     {
         Made {
             verdicts: None,
             listing: Some(listing),
+            gadget: None,
+            rows: List::new(alloc),
+            journal: List::new(alloc),
+            past: List::new(alloc),
+        }
+    }
+
+    // A verdict that a network shows.
+    fn of_gadget(alloc: Global, verdict: Verdict) -> Made
+        ensures { result ≡ record {
+          verdicts = None;
+          listing = None;
+          gadget = Some verdict;
+          rows = [];
+          journal = [];
+          past = [];
+        } }
+    {
+        Made {
+            verdicts: None,
+            listing: None,
+            gadget: Some(verdict),
             rows: List::new(alloc),
             journal: List::new(alloc),
             past: List::new(alloc),
@@ -286,11 +334,12 @@ impl Made {
 
     // Routes.
     fn of_rows(alloc: Global, rows: List<RouteRow>) -> Made
-        ensures { result ≡ record { verdicts = None; listing = None; rows = rows; journal = []; past = [] } }
+        ensures { result ≡ record { verdicts = None; listing = None; gadget = None; rows = rows; journal = []; past = [] } }
     {
         Made {
             verdicts: None,
             listing: None,
+            gadget: None,
             rows,
             journal: List::new(alloc),
             past: List::new(alloc),
@@ -302,6 +351,7 @@ impl Made {
         ensures { result ≡ record {
           verdicts = None;
           listing = None;
+          gadget = None;
           rows = phase.rows;
           journal = phase.journal;
           past = [];
@@ -310,6 +360,7 @@ impl Made {
         Made {
             verdicts: None,
             listing: None,
+            gadget: None,
             rows: phase.rows,
             journal: phase.journal,
             past: List::new(alloc),
@@ -321,6 +372,7 @@ impl Made {
         ensures { result ≡ record {
           verdicts = None;
           listing = None;
+          gadget = None;
           rows = run.last.rows;
           journal = run.last.journal;
           past = run.past;
@@ -329,10 +381,23 @@ impl Made {
         Made {
             verdicts: None,
             listing: None,
+            gadget: None,
             rows: run.last.rows,
             journal: run.last.journal,
             past: run.past,
         }
+    }
+}
+
+// The answer to verdicts, by the first required property that fails.
+pub(crate) fn checked_answer(unmet: Option<Property>) -> Answer
+    ensures answer { pure_answer result ≡ met_or (option_map pure_property unmet) }
+    ensures sink { pure_answer result ≢ write_fault }
+    ensures memory { pure_answer result ≢ memory_refused }
+{
+    match unmet {
+        Some(property) => Answer::Unmet(property),
+        None => Answer::Done,
     }
 }
 

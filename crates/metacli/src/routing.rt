@@ -1,4 +1,4 @@
-// What `route` and `settle` decide.
+// What `route`, `settle` and `stable` decide.
 ghost use Rattle.std.specs.Prelude.{◌≡◌, ◌++◌, IfOk, OnOk, map};
 ghost use Rattle.std.specs.List.{AllByRecursion};
 ghost use Rattle.alg_model.specs.Carriers.{carrier_of};
@@ -40,6 +40,8 @@ pub enum Solution {
     Unbeaten,
     /// Those of the one stable table of each destination, by `settle`.
     Settled,
+    /// All stable tables of each destination, by `stable`: where all labels are monotone, there is one.
+    AllStable,
 }
 
 impl Solution {
@@ -50,11 +52,13 @@ impl Solution {
         match self {
             Solution::Unbeaten => &[Property::Monotone, Property::Isotone],
             Solution::Settled => &[Property::Strict],
+            Solution::AllStable => &[Property::Monotone],
         }
     }
 }
 
-/// What `route` or `settle` comes to on a network over the algebra, behind all its changes, with so many workers.
+/// What `route`, `settle` or `stable` comes to on a network over the algebra, after all its changes, with so many
+/// workers.
 pub fn route<R: AllocGlobal + Threads + Sync>(
     rt: &R,
     alg: Alg,
@@ -95,7 +99,12 @@ fn outcome_of(
     match found {
         Ok(rows) => {
             drop(behind);
-            Outcome::Routed { alg, file, rows }
+            Outcome::Routed {
+                solution,
+                alg,
+                file,
+                rows,
+            }
         }
         Err(lack) => Outcome::Lacking {
             alg,

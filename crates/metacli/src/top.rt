@@ -1,5 +1,5 @@
 ghost use Rattle.std.specs.Prelude.{◌≡◌, ◌<◌, length, Some, None, Ok};
-ghost use Rattle.metacli.specs.Outcome.{ComesBy, ComesTo, IsChecked, IsCheckedOn, IsCoded, IsCodedOn, IsRouted, IsRunOn, word_at};
+ghost use Rattle.metacli.specs.Outcome.{ComesBy, ComesTo, IsChecked, IsCheckedOn, IsCoded, IsCodedOn, IsRouted, IsRunOn, IsWedged, word_at};
 ghost use Rattle.command_words.specs.Words.{AreTurns, AreWorkers, HasItsWords};
 ghost use Rattle.metacli.specs.Runs.{Runs};
 ghost use Rattle.metacli.specs.Views.{CanBeWritten, pure_outcome};
@@ -11,8 +11,9 @@ use crate::outcome::{Outcome, Stop};
 use crate::reading::{read_expression, read_network};
 use crate::routing::{Solution, route};
 use crate::running::run;
+use crate::wedging::gadget;
 use crate::writing::write;
-use crate::{Command, Ended, read_words};
+use crate::{Command, Ended, Required, read_words};
 use meta_base::{Gate, Shelf, Sink, Text};
 use raml_syntax::{no_fault_beside_an_algebra, one_text_one_algebra, one_text_one_fault};
 use std::alloc::{AllocGlobal, Global};
@@ -20,8 +21,8 @@ use std::sync::Wait;
 use std::thread::Threads;
 use topology_file::one_text_one_network;
 
-// `settle` finds its tables on one thread.
-const SETTLE_WORKERS: u32 = 1;
+// `settle` and `stable` find their tables on one thread.
+const ONE_WORKER: u32 = 1;
 
 /// All that the program does: it reads what the words mean, reads the files that they name, decides,
 /// and writes what was decided.
@@ -83,11 +84,22 @@ fn carry_out<R: AllocGlobal + Threads + Wait + Sync, S: Shelf, G: Gate>(
 {
     let alloc = rt.alloc();
     match command {
-        Command::Check { file, net: None } => check_file(alloc, shelf, name_at(words, file)),
+        Command::Check {
+            file,
+            net: None,
+            require,
+        } => check_file(alloc, shelf, name_at(words, file), require),
         Command::Check {
             file,
             net: Some(net),
-        } => check_files(alloc, shelf, name_at(words, file), name_at(words, net)),
+            require,
+        } => check_files(
+            alloc,
+            shelf,
+            name_at(words, file),
+            name_at(words, net),
+            require,
+        ),
         Command::Code { file, net: None } => code_file(alloc, shelf, name_at(words, file)),
         Command::Code {
             file,
@@ -107,7 +119,15 @@ fn carry_out<R: AllocGlobal + Threads + Wait + Sync, S: Shelf, G: Gate>(
             name_at(words, file),
             name_at(words, net),
             Solution::Settled,
-            SETTLE_WORKERS,
+            ONE_WORKER,
+        ),
+        Command::Stable { file, net } => route_files(
+            rt,
+            shelf,
+            name_at(words, file),
+            name_at(words, net),
+            Solution::AllStable,
+            ONE_WORKER,
         ),
         Command::Run {
             file,
@@ -139,6 +159,7 @@ fn carry_out<R: AllocGlobal + Threads + Wait + Sync, S: Shelf, G: Gate>(
             true,
             gate,
         ),
+        Command::Gadget { file } => gadget_file(alloc, shelf, name_at(words, file)),
         Command::Demo { seed, nodes } => demo(rt, seed, nodes, gate),
     }
 }
@@ -152,19 +173,25 @@ fn name_at(words: &[Text], place: usize) -> &str
 }
 
 // What `check` comes to on the expression file of that name.
-fn check_file<S: Shelf>(alloc: Global, shelf: &mut S, file: &str) -> Outcome
-    ensures checked { IsChecked file.now (S.now_is shelf.old) (S.now_is shelf.new) (pure_outcome result) }
+fn check_file<S: Shelf>(alloc: Global, shelf: &mut S, file: &str, require: Required) -> Outcome
+    ensures checked { IsChecked require file.now (S.now_is shelf.old) (S.now_is shelf.new) (pure_outcome result) }
     ensures printable { CanBeWritten result }
 {
     match read_expression(alloc, shelf, file) {
-        Ok(alg) => check(alloc, alg),
+        Ok(alg) => check(alloc, alg, require),
         Err(stop) => Outcome::refused(stop),
     }
 }
 
 // What `check` comes to on the expression file and the network file of these names.
-fn check_files<S: Shelf>(alloc: Global, shelf: &mut S, file: &str, net: &str) -> Outcome
-    ensures checked { IsCheckedOn file.now net.now (S.now_is shelf.old) (S.now_is shelf.new) (pure_outcome result) }
+fn check_files<S: Shelf>(
+    alloc: Global,
+    shelf: &mut S,
+    file: &str,
+    net: &str,
+    require: Required,
+) -> Outcome
+    ensures checked { IsCheckedOn require file.now net.now (S.now_is shelf.old) (S.now_is shelf.new) (pure_outcome result) }
     ensures printable { CanBeWritten result }
 {
     let alg = match read_expression(alloc, shelf, file) {
@@ -172,12 +199,23 @@ fn check_files<S: Shelf>(alloc: Global, shelf: &mut S, file: &str, net: &str) ->
         Err(stop) => return Outcome::refused(stop),
     };
     match read_network(alloc, shelf, &alg, net) {
-        Ok(file) => check_network(alloc, alg, file),
+        Ok(file) => check_network(alloc, alg, file, require),
         Err(stop) => Outcome::Stopped {
             alg: Some(alg),
             file: None,
             stop,
         },
+    }
+}
+
+// What `gadget` comes to on the expression file of that name.
+fn gadget_file<S: Shelf>(alloc: Global, shelf: &mut S, file: &str) -> Outcome
+    ensures wedged { IsWedged file.now (S.now_is shelf.old) (S.now_is shelf.new) (pure_outcome result) }
+    ensures printable { CanBeWritten result }
+{
+    match read_expression(alloc, shelf, file) {
+        Ok(alg) => gadget(alloc, alg),
+        Err(stop) => Outcome::refused(stop),
     }
 }
 
@@ -211,7 +249,7 @@ fn code_files<S: Shelf>(alloc: Global, shelf: &mut S, file: &str, net: &str) -> 
     }
 }
 
-// What `route` or `settle` comes to on the files of these names, with so many workers.
+// What `route`, `settle` or `stable` comes to on the files of these names, with so many workers.
 fn route_files<R: AllocGlobal + Threads + Sync, S: Shelf>(
     rt: &R,
     shelf: &mut S,

@@ -1,5 +1,5 @@
 // Writing the text of what a run came to, a line at a time.
-ghost use Rattle.std.specs.Prelude.{◌≡◌, ◌≢◌, Option, Some, map, option_map, IfOk};
+ghost use Rattle.std.specs.Prelude.{◌≡◌, ◌≢◌, ◌++◌, Option, Some, map, option_map, IfOk};
 ghost use Rattle.std.specs.List.{AllByRecursion};
 ghost use Rattle.alg_classes.specs.Instances.{pure_instance, pure_property};
 ghost use Rattle.alg_model.specs.Views.{pure_value};
@@ -9,19 +9,21 @@ ghost use Rattle.net_graph.specs.RowTexts.{IsRowOf};
 ghost use Rattle.property_infer.specs.Views.{pure_verdicts};
 ghost use Rattle.topology_file.specs.Views.{pure_file};
 ghost use Rattle.report_text.specs.CodeTexts.{CanList, code_text};
-ghost use Rattle.report_text.specs.VerdictTexts.{CanPrintVerdicts, lines_on};
+ghost use Rattle.report_text.specs.VerdictTexts.{CanPrintVerdicts, lines_on, verdicts_text};
 ghost use Rattle.report_text.specs.Refusals.{CanLack, lacks, lacks_text, refusal_text};
 ghost use Rattle.metacli.specs.Answers.{pure_answer, pure_stop, refused, write_fault};
 ghost use Rattle.metacli.specs.Outcome.{answer_in};
-ghost use Rattle.metacli.specs.Texts.{PutsText, TextOf, Written, last_net, rows_text};
+ghost use Rattle.metacli.specs.Texts.{PutsText, TextOf, Written, last_net, routes_text, rows_text, unmet_text};
 ghost use Rattle.metacli.specs.Views.{CanBeWritten, IsListedOn, pure_outcome};
 
 use crate::Answer;
 use crate::behind::last_of;
-use crate::outcome::{Outcome, Stop, end_answer};
+use crate::outcome::{Outcome, Stop, checked_answer, end_answer};
 use crate::phases::put_phases;
 use crate::putting::{Cut, answered, put_line, put_room, room_for_lines};
+use crate::routing::Solution;
 use crate::summing::put_summary;
+use crate::tabling::put_tables;
 use alg_classes::{Instance, Property};
 use alg_model::{Alg, Value};
 use code_gen::Listing;
@@ -29,9 +31,12 @@ use meta_base::{Failed, NoMemory, Sink, Text, put_all};
 use net_facts::Lack;
 use net_graph::{Net, RouteRow};
 use property_infer::Verdicts;
-use report_text::{code_lines, lacks_line, push_row_line, refusal_line, verdict_line};
+use report_text::{
+    code_lines, lacks_line, push_row_line, refusal_line, required_line, verdict_line,
+};
 use std::alloc::Global;
 use topology_file::NetFile;
+use wedge_nets::gadget_lines;
 
 /// Writes the text of what a run came to, and answers how that went.
 pub fn write<K: Sink>(alloc: Global, out: &mut K, outcome: &Outcome) -> Answer
@@ -47,9 +52,14 @@ pub fn write<K: Sink>(alloc: Global, out: &mut K, outcome: &Outcome) -> Answer
             lack,
             ..
         } => write_lack(alloc, out, last_of(behind, &file.net), lack),
-        Outcome::Checked { alg, verdicts, .. } => answered(
-            put_verdicts(alloc, out, alg, verdicts, &Property::ALL),
-            Answer::Done,
+        Outcome::Checked {
+            alg,
+            verdicts,
+            unmet,
+            ..
+        } => answered(
+            put_checked(alloc, out, alg, verdicts, *unmet),
+            checked_answer(*unmet),
         ),
         Outcome::Coded {
             alg,
@@ -60,8 +70,17 @@ pub fn write<K: Sink>(alloc: Global, out: &mut K, outcome: &Outcome) -> Answer
             put_code(alloc, out, alg, file, behind, listing),
             Answer::Done,
         ),
-        Outcome::Routed { file, rows, .. } => answered(
-            put_rows(alloc, out, &file.net, rows.as_slice()),
+        Outcome::Routed {
+            solution,
+            file,
+            rows,
+            ..
+        } => answered(
+            put_routes(alloc, out, *solution, &file.net, rows.as_slice()),
+            Answer::Done,
+        ),
+        Outcome::Gadget { alg, verdict } => answered(
+            put_line(out, gadget_lines(alloc, alg, verdict)),
             Answer::Done,
         ),
         Outcome::Ran {
@@ -199,6 +218,51 @@ fn copy_second(alloc: Global, second: &Option<Value>) -> Result<Option<Value>, N
     match second {
         Some(value) => Ok(Some(value.copy(alloc)?)),
         None => Ok(None),
+    }
+}
+
+// Puts the lines of the verdicts, and then that of the first required property that fails.
+fn put_checked<K: Sink>(
+    alloc: Global,
+    out: &mut K,
+    alg: &Alg,
+    verdicts: &Verdicts,
+    unmet: Option<Property>,
+) -> Result<(), Cut>
+    requires { CanPrintVerdicts alg.now.expression (pure_verdicts verdicts.now) }
+    ensures { PutsText (K.holds out.old)
+        (verdicts_text alg.now.expression (pure_verdicts verdicts.now) ++ unmet_text (option_map pure_property unmet))
+        result (K.holds out.new) }
+{
+    put_verdicts(alloc, out, alg, verdicts, &Property::ALL)?;
+    put_unmet(alloc, out, unmet)
+}
+
+// Puts the line of a required property that fails, if one does.
+fn put_unmet<K: Sink>(alloc: Global, out: &mut K, unmet: Option<Property>) -> Result<(), Cut>
+    ensures { PutsText (K.holds out.old) (unmet_text (option_map pure_property unmet)) result (K.holds out.new) }
+{
+    match unmet {
+        Some(property) => put_line(out, required_line(alloc, property)),
+        None => Ok(()),
+    }
+}
+
+// Puts routes, or stable tables.
+fn put_routes<K: Sink>(
+    alloc: Global,
+    out: &mut K,
+    solution: Solution,
+    net: &Net,
+    rows: &[RouteRow],
+) -> Result<(), Cut>
+    requires { AllByRecursion (IsRowOf net.now) (map pure_row rows.now) }
+    ensures { PutsText (K.holds out.old) (routes_text solution net.now (map pure_row rows.now))
+        result (K.holds out.new) }
+{
+    match solution {
+        Solution::Unbeaten | Solution::Settled => put_rows(alloc, out, net, rows),
+        Solution::AllStable => put_tables(alloc, out, net, 0, rows),
     }
 }
 

@@ -3,3 +3,4 @@ pub mod Refusals
 pub mod RunTexts
 pub mod SummaryTexts
 pub mod CodeTexts
+pub mod TableTexts

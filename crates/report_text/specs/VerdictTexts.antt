@@ -51,6 +51,10 @@ lines_on a v (p ∷ ps) = verdict_text a p (verdict_on v p) ++ lines_on a v ps
 abbrev pub verdicts_text : Expression → PureVerdicts → List ℕ
 verdicts_text a v = lines_on a v (monotone ∷ strict ∷ isotone ∷ cancellative ∷ total ∷ [])
 
+-- the line of a property that is required and fails
+abbrev pub required_text : PureProperty → List ℕ
+required_text p = codes "required: " ++ property_word p ++ codes "\n"
+
 -- the instance is the algebra's, and its images can be computed
 pub record CanPrint (a : Expression) (x : PureInstance) : Type 0 where
   pub is_of : IsInstanceOf a x

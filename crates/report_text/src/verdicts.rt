@@ -9,7 +9,7 @@ ghost use Rattle.alg_model.specs.Carriers.{carrier_of, In};
 ghost use Rattle.alg_model.specs.Application.{IsLabel, App};
 ghost use Rattle.alg_classes.specs.Instances.{pure_property, pure_instance};
 ghost use Rattle.property_infer.specs.Views.{pure_verdict, pure_verdicts};
-ghost use Rattle.report_text.specs.VerdictTexts.{CanPrint, CanPrintVerdict, CanPrintVerdicts, image_text, instance_text, property_word, verdict_text, lines_on, verdicts_text};
+ghost use Rattle.report_text.specs.VerdictTexts.{CanPrint, CanPrintVerdict, CanPrintVerdicts, image_text, instance_text, property_word, required_text, verdict_text, lines_on, verdicts_text};
 
 use alg_classes::{Instance, Property};
 use alg_model::{Alg, Label, Value, apply};
@@ -136,6 +136,17 @@ pub fn verdict_line(
 {
     let mut out = String::new(alloc);
     push_verdict(alloc, &mut out, alg, property, verdict)?;
+    Ok(Text::from_string(out))
+}
+
+/// The line of a property that is required and fails. It is refused for want of memory alone.
+pub fn required_line(alloc: Global, property: Property) -> Result<Text, NoMemory>
+    ensures { IfOk result (λ text. text ≡ required_text (pure_property property)) }
+{
+    let mut out = String::new(alloc);
+    out.push_str("required: ")?;
+    out.push_str(word_of(property))?;
+    out.push_str("\n")?;
     Ok(Text::from_string(out))
 }
 

@@ -5,7 +5,7 @@ use Rattle.std.proofs.lemmas.Iterator.Consumers.{YieldsList-from_first}
 use Rattle.std.proofs.lemmas.Iterator.Search.{find_from_yields_List}
 use Rattle.command_words.specs.Parts.{pure_part, gives, parts_from}
 use Rattle.command_words.specs.PartsLeft.{parts_left}
-use Rattle.command_words.proofs.reading.value_of.Goals as goal
+use Rattle.command_words.proofs.reading.value_given.Goals as goal
 
 pub returns-in_err-find : goal.returns-in_err-find
 returns-in_err-find c =

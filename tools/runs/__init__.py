@@ -1,0 +1,1 @@
+"""What the tools that run the program share: words, runs, the text that a command prints, networks."""

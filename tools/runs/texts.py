@@ -1,0 +1,266 @@
+"""Reads what a command of the program prints, into the members that docs/json.md describes.
+
+Each line has to have a form that the command prints; any other is refused with its number. A command is one entry of
+READERS, and a line that refuses is one of REFUSALS.
+"""
+
+import re
+
+from runs.words import Refused
+
+NAME = r'[A-Za-z0-9_.-]{1,32}'
+PROPERTIES = ('monotone', 'strict', 'isotone', 'cancellative', 'total')
+PROPERTY = '|'.join(PROPERTIES)
+# What each argument of a command is called in a refusal.
+FILES = ('expression', 'network')
+FILE = '|'.join(FILES)
+# The flags of the script that stand before a command.
+SCRIPT_FLAGS = ('--proved', '--unproved')
+
+NUMBER = r'\d{1,20}'
+INSTANCE = r'(\S+) on (\S+)(?: and (\S+))? gives (\S+)(?: and (\S+))?'
+ROW = rf'({NAME}) ({NAME}) (?:none|(?!none )(\S+)((?: {NAME})+))'
+END_OF_RUN = rf'(quiet|spent) ({NUMBER})'
+DELIVERY = rf'({NUMBER}) ({NAME}) ({NAME})'
+ARC = rf'arc ({NAME}) ({NAME}) (\S+)'
+OPERATION = rf'({NUMBER}) ([a-z]+(?: (?:{NUMBER}|-))*)'
+COUNTS = rf'nodes ({NUMBER}) arcs ({NUMBER})'
+SUM = rf'({NAME}) reached ({NUMBER}) sum ({NUMBER})'
+
+
+class Lines:
+    """The lines of a text, which are taken one after another."""
+
+    def __init__(self, text):
+        if text and not text.endswith('\n'):
+            raise Refused('what the program printed ends in the middle of a line')
+        self.lines, self.at = text.split('\n')[:-1], 0
+
+    def has_more(self):
+        return self.at < len(self.lines)
+
+    def has_next(self, pattern):
+        return self.has_more() and re.fullmatch(pattern, self.lines[self.at]) is not None
+
+    def take(self, pattern):
+        """The groups of the next line, which must have this form."""
+        if not self.has_more():
+            raise Refused(f'what the program printed ends too early, after line {self.at}')
+        found = re.fullmatch(pattern, self.lines[self.at])
+        if not found:
+            raise self.unknown()
+        self.at += 1
+        return found.groups()
+
+    def unknown(self, at=None):
+        at = self.at if at is None else at
+        return Refused(f'line {at + 1} of what the program printed is not known: {self.lines[at]}')
+
+    def place_of(self, pattern):
+        """How many lines stand before the next one of this form."""
+        for place in range(self.at, len(self.lines)):
+            if re.fullmatch(pattern, self.lines[place]):
+                return place - self.at
+        raise Refused('what the program printed ends too early: no line is quiet N or spent N')
+
+
+def image(text):
+    return None if text == 'none' else text
+
+
+def instance_of(lines, text):
+    """A label, and the values that it changes into others or into none."""
+    found = re.fullmatch(INSTANCE, text)
+    if not found or (found[3] is None) != (found[5] is None):
+        raise lines.unknown(lines.at - 1)
+    label, first, second, *images = found.groups()
+    if second is None:
+        return {'label': label, 'values': [first], 'images': [image(images[0])]}
+    return {'label': label, 'values': [first, second], 'images': [image(it) for it in images]}
+
+
+def read_verdicts(lines):
+    found = {}
+    for name in PROPERTIES:
+        text, = lines.take(rf'{name} (?:yes|no: (.+))')
+        found[name] = {'holds': True} if text is None else {'holds': False, 'instance': instance_of(lines, text)}
+    return {'verdicts': found}
+
+
+def read_rows(lines, count=None):
+    """The rows by destination, as many as are said; all that remain, where no number is given."""
+    found, nodes = {}, set()
+    stop = len(lines.lines) if count is None else lines.at + count
+    while lines.at < stop:
+        node, dest, value, path = lines.take(ROW)
+        path = (path or '').split()
+        if (path and path[0] != node) or (node, dest) in nodes:
+            raise lines.unknown(lines.at - 1)
+        nodes.add((node, dest))
+        found.setdefault(dest, []).append({'node': node, 'value': value, 'path': path})
+    return found
+
+
+def read_tables(lines):
+    return {'rows': read_rows(lines)}
+
+
+def read_delivery(lines):
+    clock, listener, speaker = lines.take(DELIVERY)
+    return {'clock': int(clock), 'listener': listener, 'speaker': speaker}
+
+
+def read_phase(lines, number, is_traced):
+    """A phase. How many of its lines are deliveries is what its last line says, since a row may look like one."""
+    count = lines.place_of(END_OF_RUN)
+    deliveries = int(re.fullmatch(END_OF_RUN, lines.lines[lines.at + count])[2])
+    found = {'phase': number}
+    if is_traced:
+        found['journal'] = [read_delivery(lines) for _ in range(deliveries)]
+        count -= deliveries
+    found['rows'] = read_rows(lines, max(count, 0))
+    found['end'] = lines.take(END_OF_RUN)[0]
+    return {**found, 'deliveries': deliveries}
+
+
+def read_phases(lines, is_traced):
+    found = [read_phase(lines, 0, is_traced)]
+    while lines.has_more() and found[-1]['end'] == 'quiet':
+        lines.take(f'phase {len(found)}')
+        found.append(read_phase(lines, len(found), is_traced))
+    return {'phases': found}
+
+
+def read_operations(lines):
+    """The operations of one code, with the place of each taken off."""
+    found = []
+    while lines.has_next(OPERATION):
+        found.append(lines.take(rf'({len(found)}) (.+)')[1])
+    return found
+
+
+def read_code(lines):
+    lines.take('order')
+    order, arcs = read_operations(lines), []
+    while lines.has_more():
+        listener, speaker, label = lines.take(ARC)
+        arcs.append({'listener': listener, 'speaker': speaker, 'label': label, 'code': read_operations(lines)})
+    return {'code': {'order': order, 'arcs': arcs}}
+
+
+def read_summary(lines):
+    nodes, arcs = lines.take(COUNTS)
+    sums = []
+    while lines.has_next(SUM):
+        dest, reached, total = lines.take(SUM)
+        sums.append({'destination': dest, 'reached': int(reached), 'sum': int(total)})
+    how = lines.take(rf'(quiet|spent {NUMBER})')[0].split()[0]
+    return {'summary': {'nodes': int(nodes), 'arcs': int(arcs), 'destinations': sums, 'end': how}}
+
+
+def read_run(lines):
+    return read_phases(lines, is_traced=False)
+
+
+def read_trace(lines):
+    return read_phases(lines, is_traced=True)
+
+
+# For each command the statuses that its answer may come with, and what reads the text of that.
+READERS = {
+    'check': ((0,), read_verdicts),
+    'code': ((0,), read_code),
+    'route': ((0,), read_tables),
+    'settle': ((0,), read_tables),
+    'run': ((0, 4), read_run),
+    'trace': ((0, 4), read_trace),
+    'demo': ((0, 4), read_summary),
+}
+
+
+def refused_words(lines, fault):
+    return {'kind': 'words', 'fault': fault}
+
+
+def refused_expression(lines, fault, line, column):
+    return {'kind': 'expression', 'fault': fault, 'line': int(line), 'column': int(column)}
+
+
+def refused_network(lines, fault, line):
+    return {'kind': 'network', 'fault': fault, 'line': int(line)}
+
+
+def missing_property(lines, name, listener, speaker, text):
+    arc = {'listener': listener, 'speaker': speaker}
+    return {'kind': 'property', 'property': name, 'arc': arc, 'instance': instance_of(lines, text)}
+
+
+# Each line that refuses: the status that it comes with, its form, and its members.
+REFUSALS = (
+    (1, r'words refused: (C\d+)', refused_words),
+    (2, rf'expression refused: (X\d+) at ({NUMBER}):({NUMBER})', refused_expression),
+    (2, rf'network refused: (N\d+) at line ({NUMBER})', refused_network),
+    (3, rf'({PROPERTY}) fails on ({NAME}) ({NAME}): (.+)', missing_property),
+    (5, rf'read fault on the ({FILE})', lambda lines, which: {'kind': 'read', 'of': which}),
+    (7, r'out of memory', lambda lines: {'kind': 'memory'}),
+    (8, rf'too long: the ({FILE})', lambda lines, which: {'kind': 'length', 'of': which}),
+)
+# With other statuses the program ended in the middle, and what it had printed is no whole text. Status 7 is both.
+WHOLE = (0, 1, 2, 3, 4, 5, 8)
+MEMORY = 'out of memory\n'
+
+
+def command_and_arguments(words):
+    """The command among the words, or None, and its arguments, as docs/commands.md says how words are read."""
+    words = list(words)
+    while words and words[0] in SCRIPT_FLAGS:
+        words.pop(0)
+    arguments, rest = [], iter(words[1:])
+    for word in rest:
+        if word.startswith('--'):
+            next(rest, None)
+        else:
+            arguments.append(word)
+    return (words[0] if words else None), arguments
+
+
+def read_refusal(lines, status, arguments):
+    """The refusal that is the whole text, or None where it is no refusal."""
+    for its_status, pattern, members_of in REFUSALS:
+        if status == its_status and len(lines.lines) == 1 and lines.has_next(pattern):
+            text = lines.lines[0]
+            found = members_of(lines, *lines.take(pattern))
+            which = found.get('of', found['kind'])
+            place = FILES.index(which) if which in FILES else len(arguments)
+            return {**found, **({'file': arguments[place]} if place < len(arguments) else {}), 'text': text}
+    return None
+
+
+def is_spent(found):
+    """Whether the last phase of a run, or the run of a summary, was spent."""
+    return any(part['end'] == 'spent' for part in [*found.get('phases', []), found.get('summary', {'end': None})])
+
+
+def read_whole(command, status, lines):
+    """The members of the answer that a command printed to its end."""
+    if command not in READERS:
+        raise Refused(f'there is no reader of what {command} prints')
+    statuses, reader = READERS[command]
+    if status not in statuses:
+        raise lines.unknown() if lines.has_more() else Refused(f'the program printed nothing, with status {status}')
+    found = reader(lines)
+    if lines.has_more():
+        raise lines.unknown()
+    if is_spent(found) != (status == 4):
+        raise Refused(f'the end that the program printed does not fit its status {status}')
+    return found
+
+
+def read_answer(words, ran):
+    """The members for what a run with these words printed."""
+    if ran.status not in WHOLE and ran.text != MEMORY:
+        return {'front': ran.text.splitlines()} if ran.text else {}
+    command, arguments = command_and_arguments(words)
+    lines = Lines(ran.text)
+    refusal = read_refusal(lines, ran.status, arguments)
+    return {'refusal': refusal} if refusal else read_whole(command, ran.status, lines)
