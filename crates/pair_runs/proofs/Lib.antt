@@ -1,4 +1,3 @@
-pub mod Tested
 pub mod Choices
 pub mod Turns
 pub mod Rounds

@@ -1,5 +1,5 @@
 -- The nodes of the pair take turns, and each two turns bring them to where they were, but for their two routes and clocks.
-use Rattle.std.proofs.Common.{◌≡◌, ℕ, zero, suc, ◌+◌, ◌-◌, ◌<◌, ◌≤◌, inl, inr, List, [], ◌∷◌, ◌++◌, Bool, true, false, not, Option, Some, None, length, map, cond, refl, sym, subst, ap, ◌∙◌, arith}
+use Rattle.std.proofs.Common.{◌≡◌, ℕ, zero, suc, ◌+◌, ◌-◌, ◌<◌, inl, inr, List, [], ◌∷◌, ◌++◌, Bool, true, not, Some, length, map, refl, sym, subst, ap, ◌∙◌, arith}
 use Rattle.std.specs.Prelude.{filter, max}
 use Rattle.std.specs.List.{AllByRecursion, range_with_len}
 use Rattle.meta_base.specs.declared.ids.Delivery.{Delivery}
@@ -8,13 +8,13 @@ use Rattle.alg_model.specs.Formation.{IsAlg}
 use Rattle.net_graph.specs.Nets.{PureNet, arcs_to}
 use Rattle.net_graph.specs.Routes.{PureRoute}
 use Rattle.node_core.specs.Kinds.{listener, on_arc}
-use Rattle.node_core.specs.Machine.{Machine, ComesBefore, Drained, Ordered, Replay, Start, clock_after, deliver_at, replay_from, step_of, stepped}
+use Rattle.node_core.specs.Machine.{Machine, ComesBefore, Drained, Ordered, Start, clock_after, deliver_at, replay_from, step_of, stepped}
 use Rattle.node_core.specs.MachineLaws.{deliver_by_clock, front_is}
 use Rattle.node_core.specs.Running.{entry_at}
 use Rattle.path_vector.specs.Node.{PvState, PureUpdate, Begin, is_news, new_node, path_vector, told_on}
 use Rattle.settled_laws.specs.Pair.{pair_net, Fits, Improves}
 use Rattle.pair_runs.specs.Unfinished.{HasUnfinishedRun}
-use Rattle.pair_runs.proofs.Tested.{AreTested, are_tested}
+use Rattle.pair_runs.specs.ImprovedValues.{AreTested, are_tested}
 use Rattle.pair_runs.proofs.Choices.{route_of, p_alone, q_alone}
 use Rattle.pair_runs.proofs.Turns.{IsEnd, Takes, update_of, p_takes, q_takes}
 
@@ -207,12 +207,12 @@ module _ (alg : PureAlg) (l : PureLabel) (v w : PureValue) where
     )
     goes (suc count) x t c = (
       λ r.
-      let turn = p_turn x t c r in
-      let same : t + 1 ≡ t + 1 + 0 = omega arith in
-      more c turn.0 0 (t + 1) count turn.1 (subst (λ n. Goes turn.0 1 n count) same ((goes count x t turn.0).1 turn.2)),
+          let turn = p_turn x t c r in
+          let same : t + 1 ≡ t + 1 + 0 = omega arith in
+          more c turn.0 0 (t + 1) count turn.1 (subst (λ n. Goes turn.0 1 n count) same ((goes count x t turn.0).1 turn.2)),
       λ r.
-      let turn = q_turn x t c r in
-      more c turn.0 1 (t + 1) count turn.1 ((goes count (not x) (t + 1) turn.0).0 turn.2),
+          let turn = q_turn x t c r in
+          more c turn.0 1 (t + 1) count turn.1 ((goes count (not x) (t + 1) turn.0).0 turn.2),
     )
 
   -- so the new nodes have an unfinished run of each length

@@ -1,11 +1,11 @@
 -- What a node of the pair makes of the other's route.
-use Rattle.std.proofs.Common.{◌≡◌, ℕ, [], ◌∷◌, List, Bool, true, false, not, Some, refl, ap, ◌∙◌}
+use Rattle.std.proofs.Common.{◌≡◌, ℕ, [], ◌∷◌, Bool, true, false, not, Some, refl, ap, ◌∙◌}
 use Rattle.alg_model.specs.Expressions.{PureAlg, PureLabel, PureValue}
 use Rattle.net_graph.specs.Nets.{PureNet, arcs_to}
 use Rattle.net_graph.specs.Routes.{PureRoute}
 use Rattle.path_vector.specs.Node.{PvState, PureUpdate, Step, choice, fits, heard_with, same_row, told_on}
 use Rattle.settled_laws.specs.Pair.{pair_net}
-use Rattle.pair_runs.proofs.Tested.{AreTested}
+use Rattle.pair_runs.specs.ImprovedValues.{AreTested}
 use Rattle.pair_runs.proofs.Choices.{route_of, p_turns, q_turns, p_may_be, q_may_be, p_changes, q_changes}
 
 -- the node of the network's number, with that route

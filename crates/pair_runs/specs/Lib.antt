@@ -1,1 +1,3 @@
 pub mod Unfinished
+pub mod ImprovedValues
+pub mod BestOfTwo

@@ -1,4 +1,5 @@
--- What tests say of a value, and of what a label that improves it makes of it.
+-- What tests say of a value, and of what a label that improves it makes of it. Lemmas, so that proofs of other crates
+-- may cite them.
 use Rattle.std.proofs.Common.{◌≡◌, ◌+◌, ◌*◌, true, Some, refl, arith}
 use Rattle.std.specs.Ordering.{ordering_reverse}
 use Rattle.std.specs.declared.cmp.Ordering.{Ordering}
