@@ -19,6 +19,7 @@ pub fn make_delivery<N: NodeCore>(
     requires running { IsRunning N.kind (net_of config.old) (machine_of N.state N.note config.old) }
     requires begun { AreUpTo N.kind (machine_of N.state N.note config.old) made }
     requires early { made < MAX_CLOCK }
+    ensures net { OnOk result (net_of config.new ≡ net_of config.old) }
     ensures running { OnOk result (IsRunning N.kind (net_of config.new) (machine_of N.state N.note config.new)) }
     ensures begun { OnOk result (AreUpTo N.kind (machine_of N.state N.note config.new) (made + 1)) }
     ensures clock { IfOk result (λ clock.

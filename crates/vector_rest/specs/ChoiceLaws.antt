@@ -6,10 +6,10 @@ use Rattle.net_graph.specs.Nets.{PureNet}
 use Rattle.net_graph.specs.Routes.{PureRoute}
 use Rattle.net_graph.specs.RouteLaws.{neither_better, same_route}
 use Rattle.net_graph.specs.Tables.{Told, carrier, IsOfferBy, Offers, IsChoice}
-use Rattle.vector_rest.specs.Levels.{TellsOf, TellsOwnPaths, AreLevels}
+use Rattle.vector_rest.specs.Levels.{ReportsOnly, ReportsOwnPaths, AreLevels}
 
 -- offers of one path are one offer
-pub same_offer : (net : PureNet) (dest : ℕ) (told : Told) (i : ℕ) (r s : PureRoute) → TellsOwnPaths told → Offers net dest told i r → Offers net dest told i s → r.path ≡ s.path → r ≡ s
+pub same_offer : (net : PureNet) (dest : ℕ) (told : Told) (i : ℕ) (r s : PureRoute) → ReportsOwnPaths told → Offers net dest told i r → Offers net dest told i s → r.path ≡ s.path → r ≡ s
 same_offer net dest told i r s h (inl a) (inl b) e =
     let v : r.value ≡ s.value = let x = a.0 in let y = b.0 in cc in
     same_route r s v e
@@ -28,7 +28,7 @@ same_offer net dest told i r s h (inr (j, a)) (inr (k, b)) e =
     let v : r.value ≡ s.value = let x = a.weighs in let y = b.weighs in cc in
     same_route r s v e
 
--- an offer is one still, or was made by the neighbour of whom something else is told
+-- an offer is one still, or is made of what the neighbour reported before its report changed
 moved : (net : PureNet) (dest : ℕ) (told other : Told) (i j : ℕ) → ((m : ℕ) → (m == j) ≡ false → told m ≡ other m)
     → (r : PureRoute) → Offers net dest told i r → Offers net dest other i r ⊎ IsOfferBy net told i j r
 moved net dest told other i j same r (inl own) = inl (inl own)
@@ -40,12 +40,12 @@ moved net dest told other i j same r (inr (m, o)) = by (m == j) refl
 
 module _ (net : PureNet) (Has : PureRoute → Type 0) (level : Option PureRoute → ℕ) (are : AreLevels net Has level) where
   -- the neighbour's route has a lower level than what its arc makes of it
-  extended : (told : Told) (i j : ℕ) → TellsOf Has told → (r : PureRoute) → Has r → IsOfferBy net told i j r → level (told j) < level (Some r)
-  extended told i j tells r has o =
-      let below : level (Some o.next) < level (Some r) = are.extends told i j r o (tells j o.next o.is_told) has in
+  extended : (told : Told) (i j : ℕ) → ReportsOnly Has told → (r : PureRoute) → Has r → IsOfferBy net told i j r → level (told j) < level (Some r)
+  extended told i j reports r has o =
+      let below : level (Some o.next) < level (Some r) = are.extends told i j r o (reports j o.next o.is_told) has in
       subst (λ t. level t < level (Some r)) (sym o.is_told) below
 
-  module _ (dest : ℕ) (told other : Told) (i j : ℕ) (tells : TellsOf Has told) (tells_other : TellsOf Has other) (own : TellsOwnPaths told)
+  module _ (dest : ℕ) (told other : Told) (i j : ℕ) (reports : ReportsOnly Has told) (reports_other : ReportsOnly Has other) (own : ReportsOwnPaths told)
       (same : (m : ℕ) → (m == j) ≡ false → told m ≡ other m) where
     both : (r s : PureRoute) → Has r → Has s → IsChoice net dest told i (Some r) → IsChoice net dest other i (Some s) → (r ≡ s → ⊥)
         → min (level (told j)) (level (other j)) < min (level (Some r)) (level (Some s))
@@ -59,15 +59,15 @@ module _ (net : PureNet) (Has : PureRoute → Type 0) (level : Option PureRoute 
             absurd (apart (same_offer net dest told i r s own choice.0 b path))
         by (inl a) (inr b) =
             let order = are.orders s r has_other has (choice_other.1 r a) in
-            let below = extended other i j tells_other s has_other b in
+            let below = extended other i j reports_other s has_other b in
             omega (arith, order, below)
         by (inr a) (inl b) =
             let order = are.orders r s has has_other (choice.1 s b) in
-            let below = extended told i j tells r has a in
+            let below = extended told i j reports r has a in
             omega (arith, order, below)
         by (inr a) (inr b) =
-            let first = extended told i j tells r has a in
-            let second = extended other i j tells_other s has_other b in
+            let first = extended told i j reports r has a in
+            let second = extended other i j reports_other s has_other b in
             omega (arith, first, second)
 
     pub levels_rise : (r s : Option PureRoute) → IsChoice net dest told i r → IsChoice net dest other i s
@@ -81,7 +81,7 @@ module _ (net : PureNet) (Has : PureRoute → Type 0) (level : Option PureRoute 
         by : Offers net dest told i s ⊎ IsOfferBy net other i j s → min (level (told j)) (level (other j)) < min (level None) (level (Some s))
         by (inl b) = absurd (choice s b)
         by (inr b) =
-            let below = extended other i j tells_other s (has_other s refl) b in
+            let below = extended other i j reports_other s (has_other s refl) b in
             let top = are.tops s (has_other s refl) in
             omega (arith, below, top)
     levels_rise (Some r) None choice choice_other has has_other apart =
@@ -90,7 +90,7 @@ module _ (net : PureNet) (Has : PureRoute → Type 0) (level : Option PureRoute 
         by : Offers net dest other i r ⊎ IsOfferBy net told i j r → min (level (told j)) (level (other j)) < min (level (Some r)) (level None)
         by (inl a) = absurd (choice_other r a)
         by (inr a) =
-            let below = extended told i j tells r (has r refl) a in
+            let below = extended told i j reports r (has r refl) a in
             let top = are.tops r (has r refl) in
             omega (arith, below, top)
     levels_rise None None choice choice_other has has_other apart = absurd (apart refl)

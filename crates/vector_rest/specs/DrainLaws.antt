@@ -18,7 +18,7 @@ use Rattle.path_vector.specs.Node.{PvState, PureUpdate, path_vector}
 use Rattle.path_vector.specs.Coherent.{MayBegin}
 use Rattle.path_vector.specs.Lawful.{path_vector_is_lawful}
 use Rattle.vector_rest.specs.Levels.{learn, known_on, budget_from}
-use Rattle.vector_rest.specs.Left.{left_from}
+use Rattle.vector_rest.specs.Left.{left_at_start, left_from}
 use Rattle.vector_rest.specs.EndLaws.{may_begin_unbegun, begun_runs_end}
 
 -- where a sum is 0, so is each of what is added
@@ -55,7 +55,7 @@ module _ {S M T : Type 0} (k : Kind S M) (net : PureNet) (budget : T → M → �
 
 -- once as many deliveries were made as were left at the start, nothing is on its way
 pub enough_deliveries_drain : (net : PureNet) (nodes : List PvState) (journal : List Delivery) (c : Machine PvState PureUpdate) → IsNet net → NetHas monotone net → MayBegin net nodes
-    → Replay path_vector net nodes journal ≡ Some c → left_from net (Start path_vector nodes) (Start path_vector nodes) ≤ length journal → Drained c
+    → Replay path_vector net nodes journal ≡ Some c → left_at_start net nodes ≤ length journal → Drained c
 enough_deliveries_drain net nodes journal c n mono m e enough =
     let all = begun_runs_end net nodes journal c n mono m e in
     let running = start_runs path_vector path_vector_is_lawful net n nodes (may_begin_unbegun net nodes m) in

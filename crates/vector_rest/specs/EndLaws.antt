@@ -10,7 +10,7 @@ use Rattle.path_vector.specs.Node.{PvState, PureUpdate, path_vector}
 use Rattle.path_vector.specs.Coherent.{MayBegin}
 use Rattle.path_vector.specs.Lawful.{path_vector_is_lawful}
 use Rattle.path_vector.specs.Starting.{start_is_coherent}
-use Rattle.vector_rest.specs.Left.{left_from}
+use Rattle.vector_rest.specs.Left.{left_at_start, left_from}
 use Rattle.vector_rest.specs.MachineReads.{runs_end}
 
 -- nodes of the network in order, none of which is begun
@@ -38,6 +38,6 @@ may_begin_unbegun net nodes m =
 
 -- from nodes that may begin
 pub begun_runs_end : (net : PureNet) (nodes : List PvState) (journal : List Delivery) (c : Machine PvState PureUpdate) → IsNet net → NetHas monotone net → MayBegin net nodes → Replay path_vector net nodes journal ≡ Some c
-    → length journal + left_from net (Start path_vector nodes) c ≤ left_from net (Start path_vector nodes) (Start path_vector nodes)
+    → length journal + left_from net (Start path_vector nodes) c ≤ left_at_start net nodes
 begun_runs_end net nodes journal c n mono m e =
     runs_end net n (Start path_vector nodes) (start_is_coherent net n nodes m) mono (start_runs path_vector path_vector_is_lawful net n nodes (may_begin_unbegun net nodes m)) journal c e

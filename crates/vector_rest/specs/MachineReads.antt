@@ -1,5 +1,5 @@
--- Path-vector machines on a network whose labels are monotone have budgets that are read along each arc. Lemmas, so
--- that proofs of other crates may cite them.
+-- On a network whose labels are monotone, the updates of path-vector nodes have budgets by what is known on their arcs.
+-- Lemmas, so that proofs of other crates may cite them.
 use Rattle.std.proofs.Common.{◌≡◌, ℕ, ◌+◌, ◌-◌, ◌<◌, ◌≤◌, List, [], ◌∷◌, Bool, true, false, ◌&&◌, cond, Option, Some, None, slice_get, length, option_map, option_and_then, subst, refl, sym, ◌∙◌, ap, arith}
 use Rattle.std.specs.Prelude.{◌==◌, min}
 use Rattle.std.specs.List.{AllByRecursion, find}
@@ -27,13 +27,13 @@ use Rattle.path_vector.specs.Words.{fits_is, fits_parts, heard_of_is}
 use Rattle.path_vector.specs.Lawful.{path_vector_is_lawful}
 use Rattle.path_vector.specs.Delivering.{node_is, same_arcs, taken_is, delivery_keeps}
 use Rattle.rest_laws.specs.Ways.{left}
-use Rattle.rest_laws.specs.Budgets.{Reaches, behind_all, read_budgets, AreRead, known_budgets}
+use Rattle.rest_laws.specs.Budgets.{Reaches, known_after, read_budgets, AreRead, known_budgets}
 use Rattle.rest_laws.specs.ReadLaws.{read_rest}
 use Rattle.vector_rest.specs.Reached.{start_values}
 use Rattle.vector_rest.specs.ReachedLaws.{reached_up, reached_in, start_in}
 use Rattle.vector_rest.specs.Reaching.{IsReached, HeardReached}
 use Rattle.vector_rest.specs.MachineReach.{heard_from, IsTaker, taker, clock, after, out, row, steps, node_is_after, here_after, row_after, rows_reached, reached_after, AreReached, replays_reach}
-use Rattle.vector_rest.specs.Levels.{Occurs, TellsOf, TellsOwnPaths, AreLevels, learn, known_on, values_from, level_from, budget_from}
+use Rattle.vector_rest.specs.Levels.{Occurs, ReportsOnly, ReportsOwnPaths, AreLevels, learn, known_on, values_from, level_from, budget_from}
 use Rattle.vector_rest.specs.LevelLaws.{levels_are}
 use Rattle.vector_rest.specs.ChoiceLaws.{levels_rise}
 
@@ -45,10 +45,10 @@ same_row_itself (Some r) = rw ((same_value-Decides r.value r.value).1 refl, (byt
 turned_test : (x y : ℕ) → (x == y) ≡ (y == x)
 turned_test x y = grind (arith, nat_tests)
 
--- what is known of a destination behind updates is what they say last
-behind_said : (known : ℕ → Option PureRoute) (dest : ℕ) (us : List PureUpdate) → behind_all learn known us dest ≡ last_said dest (known dest) us
-behind_said known dest [] = refl
-behind_said known dest (u ∷ us) = behind_said (learn known u) dest us
+-- what is known of a destination after updates is what they say last
+known_after_said : (known : ℕ → Option PureRoute) (dest : ℕ) (us : List PureUpdate) → known_after learn known us dest ≡ last_said dest (known dest) us
+known_after_said known dest [] = refl
+known_after_said known dest (u ∷ us) = known_after_said (learn known u) dest us
 
 -- a path that begins with a node
 begun_path : (j : ℕ) (path : List ℕ) → begins_with j path ≡ true → (p : List ℕ) × (path ≡ j ∷ p)
@@ -143,10 +143,10 @@ module _ (net : PureNet) (n : IsNet net) (c d : Machine PvState PureUpdate) (a :
         ≡ cond (y.head == x.arc.tail) (cond (same_row (choice w.node.net w.message.dest w.node.number (heard_with w.node.heard z w.message)) (w.node.rows w.message.dest)) []
         (record { dest = w.message.dest; route = choice w.node.net w.message.dest w.node.number (heard_with w.node.heard z w.message); stamp = clock net n c d a kc w } ∷ [])) []) x.id on_own)
 
-    -- what is known behind what waits on an arc on which it speaks is its row before
-    behind_is : (y : PureArc) → slice_get net.arcs y.id ≡ Some y → y.head ≡ w.number → (dest : ℕ) → behind_all learn (known_on net d y.id) (changed_at c.link a w.rest y.id) dest ≡ w.node.rows dest
-    behind_is y stands head dest =
-        behind_said (known_on net d y.id) dest (changed_at c.link a w.rest y.id)
+    -- on an arc on which it speaks, what is known after all that waits is its old row
+    row_known_after : (y : PureArc) → slice_get net.arcs y.id ≡ Some y → y.head ≡ w.number → (dest : ℕ) → known_after learn (known_on net d y.id) (changed_at c.link a w.rest y.id) dest ≡ w.node.rows dest
+    row_known_after y stands head dest =
+        known_after_said (known_on net d y.id) dest (changed_at c.link a w.rest y.id)
         ∙ (ap (λ (known : ℕ → Option PureRoute). last_said dest (known dest) (changed_at c.link a w.rest y.id)) (keeps y.id ne)
         ∙ (rw ne (ap (λ h. last_said dest h (c.link y.id)) known ∙ kc.told y z.0 w.node dest stands z.1.0 node)))
       where
@@ -193,13 +193,13 @@ module _ (net : PureNet) (n : IsNet net) (start : Machine PvState PureUpdate) (k
           omega (arith, longer)
 
   module _ (c : Machine PvState PureUpdate) (kc : IsCoherent net c) (heard : HeardReached net start c) (i : ℕ) (s : PvState) (node : c.node i ≡ Some s) (dest : ℕ) where
-    heard_occurs : TellsOf (Has dest) (heard_of s dest)
+    heard_occurs : ReportsOnly (Has dest) (heard_of s dest)
     heard_occurs j next e =
         let from = heard_from net n c kc i dest s node j next e in
         let at : c.node from.arc.tail ≡ Some s = subst (λ z. c.node z ≡ Some s) (sym from.there.tail) node in
         occurs dest from.arc.head next (heard from.arc s dest next from.there.stands at from.heard) (kc.known from.arc s dest next from.there.stands at from.heard).1
 
-    heard_begins : TellsOwnPaths (heard_of s dest)
+    heard_begins : ReportsOwnPaths (heard_of s dest)
     heard_begins j next e =
         let from = heard_from net n c kc i dest s node j next e in
         let at : c.node from.arc.tail ≡ Some s = subst (λ z. c.node z ≡ Some s) (sym from.there.tail) node in
@@ -263,34 +263,34 @@ module _ (net : PureNet) (n : IsNet net) (start : Machine PvState PureUpdate) (k
       IsBelow = AllByRecursion (λ y. y < budget_from net start (known_on net c a) w.message)
 
       on_arc_below : (y : PureArc) → slice_get net.arcs y.id ≡ Some y
-          → IsBelow (read_budgets (budget_from net start) learn (behind_all learn (known_on net d y.id) (changed_at c.link a w.rest y.id)) (on_arc y.id (out net n c d a kc w)))
+          → IsBelow (read_budgets (budget_from net start) learn (known_after learn (known_on net d y.id) (changed_at c.link a w.rest y.id)) (on_arc y.id (out net n c d a kc w)))
       on_arc_below y stands =
-          subst (λ l. IsBelow (read_budgets (budget_from net start) learn (behind_all learn (known_on net d y.id) (changed_at c.link a w.rest y.id)) l)) (sym (puts net n c d a kc w x y stands))
+          subst (λ l. IsBelow (read_budgets (budget_from net start) learn (known_after learn (known_on net d y.id) (changed_at c.link a w.rest y.id)) l)) (sym (puts net n c d a kc w x y stands))
           (by (y.head == w.number) (same_row new (w.node.rows dest)) refl refl)
         where
           by : (t f : Bool) → (y.head == w.number) ≡ t → same_row new (w.node.rows dest) ≡ f
-              → IsBelow (read_budgets (budget_from net start) learn (behind_all learn (known_on net d y.id) (changed_at c.link a w.rest y.id))
+              → IsBelow (read_budgets (budget_from net start) learn (known_after learn (known_on net d y.id) (changed_at c.link a w.rest y.id))
               (cond t (cond f [] (record { dest = w.message.dest; route = row net n c d a kc w; stamp = clock net n c d a kc w } ∷ [])) []))
           by true true e g = tt
           by true false e g =
               let rise = rises (λ same. absurd (let one : same_row new (w.node.rows dest) ≡ true = subst (λ z. same_row new z ≡ true) same (same_row_itself new) in cc)) in
               let less = drops (level_from net start dest None) (level_from net start dest (known_on net c a dest)) (level_from net start dest w.message.route)
               (level_from net start dest (w.node.rows dest)) (level_from net start dest new) rise (tops dest new new_occurs) in
-              let behind = behind_is net n c d a kc w x y stands (eqb-true y.head w.number e) dest in
-              (subst (λ z. level_from net start dest None - min (level_from net start dest z) (level_from net start dest new) < budget_from net start (known_on net c a) w.message) (sym behind) less, tt)
+              let known = row_known_after net n c d a kc w x y stands (eqb-true y.head w.number e) dest in
+              (subst (λ z. level_from net start dest None - min (level_from net start dest z) (level_from net start dest new) < budget_from net start (known_on net c a) w.message) (sym known) less, tt)
           by false f e g = tt
 
-      sends : (b : ℕ) → IsBelow (read_budgets (budget_from net start) learn (behind_all learn (known_on net d b) (changed_at c.link a w.rest b)) (on_arc b (step_of path_vector c a w.number w.node w.message).1))
+      sends : (b : ℕ) → IsBelow (read_budgets (budget_from net start) learn (known_after learn (known_on net d b) (changed_at c.link a w.rest b)) (on_arc b (step_of path_vector c a w.number w.node w.message).1))
       sends b =
-          subst (λ (p : PvState × List (ℕ × PureUpdate)). IsBelow (read_budgets (budget_from net start) learn (behind_all learn (known_on net d b) (changed_at c.link a w.rest b)) (on_arc b p.1))) (sym (steps net n c d a kc w))
+          subst (λ (p : PvState × List (ℕ × PureUpdate)). IsBelow (read_budgets (budget_from net start) learn (known_after learn (known_on net d b) (changed_at c.link a w.rest b)) (on_arc b p.1))) (sym (steps net n c d a kc w))
           (by (slice_get net.arcs b) refl)
         where
           by : (o : Option PureArc) → slice_get net.arcs b ≡ o
-              → IsBelow (read_budgets (budget_from net start) learn (behind_all learn (known_on net d b) (changed_at c.link a w.rest b)) (on_arc b (out net n c d a kc w)))
+              → IsBelow (read_budgets (budget_from net start) learn (known_after learn (known_on net d b) (changed_at c.link a w.rest b)) (on_arc b (out net n c d a kc w)))
           by (Some y) e =
               let place = id_is_place 0 b net.arcs y n.arc_ids e in
               let id : y.id ≡ b = omega (arith, place) in
-              subst (λ z. IsBelow (read_budgets (budget_from net start) learn (behind_all learn (known_on net d z) (changed_at c.link a w.rest z)) (on_arc z (out net n c d a kc w)))) id
+              subst (λ z. IsBelow (read_budgets (budget_from net start) learn (known_after learn (known_on net d z) (changed_at c.link a w.rest z)) (on_arc z (out net n c d a kc w)))) id
               (on_arc_below y (subst (λ z. slice_get net.arcs z ≡ Some y) (sym id) e))
           by None e =
               let own = is net n c d a kc w x in
@@ -298,7 +298,7 @@ module _ (net : PureNet) (n : IsNet net) (start : Machine PvState PureUpdate) (k
               let none : on_arc b (step_of path_vector c a w.number w.node w.message).1 ≡ [] =
               on_arc_none (λ z. speaker w.node.net z ≡ Some w.node.number) b (λ f. absurd (silent (subst (λ (z : PureNet). speaker z b ≡ Some w.node.number) own.0 f))) (step_of path_vector c a w.number w.node w.message).1 spoken in
               let nothing : on_arc b (out net n c d a kc w) ≡ [] = ap (λ (p : PvState × List (ℕ × PureUpdate)). on_arc b p.1) (sym (steps net n c d a kc w)) ∙ none in
-              subst (λ l. IsBelow (read_budgets (budget_from net start) learn (behind_all learn (known_on net d b) (changed_at c.link a w.rest b)) l)) (sym nothing) tt
+              subst (λ l. IsBelow (read_budgets (budget_from net start) learn (known_after learn (known_on net d b) (changed_at c.link a w.rest b)) l)) (sym nothing) tt
             where
               silent : speaker net b ≡ Some w.node.number → ⊥
               silent f = by_arc (slice_get net.arcs b) e f
@@ -319,7 +319,7 @@ module _ (net : PureNet) (n : IsNet net) (start : Machine PvState PureUpdate) (k
       next = delivery_keeps net c d a n from.coherent made
 
       sends_less : (b : ℕ) → AllByRecursion (λ y. y < budget_from net start (known_on net c a) w.message)
-          (read_budgets (budget_from net start) learn (behind_all learn (known_on net d b) (changed_at c.link a w.rest b)) (on_arc b (step_of path_vector c a w.number w.node w.message).1))
+          (read_budgets (budget_from net start) learn (known_after learn (known_on net d b) (changed_at c.link a w.rest b)) (on_arc b (step_of path_vector c a w.number w.node w.message).1))
       sends_less = sends c d a from.coherent next w from.heard (reached_after net n start k c d a from.coherent next w from.heard from.waits).0
 
     pub are_read : AreRead path_vector net (budget_from net start) learn start (known_on net)

@@ -1,2 +1,5 @@
 pub mod Laws
+pub mod NodeLaws
 pub mod Runs
+pub mod TurnLaws
+pub mod Turns

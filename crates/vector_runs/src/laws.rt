@@ -1,7 +1,8 @@
-ghost use Rattle.std.specs.Prelude.{ℕ, Bool, List};
+ghost use Rattle.std.specs.Prelude.{◌≡◌, ◌≤◌, ℕ, Bool, true, List};
 ghost use Rattle.std.specs.List.{AllByRecursion};
 ghost use Rattle.net_graph.specs.Nets.{PureNet, IsNet};
 ghost use Rattle.vector_runs.specs.Runs.{PurePhase, IsRun, AreLater, AreOfNetworks, AreStable};
+ghost use Rattle.vector_runs.specs.Turns.{AreMonotone, deliveries_left, deliveries_made};
 
 /// The rows of each phase of a run that is quiet are a stable table of the phase's network for each destination
 /// (Griffin and Sobrinho 2005), and the only one where all labels are monotone (after Sobrinho 2005).
@@ -18,4 +19,22 @@ pub fn phases_are_of_networks()
     ensures { (net : PureNet) (nets : List PureNet) (turns : ℕ) (past : List PurePhase) (last : PurePhase)
         (quiet : Bool) → IsNet net → AllByRecursion IsNet nets → AreLater net nets →
         IsRun net nets turns past last quiet → AreOfNetworks net nets past last }
+{}
+
+/// Where all labels of its networks are monotone, a run makes no more deliveries than are left at the starts of its
+/// phases, whatever the workers do: that path-vector protocols come to rest there is Sobrinho's (2005), this bound is
+/// this project's own (`vector_rest`).
+#[tactic(auto, using(crate::specs::TurnLaws::runs_are_short))]
+pub fn runs_are_short()
+    ensures { (net : PureNet) (nets : List PureNet) (turns : ℕ) (past : List PurePhase) (last : PurePhase)
+        (quiet : Bool) → IsNet net → AllByRecursion IsNet nets → AreLater net nets → AreMonotone net nets →
+        IsRun net nets turns past last quiet → deliveries_made past last ≤ deliveries_left net nets past }
+{}
+
+/// So with at least as many turns it is quiet on its last network, and never ends before that.
+#[tactic(auto, using(crate::specs::TurnLaws::enough_turns_are_quiet))]
+pub fn enough_turns_are_quiet()
+    ensures { (net : PureNet) (nets : List PureNet) (turns : ℕ) (past : List PurePhase) (last : PurePhase)
+        (quiet : Bool) → IsNet net → AllByRecursion IsNet nets → AreLater net nets → AreMonotone net nets →
+        IsRun net nets turns past last quiet → deliveries_left net nets past ≤ turns → quiet ≡ true }
 {}

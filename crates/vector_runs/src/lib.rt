@@ -1,10 +1,13 @@
 //! Runs of path-vector nodes through the networks of a file, phase by phase, on several workers, over any algebra. It
-//! stands on `path_vector` and `weave`; it reads no words and prints nothing.
+//! stands on `path_vector`, `weave` and `vector_rest`; it reads no words and prints nothing.
 #![tactic(auto)]
 
 mod laws;
 mod nodes;
 mod run;
 
-pub use laws::{phases_are_of_networks, quiet_phases_are_stable};
+pub use laws::{
+    enough_turns_are_quiet, phases_are_of_networks, quiet_phases_are_stable, runs_are_short,
+};
+pub use nodes::carried_nodes;
 pub use run::{Phase, Run, run_phases};

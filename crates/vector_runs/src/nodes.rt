@@ -28,8 +28,9 @@ pub(crate) fn new_nodes<'a, A: Algebra>(
     Ok(List::from_vec(nodes))
 }
 
-// The nodes of a network, in order, on one that differs from it in its arcs alone.
-pub(crate) fn carried_nodes<'a, A: Algebra>(
+/// The nodes of a network, in order, on one that differs from it in its arcs alone: they aren't begun, keep their rows,
+/// and have heard what they heard on the arcs that were there before. It is refused for want of memory alone.
+pub fn carried_nodes<'a, A: Algebra>(
     alloc: Global,
     old: List<PvNode<'a, A>>,
     net: &'a Net,

@@ -4,8 +4,9 @@ use Rattle.std.proofs.lemmas.Option.{slice_get-get_or}
 use Rattle.node_core.specs.Machine.{AreUnbegun}
 use Rattle.path_vector.specs.Node.{path_vector}
 use Rattle.path_vector.specs.Nodes.{state_of}
+use Rattle.vector_runs.specs.NodeLaws.{carried_are_unbegun}
 use Rattle.vector_runs.specs.Runs.{pure_phase}
-use Rattle.vector_runs.proofs.Phases.{IsSoFar, carried_are_unbegun, drop_all, drop_next, new_are_unbegun, next_so_far, so_far_is_run}
+use Rattle.vector_runs.proofs.Phases.{IsSoFar, drop_all, drop_next, new_are_unbegun, next_so_far, so_far_is_run}
 use Rattle.vector_runs.proofs.run.run_phases.Goals as goal
 use Rattle.vector_runs.proofs.run.run_phases.Goals.{else-loop-next-test, then-loop-next-test+in_default}
 
