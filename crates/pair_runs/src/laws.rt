@@ -1,4 +1,4 @@
-ghost use Rattle.std.specs.Prelude.{ℕ};
+ghost use Rattle.std.specs.Prelude.{◌↔◌, ℕ};
 ghost use Rattle.alg_model.specs.Expressions.{PureAlg, PureLabel, PureValue};
 ghost use Rattle.alg_model.specs.Formation.{IsAlg};
 ghost use Rattle.settled_laws.specs.Pair.{pair_net, Fits, Improves};
@@ -12,7 +12,9 @@ pub fn improving_pair_never_rests()
         → Improves alg l v w → HasUnfinishedRun (pair_net alg l v) count }
 {}
 
-/// So where the runs of new nodes are bounded on every network over an algebra, all its labels are monotone.
-pub fn bounded_runs_need_monotone_labels()
-    ensures { (alg : PureAlg) → IsAlg alg → AllRunsAreBounded alg → LabelsAreMonotone alg }
+/// So the runs of new nodes are bounded on every network over an algebra, in whatever order deliveries are made, exactly
+/// if all labels of the algebra are monotone (after Sobrinho 2005, who asks for strictly monotone labels, without ties
+/// broken by the path).
+pub fn runs_are_bounded_exactly_where_labels_are_monotone()
+    ensures { (alg : PureAlg) → IsAlg alg → (AllRunsAreBounded alg ↔ LabelsAreMonotone alg) }
 {}
