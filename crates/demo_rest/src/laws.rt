@@ -13,15 +13,16 @@ pub fn generated_nets_are_nets()
     ensures { (seed n : ℕ) → AreDemoNodes n → IsNet (generated_net seed n) }
 {}
 
-/// Whatever deliveries the new nodes of a generated network make, in whatever order, there are no more of them than
-/// that: the groups of nodes are without a cycle, and each arc has room for twice what the arcs before it have.
+/// The new nodes of a generated network make at most 6,223 deliveries, in whatever order they are made. A node listens
+/// to at most two nodes, of the group before its own, so from group to group the deliveries on an arc at most double,
+/// and there are five groups.
 pub fn generated_runs_are_short()
     ensures { (seed n : ℕ) (journal : List Delivery) (c : Machine PvState PureUpdate) → AreDemoNodes n
         → Replay path_vector (generated_net seed n) (new_nodes (generated_net seed n)) journal ≡ Some c
         → length journal ≤ most_demo_deliveries }
 {}
 
-/// So a run of these nodes with more turns than that is quiet, and one with the turns of `demo` is.
+/// So a run of these nodes that has more turns than that is quiet, and so is one that has the turns of `demo`.
 pub fn generated_runs_are_quiet()
     ensures turns { (seed n turns : ℕ) (last : PurePhase) (quiet : Bool) → AreDemoNodes n
         → most_demo_deliveries < turns → IsRun (generated_net seed n) [] turns [] last quiet → quiet ≡ true }

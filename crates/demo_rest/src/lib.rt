@@ -1,4 +1,4 @@
-//! The nodes of a generated network come to rest within the turns that `demo` gives them, whatever their schedule. It
+//! The nodes of a generated network come to rest within the turns of `demo`, in whatever order deliveries are made. It
 //! stands on `rest_laws`, `vector_runs` and `net_gen`; it runs no node.
 #![tactic(auto)]
 

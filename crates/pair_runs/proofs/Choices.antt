@@ -31,7 +31,7 @@ module _ (alg : PureAlg) (l : PureLabel) (v w : PureValue) (t : AreTested alg l 
     pub q_alone : heard 1 0 ≡ None → choice net 0 1 heard ≡ Some (route_of v w 1 0 true)
     q_alone e = chosen_of net 1 heard (route v (1 ∷ []) ∷ []) (route v (1 ∷ [])) (rw (e) refl) (own_q alg l v w t)
 
-    -- and then goes over to the other's route, or back
+    -- and then it takes the other's route, or goes back
     pub p_turns : (x : Bool) → heard 0 0 ≡ Some (route_of v w 1 0 x) → choice net 0 0 heard ≡ Some (route_of v w 0 1 (not x))
     p_turns true e = chosen_of net 0 heard (route v (0 ∷ []) ∷ route w (0 ∷ 1 ∷ []) ∷ []) (route w (0 ∷ 1 ∷ [])) (rw (e, t.image) refl) (by_q alg l v w t)
     p_turns false e = chosen_of net 0 heard (route v (0 ∷ []) ∷ []) (route v (0 ∷ [])) (rw (e) refl) (own_p alg l v w t)

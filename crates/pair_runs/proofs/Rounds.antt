@@ -1,4 +1,5 @@
--- The nodes of the pair take turns, and each two turns bring them to where they were, but for their two routes and clocks.
+-- The nodes of the pair take turns: after two turns both have changed their routes, and after four they are where they
+-- were, but for clocks.
 use Rattle.std.proofs.Common.{◌≡◌, ℕ, zero, suc, ◌+◌, ◌-◌, ◌<◌, inl, inr, List, [], ◌∷◌, ◌++◌, Bool, true, not, Some, length, map, refl, sym, subst, ap, ◌∙◌, arith}
 use Rattle.std.specs.Prelude.{filter, max}
 use Rattle.std.specs.List.{AllByRecursion, range_with_len}
@@ -33,16 +34,16 @@ module _ (net : PureNet) where
   all_later e a t (suc count) l = (inl l, all_later e (1 - a) (t + a) count (omega (arith, l)))
 
   module _ (first : listener net 0 ≡ Some 0) (second : listener net 1 ≡ Some 1) where
-    behind : (t count : ℕ) → AllByRecursion (ComesBefore net (entry_at t 0)) (in_turns 1 t count)
-    behind t zero = tt
-    behind t (suc count) = (inr (refl, (0, 1, first, second, omega arith)), all_later (entry_at t 0) 0 (t + 1) count (omega arith))
+    later_there : (t count : ℕ) → AllByRecursion (ComesBefore net (entry_at t 0)) (in_turns 1 t count)
+    later_there t zero = tt
+    later_there t (suc count) = (inr (refl, (0, 1, first, second, omega arith)), all_later (entry_at t 0) 0 (t + 1) count (omega arith))
 
     -- from p's turn, and from q's
     are_ordered : (t count : ℕ) → Ordered net (in_turns 0 t count) × Ordered net (in_turns 1 t count)
     are_ordered t zero = (tt, tt)
     are_ordered t (suc count) =
         let same : t ≡ t + 0 = omega arith in (
-          subst (λ n. AllByRecursion (ComesBefore net (entry_at t 0)) (in_turns 1 n count) × Ordered net (in_turns 1 n count)) same (behind t count, (are_ordered t count).1),
+          subst (λ n. AllByRecursion (ComesBefore net (entry_at t 0)) (in_turns 1 n count) × Ordered net (in_turns 1 n count)) same (later_there t count, (are_ordered t count).1),
           (all_later (entry_at t 1) 0 (t + 1) count (omega arith), (are_ordered (t + 1) count).0),
         )
 
@@ -70,7 +71,7 @@ module _ (alg : PureAlg) (l : PureLabel) (v w : PureValue) where
   abbrev q_route : Bool → PureRoute
   q_route x = route_of v w 1 0 x
 
-  -- both have their own routes, or both the other's; each has told the other
+  -- both have their own routes, or both have the one by the other; each has sent it to the other
   record IsRound (x : Bool) (t : ℕ) (c : Machine PvState PureUpdate) : Type 0 where
     pub p : PvState
     pub q : PvState
@@ -83,7 +84,7 @@ module _ (alg : PureAlg) (l : PureLabel) (v w : PureValue) where
     pub to_p : c.link 0 ≡ update_of (q_route x) t ∷ []
     pub to_q : c.link 1 ≡ update_of (p_route x) t ∷ []
 
-  -- p has gone over and told q of it
+  -- p has changed its route, and sent the new one to q
   record IsHalf (x : Bool) (t : ℕ) (c : Machine PvState PureUpdate) : Type 0 where
     pub p : PvState
     pub q : PvState

@@ -1,4 +1,4 @@
--- Runs of new nodes that are not at their end, and bounds of runs.
+-- Runs of new nodes that are not at their end, and bounds on the deliveries of runs.
 use Rattle.std.specs.Prelude.{◌≡◌, ◌≤◌, ℕ, List, Some, length, map}
 use Rattle.std.specs.List.{range_with_len}
 use Rattle.meta_base.specs.declared.ids.Delivery.{Delivery}

@@ -1,5 +1,5 @@
-//! Why nothing less than monotone labels makes runs end: where a label makes a value better, the nodes of the pair can go
-//! on for ever. It stands on `vector_rest` and `settled_laws`; it runs no node.
+//! Why nothing less than monotone labels makes runs end: where a label makes a value better, the nodes of the pair can
+//! make any number of deliveries. It stands on `vector_rest` and `settled_laws`; it runs no node.
 #![tactic(auto)]
 
 mod laws;
