@@ -4,22 +4,23 @@ use Rattle.meta_base.specs.declared.ids.Delivery.{Delivery}
 use Rattle.node_core.specs.Machine.{Machine, Start, Replay}
 use Rattle.node_core.specs.MachineLaws.{start_runs}
 use Rattle.path_vector.specs.Node.{PvState, PureUpdate, path_vector}
+use Rattle.path_vector.specs.Laws.{new_nodes_may_begin}
 use Rattle.path_vector.specs.Lawful.{path_vector_is_lawful}
 use Rattle.rest_laws.specs.ReachLaws.{journal_within}
+use Rattle.vector_rest.specs.EndLaws.{may_begin_unbegun}
 use Rattle.vector_runs.specs.Runs.{PurePhase, IsPhaseOf, IsRun, new_nodes}
 use Rattle.net_gen.specs.Generated.{AreDemoNodes}
 use Rattle.net_gen.specs.Networks.{generated_net}
 use Rattle.demo_rest.specs.Most.{most_demo_deliveries}
 use Rattle.demo_rest.proofs.Nets.{generated_is_net}
 use Rattle.demo_rest.proofs.Room.{most, has_room, all_most}
-use Rattle.demo_rest.proofs.Starts.{unbegun}
 
 pub runs_are_short : (seed n : ℕ) (journal : List Delivery) (c : Machine PvState PureUpdate) → AreDemoNodes n
     → Replay path_vector (generated_net seed n) (new_nodes (generated_net seed n)) journal ≡ Some c → length journal ≤ most_demo_deliveries
 runs_are_short seed n journal c d e =
     let net = generated_net seed n in
     let is_net = generated_is_net seed n d in
-    let running = start_runs path_vector path_vector_is_lawful net is_net (new_nodes net) (unbegun seed n is_net) in
+    let running = start_runs path_vector path_vector_is_lawful net is_net (new_nodes net) (may_begin_unbegun net (new_nodes net) (new_nodes_may_begin net)) in
     let within = journal_within path_vector path_vector_is_lawful net is_net (Start path_vector (new_nodes net)) (most seed n is_net) (has_room seed n is_net) running journal c e in
     let all = all_most seed n is_net d in
     omega (arith, within, all)

@@ -8,7 +8,7 @@ use Rattle.std.proofs.lemmas.List.{append-nil}
 use Rattle.std.proofs.lemmas.Option.{same_Some}
 use Rattle.net_graph.specs.Nets.{PureArc, PureNet, IsNet, arcs_from, arcs_to, origin_value}
 use Rattle.node_core.specs.Kinds.{on_arc, speaker}
-use Rattle.node_core.specs.Machine.{AreUnbegun, begun_messages}
+use Rattle.node_core.specs.Machine.{begun_messages}
 use Rattle.node_core.specs.MachineLaws.{on_arc_join, on_arc_none}
 use Rattle.path_vector.specs.Node.{PvState, Begin, all_begun_updates, begun_updates, choice, is_news, new_node, offer_by, path_vector}
 use Rattle.path_vector.specs.Lawful.{path_vector_is_lawful}
@@ -101,10 +101,3 @@ module _ (seed n : ℕ) (is_net : IsNet (generated_net seed n)) where
             let here : length (on_arc b (Begin (new_node net i)).1) ≤ waits_of j = rw (← same) (node_says j b) in
             rw (split, none, append-nil (on_arc b (Begin (new_node net i)).1)) here
         by false e rest = rw (split, silent i e) rest
-
-  new_unbegun : (i count : ℕ) → length net.nodes ≡ i + count → AreUnbegun path_vector net i (new_from i count)
-  new_unbegun i zero e = omega (arith, e)
-  new_unbegun i (suc count) e = (refl, refl, refl, new_unbegun (i + 1) count (omega (arith, e)))
-
-  pub unbegun : AreUnbegun path_vector net 0 (new_from 0 (length net.nodes))
-  unbegun = new_unbegun 0 (length net.nodes) (omega arith)
