@@ -1,7 +1,6 @@
 pub mod WedgePhases
 pub mod OneDelivery
 pub mod TwoNodes
-pub mod WedgeValues
 pub mod WedgeChoices
 pub mod WedgeStates
 pub mod WedgeRuns

@@ -12,7 +12,7 @@ use Rattle.vector_runs.specs.Runs.{PurePhase, IsPhaseOf, IsRun, RunsFrom, new_no
 use Rattle.wedge_runs.specs.WedgePhases.{EachDrainsAlone, HaveSameArcs, one_delivery, one_on, wedge_two, wedge_three, wedge_four, wedge_journals, wedge_later, wedge_past, wedge_last}
 use Rattle.wedge_runs.specs.WedgeStates.{one_takes, two_takes, three_takes, four_takes, one_end_rows, two_end_rows, three_end_rows, four_end_rows}
 use Rattle.wedge_runs.specs.WedgeStates.{p_new, q_new, p_one, q_one, p_to_two, q_to_two, p_two, q_two, p_to_three, q_to_three, p_three, q_three, p_to_four, q_to_four, p_four, q_four}
-use Rattle.wedge_runs.specs.WedgeValues.{AreTested, are_tested}
+use Rattle.pair_runs.specs.ImprovedValues.{AreTested, are_tested}
 use Rattle.wedge_runs.specs.TwoNodes.{TakesOne, drains_alone, one_phase_is, no_other_phase}
 
 module _ (net : PureNet) (p q : PvState) (a : ℕ) (p' q' : PvState) (t : TakesOne net p q a p' q') (rows : List PureRow) (e : node_rows net (p' ∷ q' ∷ []) ≡ rows) where

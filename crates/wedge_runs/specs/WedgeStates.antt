@@ -6,9 +6,10 @@ use Rattle.node_core.specs.Machine.{begun_messages}
 use Rattle.path_vector.specs.Node.{PvState, Begin, carried, new_node, node_rows, path_vector, same_row}
 use Rattle.settled_laws.specs.Pair.{table_by_q, table_by_p}
 use Rattle.settled_laws.specs.Wedge.{wedge_net}
+use Rattle.pair_runs.specs.BestOfTwo.{route}
 use Rattle.wedge_runs.specs.WedgePhases.{wedge_two, wedge_three, wedge_four}
-use Rattle.wedge_runs.specs.WedgeValues.{AreTested}
-use Rattle.wedge_runs.specs.WedgeChoices.{route, one_p_alone, one_p_by_q, one_q, two_p_by_q, two_q_alone, two_q_passed, three_p, three_q_passed, three_q_by_p, four_p_alone, four_p_passed, four_q_by_p}
+use Rattle.pair_runs.specs.ImprovedValues.{AreTested}
+use Rattle.wedge_runs.specs.WedgeChoices.{one_p_alone, one_p_by_q, one_q, two_p_by_q, two_q_alone, two_q_passed, three_p, three_q_passed, three_q_by_p, four_p_alone, four_p_passed, four_q_by_p}
 use Rattle.wedge_runs.specs.TwoNodes.{Begins, Takes, TakesOne, after_taking, both_put_out, first_takes, second_takes, stays_silent, two_rows, unheard_silent, update_of}
 
 module _ (alg : PureAlg) (l : PureLabel) (v w : PureValue) where

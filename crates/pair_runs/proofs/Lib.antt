@@ -1,0 +1,4 @@
+pub mod Choices
+pub mod Turns
+pub mod Rounds
+pub mod Bounded
