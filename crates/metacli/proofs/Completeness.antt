@@ -154,7 +154,7 @@ checked_done r a file S (coded b f listing) h = absurd h
 checked_done r a file S (routed s b f rows) h = absurd h
 checked_done r a file S (wedged b v) h = absurd h
 checked_done r a file S (ran b f t past last quiet) h = absurd h
-checked_done r a file S (shown b f last quiet) h = absurd h
+checked_done r a file S (shown b f last) h = absurd h
 
 wedged_done : (a : PureAlg) (o : PureOutcome) → IsWedgedAs a o → IsUnlessMemory o done
 wedged_done a (wedged b v) h = inl refl
@@ -170,7 +170,7 @@ wedged_done a (checked b f v u) h = absurd h
 wedged_done a (coded b f listing) h = absurd h
 wedged_done a (routed s b f rows) h = absurd h
 wedged_done a (ran b f t past last quiet) h = absurd h
-wedged_done a (shown b f last quiet) h = absurd h
+wedged_done a (shown b f last) h = absurd h
 
 coded_done : (a : PureAlg) (file : Option PureNetFile) (labels : List PureLabel) (o : PureOutcome) → IsCodedAs a file labels o → IsUnlessMemory o done
 coded_done a file labels (coded b f listing) h = inl refl
@@ -185,7 +185,7 @@ coded_done a file labels (checked b f v u) h = absurd h
 coded_done a file labels (routed s b f rows) h = absurd h
 coded_done a file labels (wedged b v) h = absurd h
 coded_done a file labels (ran b f t past last quiet) h = absurd h
-coded_done a file labels (shown b f last quiet) h = absurd h
+coded_done a file labels (shown b f last) h = absurd h
 
 -- a network whose labels are fit has no arc that lacks what is asked
 routed_done : (solution : Solution) (a : PureAlg) (file : PureNetFile) (o : PureOutcome) → IsRoutedAs solution a file o → IsFit solution (changed_net file) → IsUnlessMemory o done
@@ -201,7 +201,7 @@ routed_done solution a file (checked b f v u) h fit = absurd h
 routed_done solution a file (coded b f listing) h fit = absurd h
 routed_done solution a file (wedged b v) h fit = absurd h
 routed_done solution a file (ran b f t past last quiet) h fit = absurd h
-routed_done solution a file (shown b f last quiet) h fit = absurd h
+routed_done solution a file (shown b f last) h fit = absurd h
 
 run_out : (traced : Bool) (turns : ℕ) (a : PureAlg) (file : PureNetFile) (o : PureOutcome) → IsRunAs traced turns a file o → IsRunOut o
 run_out traced turns a file (ran b f t past last true) h = inl (inl refl)
@@ -217,12 +217,11 @@ run_out traced turns a file (checked b f v u) h = absurd h
 run_out traced turns a file (coded b f listing) h = absurd h
 run_out traced turns a file (routed s b f rows) h = absurd h
 run_out traced turns a file (wedged b v) h = absurd h
-run_out traced turns a file (shown b f last quiet) h = absurd h
+run_out traced turns a file (shown b f last) h = absurd h
 
-shown_out : (seed nodes : ℕ) (o : PureOutcome) → IsShownAs seed nodes o → IsRunOut o
-shown_out seed nodes (shown a f last true) h = inl (inl refl)
-shown_out seed nodes (shown a f last false) h = inr refl
-shown_out seed nodes (stopped None None memory) h = inl (inr refl)
+shown_out : (seed nodes : ℕ) (o : PureOutcome) → IsShownAs seed nodes o → IsDone o
+shown_out seed nodes (shown a f last) h = inl refl
+shown_out seed nodes (stopped None None memory) h = inr refl
 shown_out seed nodes (stopped None None (words n)) h = absurd h
 shown_out seed nodes (stopped None None (expr g)) h = absurd h
 shown_out seed nodes (stopped None None (network g)) h = absurd h

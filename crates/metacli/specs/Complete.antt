@@ -80,7 +80,7 @@ CompleteBy words old new o (Ok (Trace file net workers turns)) = (bytes net_byte
     → ¬ HasRisen old.faults new.faults → IsJudged bytes (IsNetJudged net_bytes IsAny IsRunOut o) o
 CompleteBy words old new o (Ok (Gadget file)) = (bytes : List ℕ) → IsTold old (word_at words file) bytes → ¬ HasRisen old.faults new.faults
     → IsJudged bytes (λ a. IsDone o) o
-CompleteBy words old new o (Ok (Demo seed nodes)) = IsRunOut o
+CompleteBy words old new o (Ok (Demo seed nodes)) = IsDone o
 CompleteBy words old new o (Err f) = Unit {0}
 
 abbrev pub IsComplete : List (List ℕ) → Moment → Moment → PureOutcome → Type 0

@@ -1,5 +1,5 @@
 -- What a run comes to, by its words, and the end that shows it.
-use Rattle.std.specs.Prelude.{◌≡◌, ◌↔◌, ℕ, Bool, true, false, ◌&&◌, find, if◌then◌else◌, List, [], ◌∷◌, map, Option, Some, None, option_map, Result, Ok, Err, slice_index_or}
+use Rattle.std.specs.Prelude.{◌≡◌, ◌≤◌, ◌↔◌, ℕ, Bool, true, false, ◌&&◌, find, if◌then◌else◌, List, [], ◌∷◌, map, Option, Some, None, option_map, Result, Ok, Err, slice_index_or}
 use Rattle.std.specs.List.{Contains}
 use Rattle.meta_base.specs.Shelf.{Moment}
 use Rattle.meta_base.specs.declared.ids.Delivery.{Delivery}
@@ -21,6 +21,8 @@ use Rattle.topology_file.specs.NetText.{PureNetFile, NetText, changed_net}
 use Rattle.net_gen.specs.Generated.{Generated}
 use Rattle.net_gen.specs.Networks.{demo_alg}
 use Rattle.vector_runs.specs.Runs.{PurePhase, IsRun, AreStable, pure_phase}
+use Rattle.vector_runs.specs.Turns.{AreMonotone, deliveries_left, deliveries_made}
+use Rattle.demo_rest.specs.Most.{demo_turns}
 use Rattle.report_text.specs.Refusals as refusal
 use Rattle.net_facts.specs.Lacks.{IsFirstLack, NetHasAll}
 use Rattle.report_text.specs.Refusals.{PureRefusal, lacks, memory}
@@ -52,8 +54,8 @@ pub data PureOutcome : Type 0 where
   wedged : PureAlg → PureVerdict → PureOutcome
   -- the phases before the last, the last, and whether it is quiet; deliveries are printed or not
   ran : PureAlg → PureNetFile → Bool → List PurePhase → PurePhase → Bool → PureOutcome
-  -- the one phase on a generated network, and whether it is quiet
-  shown : PureAlg → PureNetFile → PurePhase → Bool → PureOutcome
+  -- the one phase on a generated network, which is quiet
+  shown : PureAlg → PureNetFile → PurePhase → PureOutcome
 
 abbrev pub algebra_in : PureOutcome → Option PureAlg
 algebra_in (stopped a f r) = a
@@ -62,7 +64,7 @@ algebra_in (coded a f listing) = Some a
 algebra_in (routed s a f rows) = Some a
 algebra_in (wedged a v) = Some a
 algebra_in (ran a f traced past last quiet) = Some a
-algebra_in (shown a f last quiet) = Some a
+algebra_in (shown a f last) = Some a
 
 abbrev pub file_in : PureOutcome → Option PureNetFile
 file_in (stopped a f r) = f
@@ -71,7 +73,7 @@ file_in (coded a f listing) = f
 file_in (routed s a f rows) = Some f
 file_in (wedged a v) = None
 file_in (ran a f traced past last quiet) = Some f
-file_in (shown a f last quiet) = Some f
+file_in (shown a f last) = Some f
 
 abbrev pub verdicts_in : PureOutcome → Option PureVerdicts
 verdicts_in (stopped a f r) = None
@@ -80,7 +82,7 @@ verdicts_in (coded a f listing) = None
 verdicts_in (routed s a f rows) = None
 verdicts_in (wedged a v) = None
 verdicts_in (ran a f traced past last quiet) = None
-verdicts_in (shown a f last quiet) = None
+verdicts_in (shown a f last) = None
 
 abbrev pub listing_in : PureOutcome → Option Listing
 listing_in (stopped a f r) = None
@@ -89,7 +91,7 @@ listing_in (coded a f listing) = Some listing
 listing_in (routed s a f rows) = None
 listing_in (wedged a v) = None
 listing_in (ran a f traced past last quiet) = None
-listing_in (shown a f last quiet) = None
+listing_in (shown a f last) = None
 
 abbrev pub rows_in : PureOutcome → List PureRow
 rows_in (stopped a f r) = []
@@ -98,7 +100,7 @@ rows_in (coded a f listing) = []
 rows_in (routed s a f rows) = rows
 rows_in (wedged a v) = []
 rows_in (ran a f traced past last quiet) = last.rows
-rows_in (shown a f last quiet) = last.rows
+rows_in (shown a f last) = last.rows
 
 abbrev pub journal_in : PureOutcome → List Delivery
 journal_in (stopped a f r) = []
@@ -107,7 +109,7 @@ journal_in (coded a f listing) = []
 journal_in (routed s a f rows) = []
 journal_in (wedged a v) = []
 journal_in (ran a f traced past last quiet) = last.journal
-journal_in (shown a f last quiet) = last.journal
+journal_in (shown a f last) = last.journal
 
 abbrev pub past_in : PureOutcome → List PurePhase
 past_in (stopped a f r) = []
@@ -116,7 +118,7 @@ past_in (coded a f listing) = []
 past_in (routed s a f rows) = []
 past_in (wedged a v) = []
 past_in (ran a f traced past last quiet) = past
-past_in (shown a f last quiet) = []
+past_in (shown a f last) = []
 
 -- the answer where a required property fails, if one does
 abbrev pub met_or : Option PureProperty → PureAnswer
@@ -130,7 +132,7 @@ answer_in (coded a f listing) = done
 answer_in (routed s a f rows) = done
 answer_in (wedged a v) = done
 answer_in (ran a f traced past last quiet) = if quiet then done else spent
-answer_in (shown a f last quiet) = if quiet then done else spent
+answer_in (shown a f last) = done
 
 -- the verdict that a network shows
 abbrev pub gadget_in : PureOutcome → Option PureVerdict
@@ -140,7 +142,7 @@ gadget_in (coded a f listing) = None
 gadget_in (routed s a f rows) = None
 gadget_in (wedged a v) = Some v
 gadget_in (ran a f traced past last quiet) = None
-gadget_in (shown a f last quiet) = None
+gadget_in (shown a f last) = None
 
 -- the changes of a network file, if there is one
 abbrev pub changes_of : Option PureNetFile → List PureChange
@@ -245,25 +247,28 @@ IsRoutedAs solution a file (stopped b f (lacks arc x)) = (b ≡ Some a) × (f �
 IsRoutedAs solution a file (stopped b f memory) = (b ≡ Some a) × (f ≡ Some file)
 IsRoutedAs solution a file _ = ⊥
 
--- What run and trace come to where all was read: a run of the network's new nodes, and then on the networks behind the
--- changes, whose quiet phases have stable rows; unless memory is refused.
+-- Where all labels of the networks of a run are monotone, it made no more deliveries than were left at the starts of its
+-- phases, and with as many turns it is quiet.
+pub record ComesToRest (net : PureNet) (nets : List PureNet) (turns : ℕ) (past : List PurePhase) (last : PurePhase) (quiet : Bool) : Type 0 where
+  pub few : AreMonotone net nets → deliveries_made past last ≤ deliveries_left net nets past
+  pub quiet : AreMonotone net nets → deliveries_left net nets past ≤ turns → quiet ≡ true
+
+-- What run and trace come to where all was read: a run of the network's new nodes, and then on the networks after the
+-- changes, whose quiet phases have stable rows, and which comes to rest; unless memory is refused.
 abbrev pub IsRunAs : Bool → ℕ → PureAlg → PureNetFile → PureOutcome → Type 0
 IsRunAs traced turns a file (ran b f t past last quiet) =
     (b ≡ a) × (f ≡ file) × (t ≡ traced) × IsRun file.net (nets_after file.net file.changes) turns past last quiet
     × AreStable file.net (nets_after file.net file.changes) past last quiet
+    × ComesToRest file.net (nets_after file.net file.changes) turns past last quiet
 IsRunAs traced turns a file (stopped b f memory) = (b ≡ Some a) × (f ≡ Some file)
 IsRunAs traced turns a file _ = ⊥
 
--- how many deliveries the nodes of a generated network may make
-abbrev pub demo_turns : ℕ
-demo_turns = 100000
-
--- What demo comes to: a run of the new nodes of the network that the generated text means over add(1..9), without
--- changes; all labels are strict, so that the rows of a quiet run are the only stable ones; unless memory is refused.
+-- What demo comes to: a quiet run of the new nodes of the network that the generated text means over add(1..9), without
+-- changes; all labels are strict, so that its rows are the only stable ones; unless memory is refused.
 abbrev pub IsShownAs : ℕ → ℕ → PureOutcome → Type 0
-IsShownAs seed nodes (shown a f last quiet) =
+IsShownAs seed nodes (shown a f last) =
     (a ≡ demo_alg) × NetText (Generated seed nodes) demo_alg f × (f.changes ≡ []) × NetHas strict f.net
-    × IsRun f.net [] demo_turns [] last quiet × AreStable f.net [] [] last quiet
+    × IsRun f.net [] demo_turns [] last true × AreSettledRows f.net last.rows
 IsShownAs seed nodes (stopped None None memory) = Unit {0}
 IsShownAs seed nodes _ = ⊥
 

@@ -81,7 +81,7 @@ TextOf (coded a f listing) = code_text a.expression (last_net f) listing
 TextOf (routed s a f rows) = routes_text s f.net rows
 TextOf (wedged a v) = gadget_text a v
 TextOf (ran a f traced past last quiet) = run_text traced f.net (nets_after f.net f.changes) 0 past last quiet
-TextOf (shown a f last quiet) = summary_text f.net last.rows quiet
+TextOf (shown a f last) = summary_text f.net last.rows
 
 -- that text can be made
 abbrev pub IsPrintable : PureOutcome → Type 0
@@ -91,7 +91,7 @@ IsPrintable (coded a f listing) = CanList a (last_net f) listing
 IsPrintable (routed s a f rows) = AllByRecursion (IsRowOf f.net) rows
 IsPrintable (wedged a v) = CanPrintGadget a v
 IsPrintable (ran a f traced past last quiet) = AreOfNetworks f.net (nets_after f.net f.changes) past last
-IsPrintable (shown a f last quiet) = AreSummed last.rows
+IsPrintable (shown a f last) = AreSummed last.rows
 
 -- a front of the text was appended, and this is what comes behind it
 pub record HasLines (old : Held) (text rest : List ℕ) (new : Held) : Type 0 where

@@ -25,7 +25,7 @@ pure_outcome (outcome.Coded a f behind listing) = coded a (option_map pure_file 
 pure_outcome (outcome.Routed s a f rows) = routed s a (pure_file f) (map pure_row rows)
 pure_outcome (outcome.Gadget a v) = wedged a (pure_verdict v)
 pure_outcome (outcome.Ran a f nets traced run) = ran a (pure_file f) traced (map pure_phase run.past) (pure_phase run.last) run.is_quiet
-pure_outcome (outcome.Shown a f last quiet) = shown a (pure_file f) (pure_phase last) quiet
+pure_outcome (outcome.Shown a f last) = shown a (pure_file f) (pure_phase last)
 
 -- the network whose labels were compiled, if there is one, is that of the file behind its changes
 abbrev pub IsListedOn : Option NetFile → Option PureNet → Type 0
@@ -42,7 +42,7 @@ IsBehind (outcome.Coded a f behind listing) = IsListedOn f behind
 IsBehind (outcome.Routed s a f rows) = Unit {0}
 IsBehind (outcome.Gadget a v) = Unit {0}
 IsBehind (outcome.Ran a f nets traced run) = nets ≡ nets_after f.net (pure_file f).changes
-IsBehind (outcome.Shown a f last quiet) = Unit {0}
+IsBehind (outcome.Shown a f last) = Unit {0}
 
 -- the text of the outcome can be made
 pub record CanBeWritten (o : Outcome) : Type 0 where

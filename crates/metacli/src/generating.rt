@@ -11,6 +11,7 @@ ghost use Rattle.metacli.specs.Views.{CanBeWritten, pure_outcome};
 use crate::outcome::{Outcome, Stop};
 use crate::running::run_through;
 use alg_model::{Alg, Tree};
+use demo_rest::generated_runs_are_quiet;
 use meta_base::{Gate, NoMemory};
 use net_gen::{
     generated_texts_are_networks, generated_texts_are_never_refused, generated_texts_are_short,
@@ -40,34 +41,30 @@ pub fn demo<R: AllocGlobal + Threads + Wait + Sync, G: Gate>(
     ensures printable { CanBeWritten result }
 {
     match run_generated(rt, seed, nodes, gate) {
-        Ok((alg, file, last, is_quiet)) => Outcome::Shown {
-            alg,
-            file,
-            last,
-            is_quiet,
-        },
+        Ok((alg, file, last)) => Outcome::Shown { alg, file, last },
         Err(NoMemory) => Outcome::refused(Stop::Memory),
     }
 }
 
-// The generated network, and the phase that its nodes run, with whether it is quiet.
+// The generated network, and the phase that its nodes run, which is quiet.
 fn run_generated<R: AllocGlobal + Threads + Wait + Sync, G: Gate>(
     rt: &R,
     seed: u64,
     nodes: u32,
     gate: &G,
-) -> Result<(Alg, NetFile, Phase, bool), NoMemory>
+) -> Result<(Alg, NetFile, Phase), NoMemory>
     requires { AreDemoNodes nodes }
     ensures alg { IfOk result (λ made. made.0 ≡ demo_alg) }
     ensures file { IfOk result (λ made. IsGenerated seed nodes (pure_file made.1)) }
-    ensures run { IfOk result (λ made. IsRunAlone made.1.net (pure_phase made.2) made.3) }
+    ensures run { IfOk result (λ made. IsRunAlone made.1.net (pure_phase made.2)) }
 {
+    generated_runs_are_quiet();
     let file = generated(rt.alloc(), demo_algebra(), seed, nodes)?;
     match run_through(rt, &file, DEMO_WORKERS, DEMO_TURNS, gate) {
         Ok((changed, run)) => {
             drop(changed);
             drop(run.past);
-            Ok((demo_algebra(), file, run.last, run.is_quiet))
+            Ok((demo_algebra(), file, run.last))
         }
         Err(NoMemory) => {
             drop(file);

@@ -125,12 +125,11 @@ pub enum Outcome {
         is_traced: bool,
         run: Run,
     },
-    /// The phase of path-vector nodes on a generated network.
+    /// The phase of path-vector nodes on a generated network, which is quiet.
     Shown {
         alg: Alg,
         file: NetFile,
         last: Phase,
-        is_quiet: bool,
     },
 }
 
@@ -222,16 +221,11 @@ impl Outcome {
                 let decided = end_answer(run.is_quiet);
                 (Some(alg), Some(file), Made::of_run(run), decided)
             }
-            Outcome::Shown {
-                alg,
-                file,
-                last,
-                is_quiet,
-            } => (
+            Outcome::Shown { alg, file, last } => (
                 Some(alg),
                 Some(file),
                 Made::of_phase(alloc, last),
-                end_answer(is_quiet),
+                Answer::Done,
             ),
         };
         let (net, changes) = match file {

@@ -24,7 +24,10 @@ use std::alloc::AllocGlobal;
 use std::sync::Wait;
 use std::thread::Threads;
 use topology_file::NetFile;
-use vector_runs::{Run, phases_are_of_networks, quiet_phases_are_stable, run_phases};
+use vector_runs::{
+    Run, enough_turns_are_quiet, phases_are_of_networks, quiet_phases_are_stable, run_phases,
+    runs_are_short,
+};
 
 /// What `run` or `trace` comes to on a network over the algebra, through all its changes, with so many workers and
 /// turns.
@@ -76,6 +79,8 @@ pub(crate) fn run_through<R: AllocGlobal + Threads + Wait + Sync, G: Gate>(
 {
     quiet_phases_are_stable();
     phases_are_of_networks();
+    runs_are_short();
+    enough_turns_are_quiet();
     let alloc = rt.alloc();
     let changed = List::from_vec(nets_behind(alloc, &file.net, file.changes.as_slice())?);
     match run_on(rt, &file.net, changed.as_slice(), workers, turns, gate) {

@@ -11,21 +11,20 @@ use net_graph::{Net, RouteRow};
 use report_text::{reach_line, size_line, summary_end_line};
 use std::alloc::Global;
 
-/// Puts the summary of rows of a network whose nodes ran.
+/// Puts the summary of rows of a network whose nodes ran until nothing was on its way.
 pub(crate) fn put_summary<K: Sink>(
     alloc: Global,
     out: &mut K,
     net: &Net,
     rows: &[RouteRow],
-    is_quiet: bool,
 ) -> Result<(), Cut>
     requires { AreSummed (map pure_row rows.now) }
-    ensures { PutsText (K.holds out.old) (summary_text net.now (map pure_row rows.now) is_quiet)
+    ensures { PutsText (K.holds out.old) (summary_text net.now (map pure_row rows.now))
         result (K.holds out.new) }
 {
     put_line(out, size_line(alloc, net))?;
     put_reaches(alloc, out, net, rows)?;
-    put_line(out, summary_end_line(alloc, is_quiet))
+    put_line(out, summary_end_line(alloc))
 }
 
 // Puts the lines of all destinations.

@@ -102,14 +102,9 @@ pub fn write<K: Sink>(alloc: Global, out: &mut K, outcome: &Outcome) -> Answer
             ),
             end_answer(run.is_quiet),
         ),
-        Outcome::Shown {
-            file,
-            last,
-            is_quiet,
-            ..
-        } => answered(
-            put_summary(alloc, out, &file.net, last.rows.as_slice(), *is_quiet),
-            end_answer(*is_quiet),
+        Outcome::Shown { file, last, .. } => answered(
+            put_summary(alloc, out, &file.net, last.rows.as_slice()),
+            Answer::Done,
         ),
     }
 }

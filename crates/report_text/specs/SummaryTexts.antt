@@ -54,9 +54,9 @@ reach_text net rows dest =
 abbrev pub reaches_text : PureNet → List PureRow → List ℕ → List ℕ
 reaches_text net rows dests = concat (map (reach_text net rows) dests)
 
--- quiet, or spent and the turns that there were
-abbrev pub summary_end_text : Bool → List ℕ
-summary_end_text quiet = if quiet then codes "quiet\n" else codes "spent 100000\n"
+-- nothing is on its way any more
+abbrev pub summary_end_text : List ℕ
+summary_end_text = codes "quiet\n"
 
-abbrev pub summary_text : PureNet → List PureRow → Bool → List ℕ
-summary_text net rows quiet = size_text net ++ (reaches_text net rows (range_with_len 0 (length net.dests)) ++ summary_end_text quiet)
+abbrev pub summary_text : PureNet → List PureRow → List ℕ
+summary_text net rows = size_text net ++ (reaches_text net rows (range_with_len 0 (length net.dests)) ++ summary_end_text)

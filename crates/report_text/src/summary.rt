@@ -95,15 +95,7 @@ fn push_reach(out: &mut String, net: &Net, rows: &[RouteRow], dest: DestId) -> R
 }
 
 // The word at the end of a summary.
-fn summary_end(is_quiet: bool) -> &'static str
-    ensures { result.now ≡ summary_end_text is_quiet }
-{
-    if is_quiet {
-        "quiet\n"
-    } else {
-        "spent 100000\n"
-    }
-}
+const SUMMARY_END: &str = "quiet\n";
 
 /// The first line of a summary: how many nodes and arcs the network has. It is refused for want of memory alone.
 pub fn size_line(alloc: Global, net: &Net) -> Result<Text, NoMemory>
@@ -131,30 +123,24 @@ pub fn reach_line(
     Ok(Text::from_string(out))
 }
 
-/// The last line of a summary: whether the run was quiet, or used all its turns. It is refused for want of memory
-/// alone.
-pub fn summary_end_line(alloc: Global, is_quiet: bool) -> Result<Text, NoMemory>
-    ensures { IfOk result (λ text. text ≡ summary_end_text is_quiet) }
+/// The last line of a summary: nothing was on its way when the run ended. It is refused for want of memory alone.
+pub fn summary_end_line(alloc: Global) -> Result<Text, NoMemory>
+    ensures { IfOk result (λ text. text ≡ summary_end_text) }
 {
-    Text::copy(alloc, summary_end(is_quiet))
+    Text::copy(alloc, SUMMARY_END)
 }
 
 /// The lines of a summary: the size of the network, for each destination how many of these rows have a route to it
-/// and the sum of their values, and whether the run was quiet. The values are numbers of at most [`MAX_SUMMED`], and
+/// and the sum of their values, and that nothing was on its way in the end. The values are numbers of at most [`MAX_SUMMED`], and
 /// there are at most 2^32 rows. It is refused for want of memory alone.
-pub fn summary_lines(
-    alloc: Global,
-    net: &Net,
-    rows: &[RouteRow],
-    is_quiet: bool,
-) -> Result<Text, NoMemory>
+pub fn summary_lines(alloc: Global, net: &Net, rows: &[RouteRow]) -> Result<Text, NoMemory>
     requires { AreSummed (map pure_row rows.now) }
-    ensures { IfOk result (λ text. text ≡ summary_text net.now (map pure_row rows.now) is_quiet) }
+    ensures { IfOk result (λ text. text ≡ summary_text net.now (map pure_row rows.now)) }
 {
     let mut out = String::new(alloc);
     push_size(&mut out, net)?;
     push_reaches(&mut out, net, rows, 0)?;
-    out.push_str(summary_end(is_quiet))?;
+    out.push_str(SUMMARY_END)?;
     Ok(Text::from_string(out))
 }
 

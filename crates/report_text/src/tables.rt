@@ -8,12 +8,7 @@ use net_graph::Net;
 use std::alloc::Global;
 
 /// The line of a destination with the number of its stable tables. It is refused for want of memory alone.
-pub fn stable_line(
-    alloc: Global,
-    net: &Net,
-    dest: DestId,
-    count: usize,
-) -> Result<Text, NoMemory>
+pub fn stable_line(alloc: Global, net: &Net, dest: DestId, count: usize) -> Result<Text, NoMemory>
     requires { dest.0 < length net.now.dests }
     ensures { IfOk result (λ text. text ≡ stable_text net.now dest.0 count) }
 {

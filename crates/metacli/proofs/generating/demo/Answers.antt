@@ -6,7 +6,7 @@ pub returns-in-Ok-clause-shown : goal.returns-in-Ok-clause-shown
 returns-in-Ok-clause-shown g c =
     let file = c.in-Ok.ensures.file in
     let run = c.in-Ok.ensures.run in
-    (c.in-Ok.ensures.alg, file.text, file.changes, labels_are_strict c.in-Ok.file.net run.is_net file.alg, run.is_run, run.stable)
+    (c.in-Ok.ensures.alg, file.text, file.changes, labels_are_strict c.in-Ok.file.net run.is_net file.alg, run.is_run, run.settled)
 
 pub returns-in-Ok-clause-printable : goal.returns-in-Ok-clause-printable
 returns-in-Ok-clause-printable g c =
