@@ -1,0 +1,1 @@
+-- empty so far
