@@ -1,1 +1,2 @@
--- empty so far
+pub mod Gadgets
+pub mod GadgetTexts
