@@ -59,11 +59,11 @@ few_symbols n (m ∷ ns) h a = (omega (arith, a.0), few_symbols n ns h a.1)
 few_members : (k count m : ℕ) → k + count ≤ printable → AreFew (members_from k count m)
 unfolding AreFew
 few_members k zero m h = tt
-few_members k (suc count) m h = by (has_mark m k)
+few_members k (suc count) m h = by (has_mark m k) (few_members (k + 1) count m (omega arith))
   where
-    by : (b : Bool) → AreFew (if b then k ∷ members_from (k + 1) count m else members_from (k + 1) count m)
-    by true = (omega arith, few_members (k + 1) count m (omega arith))
-    by false = few_members (k + 1) count m (omega arith)
+    by : (b : Bool) → AreFew (members_from (k + 1) count m) → AreFew (if b then k ∷ members_from (k + 1) count m else members_from (k + 1) count m)
+    by true more = (omega arith, more)
+    by false more = more
 
 -- names of tables
 
