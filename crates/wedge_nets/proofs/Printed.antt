@@ -1,12 +1,10 @@
 -- The printed texts of values and labels end no line: they have no line feed, no carriage return and no #.
-use Rattle.std.proofs.Common.{◌≡◌, ℕ, zero, suc, ◌+◌, ◌^◌, ◌<◌, ◌≤◌, Bool, true, false, not, ◌&&◌, if◌then◌else◌, List, [], ◌∷◌, ◌++◌, length, get_or, Option, Some, None, refl, sym, ap, ◌∙◌, subst, arith}
+use Rattle.std.proofs.Common.{◌≡◌, ℕ, zero, suc, ◌+◌, ◌^◌, ◌<◌, ◌≤◌, Bool, true, false, not, if◌then◌else◌, List, [], ◌∷◌, ◌++◌, refl, arith}
 use Rattle.std.specs.Prelude.{codes, decimal, slice_get, slice_index_or}
 use Rattle.std.specs.List.{list_all, AllByRecursion}
 use Rattle.std.specs.Str.{bytes_eq}
 use Rattle.std.proofs.lemmas.Bool.Decides.{nat_tests}
 use Rattle.meta_base.specs.Bytes.{is_letter, is_word_byte, is_word}
-use Rattle.alg_model.specs.declared.alg.TheConstants.{MAX_MARKS}
-use Rattle.alg_model.specs.declared.tree.TableSpec.{TableSpec}
 use Rattle.alg_model.specs.declared.tree.TableRow.{TableRow}
 use Rattle.alg_model.specs.Expressions.{Expression, add, cap, worst, width, pref, orig, seq, simseq, tags, guard, gate, table, lex, scoped, union, sum, plus, left, right}
 use Rattle.alg_model.specs.Expressions.{PureCarrier, whole, up_to, down_from, seqs, simseqs, sets, one, named, pairs, sides}
@@ -15,7 +13,7 @@ use Rattle.alg_model.specs.Expressions.{PureLabel, number_label, keep, symbol_la
 use Rattle.alg_model.specs.Carriers.{carrier_of, In}
 use Rattle.alg_model.specs.Application.{IsLabel, has_mark}
 use Rattle.alg_model.specs.Bounds.{AtMost, LabelAtMost}
-use Rattle.alg_model.specs.Formation.{IsFormed, IsCarrier, are_values, are_named, are_distinct, are_ranks, is_table_count, is_table_name, row_name}
+use Rattle.alg_model.specs.Formation.{IsFormed, IsCarrier, are_named, are_distinct, is_table_name, row_name}
 use Rattle.alg_model.specs.CarrierLaws.{carriers_are}
 use Rattle.alg_model.specs.PartLaws.{formed_lex, formed_scoped, formed_union, formed_sum, formed_plus, formed_left}
 use Rattle.alg_model.specs.Texts.{more_numbers, numbers_text, members_from, members, value_text, row_text, label_text}

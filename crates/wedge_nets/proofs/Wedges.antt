@@ -1,7 +1,7 @@
 -- The lines of a wedge lead to its network file.
-use Rattle.std.proofs.Common.{◌≡◌, ℕ, ◌≤◌, ◌<◌, Bool, true, leb, ltb, List, [], ◌∷◌, ◌++◌, Ok, length, refl, ap, ◌∙◌, subst, arith}
+use Rattle.std.proofs.Common.{◌≡◌, ℕ, ◌<◌, true, leb, ltb, List, [], ◌∷◌, ◌++◌, Ok, refl, ap, ◌∙◌, arith}
 use Rattle.std.specs.Prelude.{codes}
-use Rattle.std.specs.List.{list_all, AllByRecursion}
+use Rattle.std.specs.List.{AllByRecursion}
 use Rattle.std.proofs.lemmas.Bool.Decides.{nat_tests}
 use Rattle.alg_model.specs.declared.edition.Edition.{Edition}
 use Rattle.alg_model.specs.declared.edition.Edition.TheVariants.{One, Two}
@@ -12,17 +12,14 @@ use Rattle.alg_model.specs.Carriers.{carrier_of, In}
 use Rattle.alg_model.specs.Formation.{IsAlg, IsFormed}
 use Rattle.alg_model.specs.Texts.{value_text, label_text}
 use Rattle.net_graph.specs.Limits.{max_nodes, max_dests, max_changes}
-use Rattle.net_graph.specs.Nets.{PureNet}
 use Rattle.net_graph.specs.Changes.{PureChange, link, drop}
 use Rattle.settled_laws.specs.Pair.{Fits}
 use Rattle.settled_laws.specs.Wedge.{wedge_net}
 use Rattle.sig_text.specs.Parts.{Part, step_of, Splits}
 use Rattle.sig_text.specs.Literals.{ValueText, ValueTextTo, LabelText, LabelTextTo, IsValueFaultTo, IsLabelFaultTo}
 use Rattle.sig_text.specs.Spelled.{Tells, spelled_value, spelled_value_to, spelled_label, spelled_label_to}
-use Rattle.topology_file.specs.declared.network.TheConstants.{MAX_LINE_BYTES}
-use Rattle.topology_file.specs.Forms.{line_of}
 use Rattle.topology_file.specs.LineLaws.{IsLine, line_after}
-use Rattle.topology_file.specs.NetText.{PureNetFile, empty_file, after_form, after_line, Lead}
+use Rattle.topology_file.specs.NetText.{PureNetFile, empty_file, after_line, Lead}
 use Rattle.wedge_nets.specs.Gadgets.{wedge_file}
 use Rattle.wedge_nets.specs.GadgetTexts.{wedge_lines}
 
