@@ -6,7 +6,7 @@ use Rattle.alg_model.specs.declared.edition.Edition.{Edition}
 use Rattle.alg_model.specs.declared.edition.Edition.TheVariants.{One, Two}
 use Rattle.alg_model.specs.Application.{IsLabel, App}
 use Rattle.alg_model.specs.Bounds.{greatest_number}
-use Rattle.alg_model.specs.BoundLaws.{at_most_more, label_at_most_more, greatest_is_bounded}
+use Rattle.alg_model.specs.Laws.{at_most_more, label_at_most_more, greatest_is_bounded}
 use Rattle.alg_model.specs.Carriers.{carrier_of, IsPreferred}
 use Rattle.alg_model.specs.Expressions.{Expression, PureAlg, PureLabel, PureValue}
 use Rattle.alg_model.specs.Formation.{IsAlg}

@@ -15,7 +15,7 @@ use Rattle.alg_model.specs.Application.{IsLabel, has_mark}
 use Rattle.alg_model.specs.Bounds.{AtMost, LabelAtMost}
 use Rattle.alg_model.specs.Formation.{IsFormed, IsCarrier, are_named, are_distinct, is_table_name, row_name}
 use Rattle.alg_model.specs.CarrierLaws.{carriers_are}
-use Rattle.alg_model.specs.PartLaws.{formed_lex, formed_scoped, formed_union, formed_sum, formed_plus, formed_left}
+use Rattle.alg_model.specs.Laws.{formed_lex, formed_scoped, formed_union, formed_sum, formed_plus, formed_left}
 use Rattle.alg_model.specs.Texts.{more_numbers, numbers_text, members_from, members, value_text, row_text, label_text}
 use Rattle.topology_file.specs.LineLaws.{is_plain, both_true, all_pass, all_joined, word_plain, number_word}
 

@@ -5,8 +5,10 @@
 #![tactic(auto)]
 
 mod instance;
+mod laws;
 mod lines;
 mod small;
 
 pub use instance::gadget;
+pub use laws::{gadget_texts_are_networks, wedges_are_never_refused};
 pub use lines::gadget_lines;
