@@ -8,7 +8,7 @@ use Rattle.alg_model.specs.Expressions.{PureAlg, PureLabel}
 use Rattle.alg_model.specs.Application.{IsLabel}
 use Rattle.alg_model.specs.Bounds.{greatest_number}
 use Rattle.alg_model.specs.Properties.{PureProperty, monotone, strict, isotone, cancellative, total}
-use Rattle.alg_model.specs.Verdicts.{PureVerdict, PureVerdicts, holds, fails, verdict_on, ExactFor}
+use Rattle.alg_model.specs.Verdicts.{PureVerdict, PureVerdicts, holds, fails, verdict_on, IsExact, ExactFor}
 use Rattle.alg_model.specs.Instances.{VerdictsAtMost}
 use Rattle.property_infer.specs.Views.{pure_verdict, pure_verdicts}
 use Rattle.code_gen.specs.declared.listing.Listing.{Listing}
@@ -38,7 +38,8 @@ use Rattle.metacli.specs.declared.ended.Ended.{Ended}
 use Rattle.metacli.specs.declared.routing.Solution.{Solution}
 use Rattle.metacli.specs.declared.routing.Solution.TheVariants.{Unbeaten, Settled, AllStable}
 use Rattle.settled_laws.specs.UniqueTables.{TablesAreUnique}
-use Rattle.wedge_nets.specs.Gadgets.{IsGadgetOf}
+use Rattle.wedge_nets.specs.Gadgets.{HasGadget, wedge_file}
+use Rattle.wedge_nets.specs.GadgetTexts.{are_short, gadget_lines, gadget_text}
 
 -- What a run comes to before anything is written.
 pub data PureOutcome : Type 0 where
@@ -201,10 +202,15 @@ abbrev pub DecidesTables : PureAlg → PureOutcome → Type 0
 DecidesTables a (checked b f v u) = (v.monotone ≡ holds) ↔ TablesAreUnique a
 DecidesTables a _ = Unit {0}
 
--- What gadget comes to where all was read: the exact verdict on monotone, with a network that shows it where it fails,
--- unless memory is refused.
+-- the printed text of an instance against monotone is the network file of its wedge, where no line is too long for one
+abbrev pub ShowsWedge : PureAlg → PureVerdict → Type 0
+ShowsWedge a holds = Unit {0}
+ShowsWedge a (fails x) = are_short (gadget_lines a.expression x) ≡ true → NetText (gadget_text a (fails x)) a (wedge_file a x.label x.first)
+
+-- What gadget comes to where all was read: the exact verdict on monotone and, where it fails, a label and a value that a
+-- network file can hold, with their wedge, unless memory is refused.
 abbrev pub IsWedgedAs : PureAlg → PureOutcome → Type 0
-IsWedgedAs a (wedged b v) = (b ≡ a) × IsGadgetOf a v
+IsWedgedAs a (wedged b v) = (b ≡ a) × IsExact monotone a.expression (IsLabel a.expression) v × HasGadget a v × ShowsWedge a v
 IsWedgedAs a (stopped b None memory) = b ≡ Some a
 IsWedgedAs a _ = ⊥
 

@@ -9,7 +9,8 @@ use Rattle.net_graph.specs.RowTexts.{IsRowOf, row_text}
 use Rattle.topology_file.specs.NetText.{PureNetFile, changed_net}
 use Rattle.report_text.specs.TableTexts.{stable_text, table_text}
 use Rattle.report_text.specs.VerdictTexts.{required_text, verdicts_text, CanPrintVerdicts}
-use Rattle.wedge_nets.specs.Gadgets.{CanPrintGadget, gadget_text}
+use Rattle.wedge_nets.specs.Gadgets.{HasGadget}
+use Rattle.wedge_nets.specs.GadgetTexts.{gadget_text}
 use Rattle.alg_model.specs.Properties.{PureProperty}
 use Rattle.report_text.specs.CodeTexts.{CanList, code_text}
 use Rattle.report_text.specs.Refusals.{memory, refusal_text, CanRefuse}
@@ -89,7 +90,7 @@ IsPrintable (stopped a f r) = CanRefuse r (last_net f)
 IsPrintable (checked a f v u) = CanPrintVerdicts a.expression v
 IsPrintable (coded a f listing) = CanList a (last_net f) listing
 IsPrintable (routed s a f rows) = AllByRecursion (IsRowOf f.net) rows
-IsPrintable (wedged a v) = CanPrintGadget a v
+IsPrintable (wedged a v) = HasGadget a v
 IsPrintable (ran a f traced past last quiet) = AreOfNetworks f.net (nets_after f.net f.changes) past last
 IsPrintable (shown a f last) = AreSummed last.rows
 

@@ -12,7 +12,7 @@ use Rattle.net_gen.specs.Networks.{demo_alg, arcs_of, node_names, generated_file
 use Rattle.net_gen.proofs.LineForms.{node_is_line, link_is_line, origins_are_lines}
 use Rattle.net_gen.proofs.NodeLinks.{IsLinkOf, each_links, all_append, all_links, few_links}
 use Rattle.net_gen.proofs.Steps.{Misses, IsNewLink, missed_by_listener, missed_by_speaker, file_with, file_once, file_twice, node_step, link_step, first_origin, second_origin}
-use Rattle.net_gen.proofs.Words.{IsLine, lines_again}
+use Rattle.topology_file.specs.LineLaws.{IsLine, lines_again}
 
 lead_append : (f mid last : PureNetFile) (xs ys : List (List ℕ)) → Lead f xs mid → Lead mid ys last → Lead f (xs ++ ys) last
 lead_append f mid last [] ys a b = subst (λ g. Lead g ys last) a b

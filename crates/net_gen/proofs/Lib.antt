@@ -1,7 +1,6 @@
 pub mod Written
 pub mod NodeLinks
 pub mod Short
-pub mod Words
 pub mod Names
 pub mod LineForms
 pub mod Steps

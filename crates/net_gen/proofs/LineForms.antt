@@ -1,45 +1,20 @@
 -- What the lines of a generated text ask for.
-use Rattle.std.proofs.Common.{◌≡◌, ℕ, zero, suc, ◌+◌, ◌<◌, ◌≤◌, Bool, true, List, [], ◌∷◌, ◌++◌, Ok, refl, sym, ap, ◌∙◌, arith, append_assoc}
+use Rattle.std.proofs.Common.{◌≡◌, ℕ, zero, suc, ◌+◌, ◌<◌, ◌≤◌, true, List, [], ◌∷◌, ◌++◌, Ok, refl, ap, ◌∙◌, arith, append_assoc}
 use Rattle.std.specs.Prelude.{codes, decimal}
 use Rattle.std.specs.List.{list_all, AllByRecursion}
-use Rattle.std.proofs.lemmas.List.{append-nil}
 use Rattle.std.proofs.lemmas.Fmt.{decimal_digit}
-use Rattle.meta_base.specs.Bytes.{front, behind}
 use Rattle.alg_model.specs.Expressions.{number, number_label}
-use Rattle.net_graph.specs.Nets.{is_name_byte, is_name}
+use Rattle.net_graph.specs.Nets.{is_name}
 use Rattle.sig_text.specs.Sequences.{parts_of}
 use Rattle.sig_text.specs.Spelled.{spelled_label, spelled_value}
 use Rattle.topology_file.specs.Texts.{is_not, words_of}
-use Rattle.topology_file.specs.Forms.{nodes, link, line_from, plain_line, named_nodes, colon_line, line_of}
+use Rattle.topology_file.specs.Forms.{nodes, link, plain_line, named_nodes, colon_line, line_of}
 use Rattle.net_gen.specs.declared.links.Link.{Link}
 use Rattle.net_gen.specs.Generated.{node_name, node_line, link_line, origin_lines}
 use Rattle.net_gen.specs.Networks.{demo_alg}
-use Rattle.net_gen.proofs.Names.{number_word, name_word}
+use Rattle.net_gen.proofs.Names.{name_word}
 use Rattle.net_gen.proofs.Short.{name_short, link_short}
-use Rattle.net_gen.proofs.Words.{IsWord, IsLine, is_plain, both_true, all_pass, front_through, behind_through, no_colon, words_first, words_one, word_plain}
-
-all_joined : (p : ℕ → Bool) (xs ys : List ℕ) → list_all p xs ≡ true → list_all p ys ≡ true → list_all p (xs ++ ys) ≡ true
-all_joined p [] ys h k = k
-all_joined p (x ∷ xs) ys h k =
-    let t = both_true (p x) (list_all p xs) h in
-    rw t.0 (all_joined p xs ys t.1 k)
-
--- a line without a colon
-plain_form : (said : List ℕ) → list_all (is_not 58) said ≡ true → line_of said ≡ plain_line (words_of said)
-plain_form said h =
-    let f : front (is_not 58) said ≡ said = ap (front (is_not 58)) (sym (append-nil said)) ∙ front_through (is_not 58) said [] h ∙ append-nil said in
-    let b : behind (is_not 58) said ≡ [] = ap (behind (is_not 58)) (sym (append-nil said)) ∙ behind_through (is_not 58) said [] h in
-    ap (λ xs. line_from (words_of xs) (behind (is_not 58) said)) f ∙ ap (line_from (words_of said)) b
-
--- a line with one
-colon_form : (before literal : List ℕ) → list_all (is_not 58) before ≡ true → line_of (before ++ 58 ∷ literal) ≡ colon_line (words_of before) literal
-colon_form before literal h =
-    let f : front (is_not 58) (before ++ 58 ∷ literal) ≡ before = front_through (is_not 58) before (58 ∷ literal) h ∙ append-nil before in
-    let b : behind (is_not 58) (before ++ 58 ∷ literal) ≡ 58 ∷ literal = behind_through (is_not 58) before (58 ∷ literal) h in
-    ap (λ xs. line_from (words_of xs) (behind (is_not 58) (before ++ 58 ∷ literal))) f ∙ ap (line_from (words_of before)) b
-
-colonless : (w : List ℕ) → IsWord w → list_all (is_not 58) w ≡ true
-colonless w i = all_pass is_name_byte (is_not 58) w no_colon i.bytes
+use Rattle.topology_file.specs.LineLaws.{IsWord, IsLine, is_plain, all_joined, words_first, words_one, word_plain, number_word, plain_form, colon_form, colonless}
 
 -- `node A`
 pub node_form : (name : List ℕ) → IsWord name → is_name name ≡ true → line_of (codes "node " ++ name) ≡ nodes (name ∷ [])

@@ -1,38 +1,19 @@
 -- The names of generated nodes: they are names, and each has its node's number.
-use Rattle.std.proofs.Common.{◌≡◌, ℕ, zero, suc, ◌+◌, ◌-◌, ◌/◌, ◌%◌, ◌^◌, ◌<◌, ◌≤◌, Bool, true, false, not, cond, eqb, leb, ltb, List, [], ◌∷◌, ◌++◌, map, Option, Some, None, length, refl, sym, ap, ◌∙◌, arith}
+use Rattle.std.proofs.Common.{◌≡◌, ℕ, zero, suc, ◌+◌, ◌-◌, ◌^◌, ◌<◌, ◌≤◌, Bool, true, false, not, cond, eqb, leb, ltb, List, [], ◌∷◌, map, Option, Some, None, length, refl, sym, ap, ◌∙◌, arith}
 use Rattle.std.specs.Prelude.{decimal}
-use Rattle.std.specs.List.{list_all, range_with_len, prefix_len}
+use Rattle.std.specs.List.{range_with_len, prefix_len}
 use Rattle.std.specs.Str.{bytes_eq}
 use Rattle.std.proofs.lemmas.Bool.Decides.{nat_tests}
-use Rattle.std.proofs.lemmas.Fmt.{decimal_by_steps, decimal_injective, decimal_digit, length-decimal-le, decimal_nonempty}
-use Rattle.std.proofs.lemmas.List.Folds.{list_all-append}
+use Rattle.std.proofs.lemmas.Fmt.{decimal_injective, decimal_digit, length-decimal-le}
 use Rattle.std.proofs.lemmas.List.FromFn.{length-map-range_with_len}
 use Rattle.std.proofs.lemmas.Slice.Eq.{bytes_eq-Decides}
-use Rattle.net_graph.specs.Nets.{is_name_byte, is_name, number_of}
+use Rattle.net_graph.specs.Nets.{is_name, number_of}
 use Rattle.net_gen.specs.Generated.{node_name}
 use Rattle.net_gen.specs.Networks.{node_names}
-use Rattle.net_gen.proofs.Words.{IsWord}
-
-digit_byte : (d : ℕ) → d < 10 → is_name_byte (48 + d) ≡ true
-digit_byte d h = grind (arith, nat_tests)
-
-abbrev HasNameBytes : ℕ → List ℕ → Type 0
-HasNameBytes n ds = list_all is_name_byte ds ≡ true
-
-one_digit : (n : ℕ) → n < 10 → HasNameBytes n ((48 + n) ∷ [])
-one_digit n h = rw (digit_byte n h) refl
-
-more_digits : (n : ℕ) (ds : List ℕ) → 10 ≤ n → HasNameBytes (n / 10) ds → HasNameBytes n (ds ++ ((48 + n % 10) ∷ []))
-more_digits n ds h p =
-    let small : n % 10 < 10 = omega arith in
-    rw (list_all-append is_name_byte ds ((48 + n % 10) ∷ []), p, digit_byte (n % 10) small) refl
-
--- a printed number is a word
-pub number_word : (n : ℕ) → n < 2 ^ 64 → IsWord (decimal n)
-number_word n h = record { bytes = decimal_by_steps HasNameBytes one_digit more_digits n h; some = decimal_nonempty n h }
+use Rattle.topology_file.specs.LineLaws.{IsWord, number_word}
 
 pub name_word : (k : ℕ) → k < 2 ^ 64 → IsWord (node_name k)
-name_word k h = record { bytes = (number_word k h).bytes; some = omega arith }
+name_word k h = record { bytes = (number_word k (omega arith)).bytes; some = omega arith }
 
 -- and a node's name is a name
 pub node_is_name : (k : ℕ) → k < 1000 → is_name (node_name k) ≡ true

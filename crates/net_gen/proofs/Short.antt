@@ -5,7 +5,8 @@ use Rattle.std.proofs.lemmas.Fmt.{length-decimal-le}
 use Rattle.std.proofs.lemmas.List.{length-map}
 use Rattle.std.proofs.lemmas.List.FromFn.{length-map-range_with_len}
 use Rattle.net_gen.specs.declared.links.Link.{Link}
-use Rattle.net_gen.specs.Generated.{AreDemoNodes, node_name, node_line, link_line, node_lines, origin_lines, ended, text_of, links_to, Generated}
+use Rattle.topology_file.specs.LineTexts.{ended, text_of}
+use Rattle.net_gen.specs.Generated.{AreDemoNodes, node_name, node_line, link_line, node_lines, origin_lines, links_to, Generated}
 use Rattle.net_gen.proofs.NodeLinks.{all_links, few_links}
 use Rattle.net_gen.proofs.Written.{text_append}
 

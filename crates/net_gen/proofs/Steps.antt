@@ -15,7 +15,7 @@ use Rattle.net_gen.specs.Generated.{node_name, node_line, link_line}
 use Rattle.net_gen.specs.Networks.{demo_alg, arcs_of, origin_of, node_names}
 use Rattle.net_gen.proofs.LineForms.{node_form, link_form, node_is_line, link_is_line, weight_spelled, zero_spelled}
 use Rattle.net_gen.proofs.Names.{name_word, node_is_name, numbered, unnumbered, name_is}
-use Rattle.net_gen.proofs.Words.{line_after}
+use Rattle.topology_file.specs.LineLaws.{line_after}
 
 -- the network of these nodes and links, before its origins, without changes
 abbrev pub net_with : List (List ℕ) → List PureArc → PureNet

@@ -3,7 +3,8 @@ use Rattle.std.proofs.Common.{◌≡◌, ℕ, zero, suc, ◌+◌, ◌-◌, ◌�
 use Rattle.std.proofs.lemmas.List.{map-append, append-nil}
 use Rattle.std.proofs.lemmas.List.FromFn.{map-range_with_len_more}
 use Rattle.std.proofs.lemmas.List.Concat.{flat_map-append}
-use Rattle.net_gen.specs.Generated.{node_line, link_line, node_lines, origin_lines, ended, text_of, links_of, links_to, Generated}
+use Rattle.topology_file.specs.LineTexts.{ended, text_of}
+use Rattle.net_gen.specs.Generated.{node_line, link_line, node_lines, origin_lines, links_of, links_to, Generated}
 
 pub text_append : (xs ys : List (List ℕ)) → text_of (xs ++ ys) ≡ text_of xs ++ text_of ys
 text_append xs ys = flat_map-append ended xs ys

@@ -5,7 +5,8 @@
 -- group + GROUPS * t, a label for it, another such node and a label for that; it listens to both of them, or, where
 -- they are one node, to that one by the first label. Labels are 1 to 9. The first two nodes have an origin each.
 use Rattle.std.specs.Prelude.{ℕ, ◌+◌, ◌*◌, ◌-◌, ◌/◌, ◌%◌, ◌≤◌, zero, suc, List, [], ◌∷◌, ◌++◌, map, ◌==◌, if◌then◌else◌, codes, decimal}
-use Rattle.std.specs.List.{range_with_len, flat_map}
+use Rattle.std.specs.List.{range_with_len}
+use Rattle.topology_file.specs.LineTexts.{text_of}
 use Rattle.net_gen.specs.declared.links.TheConstants.{GROUPS, MOST_WEIGHT}
 use Rattle.net_gen.specs.declared.links.Link.{Link}
 use Rattle.net_gen.specs.declared.network.TheConstants.{MIN_DEMO_NODES, MAX_DEMO_NODES}
@@ -78,13 +79,6 @@ node_lines n = map node_line (range_with_len 0 n)
 
 abbrev pub origin_lines : List (List ℕ)
 origin_lines = codes "origin x0 at n0 : 0" ∷ codes "origin x1 at n1 : 0" ∷ []
-
--- a line feed ends each line
-abbrev pub ended : List ℕ → List ℕ
-ended line = line ++ codes "\n"
-
-abbrev pub text_of : List (List ℕ) → List ℕ
-text_of lines = flat_map ended lines
 
 -- the network of n nodes
 unfoldable pub Generated : ℕ → ℕ → List ℕ

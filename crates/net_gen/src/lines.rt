@@ -1,7 +1,8 @@
 // The lines of generated networks.
 ghost use Rattle.std.specs.Prelude.{◌≡◌, ◌≤◌, ◌-◌, map, OnOk};
 ghost use Rattle.meta_base.specs.Appending.{Gains};
-ghost use Rattle.net_gen.specs.Generated.{node_name, node_line, link_line, node_lines, ended, text_of, links_of, links_to};
+ghost use Rattle.topology_file.specs.LineTexts.{ended, text_of};
+ghost use Rattle.net_gen.specs.Generated.{node_name, node_line, link_line, node_lines, links_of, links_to};
 
 use crate::draws::Draws;
 use crate::links::Link;

@@ -1,13 +1,9 @@
 -- Every network over an algebra has at most one stable table of each destination exactly if all its labels are monotone.
 -- Lemmas, so that proofs of other crates may cite them.
-use Rattle.std.proofs.Common.{◌≡◌, ℕ, ◌≤◌, ◌↔◌, List, [], ◌∷◌, Option, Some, None, refl, ◌∙◌, arith}
+use Rattle.std.proofs.Common.{◌≡◌, ℕ, ◌↔◌, List, [], ◌∷◌, Option, Some, None, refl}
 use Rattle.std.specs.List.{AllByRecursion}
 use Rattle.alg_model.specs.Expressions.{PureAlg, PureLabel, PureValue}
-use Rattle.alg_model.specs.declared.edition.Edition.{Edition}
-use Rattle.alg_model.specs.declared.edition.Edition.TheVariants.{One, Two}
-use Rattle.alg_model.specs.Carriers.{carrier_of, IsPreferred}
-use Rattle.alg_model.specs.Application.{IsLabel, App}
-use Rattle.alg_model.specs.Bounds.{greatest_number}
+use Rattle.alg_model.specs.Application.{IsLabel}
 use Rattle.alg_model.specs.Formation.{IsAlg}
 use Rattle.alg_model.specs.Properties.{PureProperty, monotone, strict, isotone, cancellative, total, IsMonotone}
 use Rattle.alg_model.specs.Verdicts.{PureVerdict, holds, fails, IsExact, Shows}
@@ -16,7 +12,8 @@ use Rattle.settled_laws.specs.Agreement.{stable_is_unique}
 use Rattle.settled_laws.specs.UniqueTables.{LabelsAreMonotone, TablesAreUnique}
 use Rattle.settled_laws.specs.Pair.{pair_net, table_by_q, table_by_p, Fits, Improves}
 use Rattle.settled_laws.specs.PairIsNet.{pair_is_net}
-use Rattle.settled_laws.specs.SmallImages.{small_image}
+use Rattle.settled_laws.specs.SmallInstances.{small_label_on, small_value_under}
+use Rattle.settled_laws.specs.SmallWedges.{small_wedge}
 use Rattle.settled_laws.specs.PairTables.{by_q_is_stable, by_p_is_stable, tables_differ}
 
 arcs_have_monotone : (alg : PureAlg) (nodes : ℕ) (arcs : List PureArc) → LabelsAreMonotone alg → AllByRecursion (IsArcOf alg nodes) arcs → AllByRecursion (λ (a : PureArc). IsMonotone alg.expression a.label) arcs
@@ -33,21 +30,11 @@ pub none_improves_where_unique : (alg : PureAlg) (l : PureLabel) (v w : PureValu
 none_improves_where_unique alg l v w a unique f g =
     tables_differ v w (unique (pair_net alg l v) refl (pair_is_net alg l v a f) 0 (table_by_q v w) (table_by_p v w) (by_q_is_stable alg l v w a f g) (by_p_is_stable alg l v w a f g))
 
-some_number : (e : Edition) → 1 ≤ greatest_number e
-some_number One = omega arith
-some_number Two = omega arith
-
 -- and none at all: where one made some value better, one without great numbers would do so
 pub monotone_where_unique : (alg : PureAlg) → IsAlg alg → TablesAreUnique alg → LabelsAreMonotone alg
-monotone_where_unique alg a unique l is v within = by (App alg.expression l v) refl
-  where
-    by : (o : Option PureValue) → App alg.expression l v ≡ o → ¬ IsPreferred (carrier_of alg.expression) o (Some v)
-    by None e p = absurd (cc)
-    by (Some w) e p =
-        let s = small_image (greatest_number alg.edition) alg.expression (some_number alg.edition) a.bound a.formed.carriers l v w is within e in
-        none_improves_where_unique alg s.l s.v s.w a unique
-        (record { label_in = s.label_in; value_in = s.value_in; label_bound = s.label_small; value_bound = s.value_small })
-        (record { image = s.image; preferred = s.order ∙ p })
+monotone_where_unique alg a unique l is v within p =
+    let s = small_wedge alg l v a is within p in
+    none_improves_where_unique alg (small_label_on alg.expression l v) (small_value_under alg.expression l v) s.image a unique s.fits s.improves
 
 pub unique_exactly_where_monotone : (alg : PureAlg) → IsAlg alg → (TablesAreUnique alg ↔ LabelsAreMonotone alg)
 unique_exactly_where_monotone alg a = (monotone_where_unique alg a, unique_where_monotone alg)

@@ -1,7 +1,7 @@
 -- Whatever a label makes of a value, some label without great numbers makes of a value without great numbers: the two
 -- images compare alike to their values. So a label that isn't monotone isn't hidden by a bound on the numbers of a text.
 -- Lemmas, so that proofs of other crates may cite them.
-use Rattle.std.proofs.Common.{◌≡◌, ℕ, ◌+◌, ◌≤◌, Some, refl, sym, ◌∙◌, arith}
+use Rattle.std.proofs.Common.{◌≡◌, ℕ, ◌+◌, ◌≤◌, Some, refl, arith}
 use Rattle.std.specs.Ordering.{nat_cmp}
 use Rattle.std.specs.declared.cmp.Ordering.{Ordering}
 use Rattle.std.proofs.lemmas.Bool.Decides.{nat_tests}
@@ -15,7 +15,8 @@ use Rattle.alg_model.specs.Application.{IsLabel, App}
 use Rattle.alg_model.specs.Bounds.{AtMost, LabelAtMost, ExpressionAtMost}
 use Rattle.alg_model.specs.Formation.{MeetsCarriers}
 use Rattle.alg_model.specs.Images.{image_same, image_part, image_both}
-use Rattle.settled_laws.specs.SmallValues.{carrier_at_most, small_pair, order_self, all_below}
+use Rattle.settled_laws.specs.SmallInstances.{small_beside, small_label, small_label_on, small_value_under}
+use Rattle.settled_laws.specs.SmallValues.{carrier_at_most, order_self, all_below, beside_is_small, beside_compares}
 
 -- values of carriers of small numbers are small
 up_small : (n top : ℕ) (v : PureValue) → top ≤ n → In (up_to top) v → AtMost n v
@@ -46,67 +47,63 @@ named_small : (n : ℕ) (t : TableSpec) (v : PureValue) → In (named t.names t.
 named_small n t (name i) k = tt
 named_small n t _ k = absurd k
 
--- a label of the algebra without a number above n
-pub record SmallLabel (n : ℕ) (a : Expression) : Type 0 where
-  pub l : PureLabel
+-- the label is one of the algebra's, and has no number above n
+pub record IsSmallLabel (n : ℕ) (a : Expression) (l : PureLabel) : Type 0 where
   pub label_in : IsLabel a l
   pub small : LabelAtMost n l
 
--- where an algebra has labels, it has a small one
-pub small_label : (n : ℕ) (a : Expression) (l : PureLabel) → 1 ≤ n → ExpressionAtMost n a → IsLabel a l → SmallLabel n a
-small_label n (add low high) (number_label k) some h is = record { l = number_label k; label_in = is; small = omega (arith, h.1, is.1) }
-small_label n (cap top low high) (number_label k) some h is = record { l = number_label k; label_in = is; small = omega (arith, h.2, is.1) }
-small_label n (worst top low high) (number_label k) some h is = record { l = number_label k; label_in = is; small = omega (arith, h.2, is.1) }
-small_label n (width top low high) (number_label k) some h is = record { l = number_label k; label_in = is; small = omega (arith, h.2, is.1) }
-small_label n (pref top) (number_label k) some h is = record { l = number_label k; label_in = is; small = omega arith }
-small_label n (orig top) keep some h is = record { l = keep; label_in = is; small = tt }
-small_label n (seq count) (symbol_label k) some h is = record { l = symbol_label k; label_in = is; small = omega arith }
-small_label n (simseq count) (symbol_label k) some h is = record { l = symbol_label k; label_in = is; small = omega arith }
-small_label n (tags count) keep some h is = record { l = keep; label_in = is; small = tt }
-small_label n (tags count) (mark k) some h is = record { l = mark k; label_in = is; small = tt }
-small_label n (tags count) (unmark k) some h is = record { l = unmark k; label_in = is; small = tt }
-small_label n (guard count) (need k) some h is = record { l = need k; label_in = is; small = tt }
-small_label n (guard count) (bar k) some h is = record { l = bar k; label_in = is; small = tt }
-small_label n gate allow some h is = record { l = allow; label_in = is; small = tt }
-small_label n gate deny some h is = record { l = deny; label_in = is; small = tt }
-small_label n (table t) (row_label r) some h is = record { l = row_label r; label_in = is; small = tt }
-small_label n (lex a b) (pair_label l k) some h is =
-    let s = small_label n a l some h.0 is.0 in
-    let t = small_label n b k some h.1 is.1 in
-    record { l = pair_label s.l t.l; label_in = (s.label_in, t.label_in); small = (s.small, t.small) }
-small_label n (scoped a b) (outer l v) some h is =
-    let s = small_label n a l some h.0 is.0 in
-    let p = small_pair n (carrier_of b) v v some (carrier_at_most n b h.1) is.1 is.1 in
-    record { l = outer s.l p.v; label_in = (s.label_in, p.v_in); small = (s.small, p.v_small) }
-small_label n (scoped a b) (inner k) some h is =
-    let t = small_label n b k some h.1 is in
-    record { l = inner t.l; label_in = t.label_in; small = t.small }
-small_label n (union a b) (first_label l) some h is =
-    let s = small_label n a l some h.0 is in
-    record { l = first_label s.l; label_in = s.label_in; small = s.small }
-small_label n (union a b) (second_label k) some h is =
-    let t = small_label n b k some h.1 is in
-    record { l = second_label t.l; label_in = t.label_in; small = t.small }
-small_label n (sum a b) (both_label l k) some h is =
-    let s = small_label n a l some h.0 is.0 in
-    let t = small_label n b k some h.1 is.1 in
-    record { l = both_label s.l t.l; label_in = (s.label_in, t.label_in); small = (s.small, t.small) }
-small_label n (plus a b) (first_label l) some h is =
-    let s = small_label n a l some h.0 is in
-    record { l = first_label s.l; label_in = s.label_in; small = s.small }
-small_label n (plus a b) (second_label k) some h is =
-    let t = small_label n b k some h.1 is in
-    record { l = second_label t.l; label_in = t.label_in; small = t.small }
-small_label n (left a) (const_label v) some h is =
-    let p = small_pair n (carrier_of a) v v some (carrier_at_most n a h) is is in
-    record { l = const_label p.v; label_in = p.v_in; small = p.v_small }
-small_label n (right a) keep some h is = record { l = keep; label_in = is; small = tt }
-small_label n _ _ some h is = absurd is
+pub label_is_small : (n : ℕ) (a : Expression) (l : PureLabel) → 1 ≤ n → ExpressionAtMost n a → IsLabel a l → IsSmallLabel n a (small_label a l)
+label_is_small n (add low high) (number_label k) some h is = record { label_in = is; small = omega (arith, h.1, is.1) }
+label_is_small n (cap top low high) (number_label k) some h is = record { label_in = is; small = omega (arith, h.2, is.1) }
+label_is_small n (worst top low high) (number_label k) some h is = record { label_in = is; small = omega (arith, h.2, is.1) }
+label_is_small n (width top low high) (number_label k) some h is = record { label_in = is; small = omega (arith, h.2, is.1) }
+label_is_small n (pref top) (number_label k) some h is = record { label_in = is; small = omega arith }
+label_is_small n (orig top) keep some h is = record { label_in = is; small = tt }
+label_is_small n (seq count) (symbol_label k) some h is = record { label_in = is; small = omega arith }
+label_is_small n (simseq count) (symbol_label k) some h is = record { label_in = is; small = omega arith }
+label_is_small n (tags count) keep some h is = record { label_in = is; small = tt }
+label_is_small n (tags count) (mark k) some h is = record { label_in = is; small = tt }
+label_is_small n (tags count) (unmark k) some h is = record { label_in = is; small = tt }
+label_is_small n (guard count) (need k) some h is = record { label_in = is; small = tt }
+label_is_small n (guard count) (bar k) some h is = record { label_in = is; small = tt }
+label_is_small n gate allow some h is = record { label_in = is; small = tt }
+label_is_small n gate deny some h is = record { label_in = is; small = tt }
+label_is_small n (table t) (row_label r) some h is = record { label_in = is; small = tt }
+label_is_small n (lex a b) (pair_label l m) some h is =
+    let s = label_is_small n a l some h.0 is.0 in
+    let t = label_is_small n b m some h.1 is.1 in
+    record { label_in = (s.label_in, t.label_in); small = (s.small, t.small) }
+label_is_small n (scoped a b) (outer l v) some h is =
+    let s = label_is_small n a l some h.0 is.0 in
+    let p = beside_is_small n (carrier_of b) v v some (carrier_at_most n b h.1) is.1 is.1 in
+    record { label_in = (s.label_in, p.value_in); small = (s.small, p.small) }
+label_is_small n (scoped a b) (inner m) some h is =
+    let t = label_is_small n b m some h.1 is in
+    record { label_in = t.label_in; small = t.small }
+label_is_small n (union a b) (first_label l) some h is =
+    let s = label_is_small n a l some h.0 is in
+    record { label_in = s.label_in; small = s.small }
+label_is_small n (union a b) (second_label m) some h is =
+    let t = label_is_small n b m some h.1 is in
+    record { label_in = t.label_in; small = t.small }
+label_is_small n (sum a b) (both_label l m) some h is =
+    let s = label_is_small n a l some h.0 is.0 in
+    let t = label_is_small n b m some h.1 is.1 in
+    record { label_in = (s.label_in, t.label_in); small = (s.small, t.small) }
+label_is_small n (plus a b) (first_label l) some h is =
+    let s = label_is_small n a l some h.0 is in
+    record { label_in = s.label_in; small = s.small }
+label_is_small n (plus a b) (second_label m) some h is =
+    let t = label_is_small n b m some h.1 is in
+    record { label_in = t.label_in; small = t.small }
+label_is_small n (left a) (const_label v) some h is =
+    let p = beside_is_small n (carrier_of a) v v some (carrier_at_most n a h) is is in
+    record { label_in = p.value_in; small = p.small }
+label_is_small n (right a) keep some h is = record { label_in = is; small = tt }
+label_is_small n _ _ some h is = absurd is
 
 -- a label and a value of the algebra without a number above n, and the image, which compares like this to the value
-pub record SmallImage (n : ℕ) (a : Expression) (o : Ordering) : Type 0 where
-  pub l : PureLabel
-  pub v : PureValue
+pub record SmallImage (n : ℕ) (a : Expression) (l : PureLabel) (v : PureValue) (o : Ordering) : Type 0 where
   pub w : PureValue
   pub label_in : IsLabel a l
   pub value_in : In (carrier_of a) v
@@ -115,20 +112,25 @@ pub record SmallImage (n : ℕ) (a : Expression) (o : Ordering) : Type 0 where
   pub image : App a l v ≡ Some w
   pub order : Order (carrier_of a) w v ≡ o
 
+-- the law for a label and a value with its image
+abbrev HasSmallImage : ℕ → Expression → PureLabel → PureValue → PureValue → Type 0
+HasSmallImage n a l v w = SmallImage n a (small_label_on a l v) (small_value_under a l v) (Order (carrier_of a) w v)
+
 -- the law for an expression
 abbrev pub HasSmallImages : ℕ → Expression → Type 0
-HasSmallImages n a = (l : PureLabel) (v w : PureValue) → IsLabel a l → In (carrier_of a) v → App a l v ≡ Some w → SmallImage n a (Order (carrier_of a) w v)
+HasSmallImages n a = (l : PureLabel) (v w : PureValue) → IsLabel a l → In (carrier_of a) v → App a l v ≡ Some w → HasSmallImage n a l v w
 
-itself : (n : ℕ) (a : Expression) (l : PureLabel) (v w : PureValue) → IsLabel a l → In (carrier_of a) v → LabelAtMost n l → AtMost n v → App a l v ≡ Some w → SmallImage n a (Order (carrier_of a) w v)
+itself : (n : ℕ) (a : Expression) (l : PureLabel) (v w : PureValue) → IsLabel a l → In (carrier_of a) v → LabelAtMost n l → AtMost n v → App a l v ≡ Some w → SmallImage n a l v (Order (carrier_of a) w v)
 itself n a l v w is within label_small value_small e =
-    record { l = l; v = v; w = w; label_in = is; value_in = within; label_small = label_small; value_small = value_small; image = e; order = refl }
+    record { w = w; label_in = is; value_in = within; label_small = label_small; value_small = value_small; image = e; order = refl }
 
 added : (i k : ℕ) → nat_cmp (0 + k) 0 ≡ nat_cmp (i + k) i
 added i k = grind (arith, nat_tests)
 
 add_small : (n low high : ℕ) → high ≤ n → HasSmallImages n (add low high)
-add_small n low high h (number_label k) (number i) w is within e = image_same (λ w. SmallImage n (add low high) (Order (carrier_of (add low high)) w (number i))) (number (i + k)) w e
-    (record { l = number_label k; v = number 0; w = number (0 + k); label_in = is; value_in = tt; label_small = omega (arith, is.1); value_small = omega arith; image = refl; order = added i k })
+add_small n low high h (number_label k) (number i) w is within e =
+    image_same (HasSmallImage n (add low high) (number_label k) (number i)) (number (i + k)) w e
+    (record { w = number (0 + k); label_in = is; value_in = tt; label_small = omega (arith, is.1); value_small = omega arith; image = refl; order = added i k })
 add_small n low high h (number_label k) _ w is within e = absurd within
 add_small n low high h _ v w is within e = absurd is
 
@@ -181,14 +183,12 @@ table_small n t (row_label r) v w is within e = itself n (table t) (row_label r)
 table_small n t _ v w is within e = absurd is
 
 lex_small : (n : ℕ) (a b : Expression) → HasSmallImages n a → HasSmallImages n b → HasSmallImages n (lex a b)
-lex_small n a b first_law second_law (pair_label l k) (pair u v) w is within e =
-    image_both (λ w. SmallImage n (lex a b) (Order (carrier_of (lex a b)) w (pair u v))) (App a l u) (App b k v) w e
+lex_small n a b first_law second_law (pair_label l m) (pair u v) w is within e =
+    image_both (HasSmallImage n (lex a b) (pair_label l m) (pair u v)) (App a l u) (App b m v) w e
     (λ x y p q.
     let s = first_law l u x is.0 within.0 p in
-    let t = second_law k v y is.1 within.1 q in
+    let t = second_law m v y is.1 within.1 q in
     record {
-      l = pair_label s.l t.l;
-      v = pair s.v t.v;
       w = pair s.w t.w;
       label_in = (s.label_in, t.label_in);
       value_in = (s.value_in, t.value_in);
@@ -197,56 +197,53 @@ lex_small n a b first_law second_law (pair_label l k) (pair u v) w is within e =
       image = rw (s.image, t.image) refl;
       order = rw (s.order, t.order) refl;
     })
-lex_small n a b first_law second_law (pair_label l k) _ w is within e = absurd within
+lex_small n a b first_law second_law (pair_label l m) _ w is within e = absurd within
 lex_small n a b first_law second_law _ v w is within e = absurd is
 
 scoped_small : (n : ℕ) (a b : Expression) → 1 ≤ n → ExpressionAtMost n a → ExpressionAtMost n b → HasSmallImages n a → HasSmallImages n b → HasSmallImages n (scoped a b)
 scoped_small n a b some h g first_law second_law (outer l z) (pair u v) w is within e =
-    image_both (λ w. SmallImage n (scoped a b) (Order (carrier_of (scoped a b)) w (pair u v))) (App a l u) (Some z) w e
+    image_both (HasSmallImage n (scoped a b) (outer l z) (pair u v)) (App a l u) (Some z) w e
     (λ x y p q.
     let s = first_law l u x is.0 within.0 p in
-    let t = small_pair n (carrier_of b) z v some (carrier_at_most n b g) is.1 within.1 in
+    let c = carrier_of b in
+    let t = beside_is_small n c z v some (carrier_at_most n b g) is.1 within.1 in
+    let r = beside_is_small n c v z some (carrier_at_most n b g) within.1 is.1 in
     let same : z ≡ y = cc in
     record {
-      l = outer s.l t.u;
-      v = pair s.v t.v;
-      w = pair s.w t.u;
-      label_in = (s.label_in, t.u_in);
-      value_in = (s.value_in, t.v_in);
-      label_small = (s.label_small, t.u_small);
-      value_small = (s.value_small, t.v_small);
+      w = pair s.w (small_beside c z v);
+      label_in = (s.label_in, t.value_in);
+      value_in = (s.value_in, r.value_in);
+      label_small = (s.label_small, t.small);
+      value_small = (s.value_small, r.small);
       image = rw s.image refl;
-      order = rw (s.order, ← same, t.order) refl;
+      order = rw (s.order, ← same, beside_compares c z v is.1 within.1) refl;
     })
 scoped_small n a b some h g first_law second_law (outer l z) _ w is within e = absurd within
-scoped_small n a b some h g first_law second_law (inner k) (pair u v) w is within e =
-    image_both (λ w. SmallImage n (scoped a b) (Order (carrier_of (scoped a b)) w (pair u v))) (Some u) (App b k v) w e
+scoped_small n a b some h g first_law second_law (inner m) (pair u v) w is within e =
+    image_both (HasSmallImage n (scoped a b) (inner m) (pair u v)) (Some u) (App b m v) w e
     (λ x y p q.
-    let s = small_pair n (carrier_of a) u u some (carrier_at_most n a h) within.0 within.0 in
-    let t = second_law k v y is within.1 q in
+    let c = carrier_of a in
+    let s = beside_is_small n c u u some (carrier_at_most n a h) within.0 within.0 in
+    let t = second_law m v y is within.1 q in
     let same : u ≡ x = cc in
     record {
-      l = inner t.l;
-      v = pair s.v t.v;
-      w = pair s.v t.w;
+      w = pair (small_beside c u u) t.w;
       label_in = t.label_in;
-      value_in = (s.v_in, t.value_in);
+      value_in = (s.value_in, t.value_in);
       label_small = t.label_small;
-      value_small = (s.v_small, t.value_small);
+      value_small = (s.small, t.value_small);
       image = rw t.image refl;
-      order = rw (← same, order_self (carrier_of a) s.v, order_self (carrier_of a) u, t.order) refl;
+      order = rw (← same, order_self c (small_beside c u u), order_self c u, t.order) refl;
     })
-scoped_small n a b some h g first_law second_law (inner k) _ w is within e = absurd within
+scoped_small n a b some h g first_law second_law (inner m) _ w is within e = absurd within
 scoped_small n a b some h g first_law second_law _ v w is within e = absurd is
 
 union_small : (n : ℕ) (a b : Expression) → HasSmallImages n a → HasSmallImages n b → HasSmallImages n (union a b)
 union_small n a b first_law second_law (first_label l) (first u) w is within e =
-    image_part (λ w. SmallImage n (union a b) (Order (carrier_of (union a b)) w (first u))) first (App a l u) w e
+    image_part (HasSmallImage n (union a b) (first_label l) (first u)) first (App a l u) w e
     (λ x p.
     let s = first_law l u x is within p in
     record {
-      l = first_label s.l;
-      v = first s.v;
       w = first s.w;
       label_in = s.label_in;
       value_in = s.value_in;
@@ -256,13 +253,11 @@ union_small n a b first_law second_law (first_label l) (first u) w is within e =
       order = s.order;
     })
 union_small n a b first_law second_law (first_label l) _ w is within e = absurd (cc)
-union_small n a b first_law second_law (second_label k) (second v) w is within e =
-    image_part (λ w. SmallImage n (union a b) (Order (carrier_of (union a b)) w (second v))) second (App b k v) w e
+union_small n a b first_law second_law (second_label m) (second v) w is within e =
+    image_part (HasSmallImage n (union a b) (second_label m) (second v)) second (App b m v) w e
     (λ x p.
-    let t = second_law k v x is within p in
+    let t = second_law m v x is within p in
     record {
-      l = second_label t.l;
-      v = second t.v;
       w = second t.w;
       label_in = t.label_in;
       value_in = t.value_in;
@@ -271,18 +266,16 @@ union_small n a b first_law second_law (second_label k) (second v) w is within e
       image = rw t.image refl;
       order = t.order;
     })
-union_small n a b first_law second_law (second_label k) _ w is within e = absurd (cc)
+union_small n a b first_law second_law (second_label m) _ w is within e = absurd (cc)
 union_small n a b first_law second_law _ v w is within e = absurd is
 
 sum_small : (n : ℕ) (a b : Expression) → 1 ≤ n → ExpressionAtMost n a → ExpressionAtMost n b → HasSmallImages n a → HasSmallImages n b → HasSmallImages n (sum a b)
-sum_small n a b some h g first_law second_law (both_label l k) (first u) w is within e =
-    image_part (λ w. SmallImage n (sum a b) (Order (carrier_of (sum a b)) w (first u))) first (App a l u) w e
+sum_small n a b some h g first_law second_law (both_label l m) (first u) w is within e =
+    image_part (HasSmallImage n (sum a b) (both_label l m) (first u)) first (App a l u) w e
     (λ x p.
     let s = first_law l u x is.0 within p in
-    let t = small_label n b k some g is.1 in
+    let t = label_is_small n b m some g is.1 in
     record {
-      l = both_label s.l t.l;
-      v = first s.v;
       w = first s.w;
       label_in = (s.label_in, t.label_in);
       value_in = s.value_in;
@@ -291,14 +284,12 @@ sum_small n a b some h g first_law second_law (both_label l k) (first u) w is wi
       image = rw s.image refl;
       order = s.order;
     })
-sum_small n a b some h g first_law second_law (both_label l k) (second v) w is within e =
-    image_part (λ w. SmallImage n (sum a b) (Order (carrier_of (sum a b)) w (second v))) second (App b k v) w e
+sum_small n a b some h g first_law second_law (both_label l m) (second v) w is within e =
+    image_part (HasSmallImage n (sum a b) (both_label l m) (second v)) second (App b m v) w e
     (λ x p.
-    let s = small_label n a l some h is.0 in
-    let t = second_law k v x is.1 within p in
+    let s = label_is_small n a l some h is.0 in
+    let t = second_law m v x is.1 within p in
     record {
-      l = both_label s.l t.l;
-      v = second t.v;
       w = second t.w;
       label_in = (s.label_in, t.label_in);
       value_in = t.value_in;
@@ -307,15 +298,13 @@ sum_small n a b some h g first_law second_law (both_label l k) (second v) w is w
       image = rw t.image refl;
       order = t.order;
     })
-sum_small n a b some h g first_law second_law (both_label l k) _ w is within e = absurd within
+sum_small n a b some h g first_law second_law (both_label l m) _ w is within e = absurd within
 sum_small n a b some h g first_law second_law _ v w is within e = absurd is
 
 plus_small : (n : ℕ) (a b : Expression) → carrier_of a ≡ carrier_of b → HasSmallImages n a → HasSmallImages n b → HasSmallImages n (plus a b)
 plus_small n a b same first_law second_law (first_label l) v w is within e =
     let s = first_law l v w is within e in
     record {
-      l = first_label s.l;
-      v = s.v;
       w = s.w;
       label_in = s.label_in;
       value_in = s.value_in;
@@ -324,11 +313,9 @@ plus_small n a b same first_law second_law (first_label l) v w is within e =
       image = s.image;
       order = s.order;
     }
-plus_small n a b same first_law second_law (second_label k) v w is within e =
-    let t = second_law k v w is (rw same at within) e in
+plus_small n a b same first_law second_law (second_label m) v w is within e =
+    let t = second_law m v w is (rw same at within) e in
     record {
-      l = second_label t.l;
-      v = t.v;
       w = t.w;
       label_in = t.label_in;
       value_in = rw same t.value_in;
@@ -340,45 +327,56 @@ plus_small n a b same first_law second_law (second_label k) v w is within e =
 plus_small n a b same first_law second_law _ v w is within e = absurd is
 
 left_small : (n : ℕ) (a : Expression) → 1 ≤ n → ExpressionAtMost n a → HasSmallImages n (left a)
-left_small n a some h (const_label z) v w is within e = image_same (λ w. SmallImage n (left a) (Order (carrier_of (left a)) w v)) z w e
-    (let p = small_pair n (carrier_of a) z v some (carrier_at_most n a h) is within in
-    record { l = const_label p.u; v = p.v; w = p.u; label_in = p.u_in; value_in = p.v_in; label_small = p.u_small; value_small = p.v_small; image = refl; order = p.order })
+left_small n a some h (const_label z) v w is within e =
+    let c = carrier_of a in
+    let p = beside_is_small n c z v some (carrier_at_most n a h) is within in
+    let q = beside_is_small n c v z some (carrier_at_most n a h) within is in
+    image_same (HasSmallImage n (left a) (const_label z) v) z w e
+    (record {
+      w = small_beside c z v;
+      label_in = p.value_in;
+      value_in = q.value_in;
+      label_small = p.small;
+      value_small = q.small;
+      image = refl;
+      order = beside_compares c z v is within;
+    })
 left_small n a some h _ v w is within e = absurd is
 
 right_small : (n : ℕ) (a : Expression) → 1 ≤ n → ExpressionAtMost n a → HasSmallImages n (right a)
-right_small n a some h keep v w is within e = image_same (λ w. SmallImage n (right a) (Order (carrier_of (right a)) w v)) v w e
-    (let p = small_pair n (carrier_of a) v v some (carrier_at_most n a h) within within in
-    record {
-      l = keep;
-      v = p.v;
-      w = p.v;
+right_small n a some h keep v w is within e =
+    let c = carrier_of a in
+    let p = beside_is_small n c v v some (carrier_at_most n a h) within within in
+    image_same (HasSmallImage n (right a) keep v) v w e
+    (record {
+      w = small_beside c v v;
       label_in = tt;
-      value_in = p.v_in;
+      value_in = p.value_in;
       label_small = tt;
-      value_small = p.v_small;
+      value_small = p.small;
       image = refl;
-      order = order_self (carrier_of a) p.v ∙ sym (order_self (carrier_of a) v);
+      order = beside_compares c v v within within;
     })
 right_small n a some h _ v w is within e = absurd is
 
 -- the law of every expression without a number above n
-pub small_image : (n : ℕ) (a : Expression) → 1 ≤ n → ExpressionAtMost n a → MeetsCarriers a → HasSmallImages n a
-small_image n (add low high) some h c = add_small n low high h.1
-small_image n (cap top low high) some h c = cap_small n top low high h.0 h.2
-small_image n (worst top low high) some h c = worst_small n top low high h.0 h.2
-small_image n (width top low high) some h c = width_small n top low high h.0 h.2
-small_image n (pref top) some h c = pref_small n top h
-small_image n (orig top) some h c = orig_small n top h
-small_image n (seq count) some h c = seq_small n count h
-small_image n (simseq count) some h c = simseq_small n count h
-small_image n (tags count) some h c = tags_small n count
-small_image n (guard count) some h c = guard_small n count
-small_image n gate some h c = gate_small n
-small_image n (table t) some h c = table_small n t
-small_image n (lex a b) some h c = lex_small n a b (small_image n a some h.0 c.0) (small_image n b some h.1 c.1)
-small_image n (scoped a b) some h c = scoped_small n a b some h.0 h.1 (small_image n a some h.0 c.0) (small_image n b some h.1 c.1)
-small_image n (union a b) some h c = union_small n a b (small_image n a some h.0 c.0) (small_image n b some h.1 c.1)
-small_image n (sum a b) some h c = sum_small n a b some h.0 h.1 (small_image n a some h.0 c.0) (small_image n b some h.1 c.1)
-small_image n (plus a b) some h c = plus_small n a b c.2 (small_image n a some h.0 c.0) (small_image n b some h.1 c.1)
-small_image n (left a) some h c = left_small n a some h
-small_image n (right a) some h c = right_small n a some h
+pub image_is_small : (n : ℕ) (a : Expression) → 1 ≤ n → ExpressionAtMost n a → MeetsCarriers a → HasSmallImages n a
+image_is_small n (add low high) some h c = add_small n low high h.1
+image_is_small n (cap top low high) some h c = cap_small n top low high h.0 h.2
+image_is_small n (worst top low high) some h c = worst_small n top low high h.0 h.2
+image_is_small n (width top low high) some h c = width_small n top low high h.0 h.2
+image_is_small n (pref top) some h c = pref_small n top h
+image_is_small n (orig top) some h c = orig_small n top h
+image_is_small n (seq count) some h c = seq_small n count h
+image_is_small n (simseq count) some h c = simseq_small n count h
+image_is_small n (tags count) some h c = tags_small n count
+image_is_small n (guard count) some h c = guard_small n count
+image_is_small n gate some h c = gate_small n
+image_is_small n (table t) some h c = table_small n t
+image_is_small n (lex a b) some h c = lex_small n a b (image_is_small n a some h.0 c.0) (image_is_small n b some h.1 c.1)
+image_is_small n (scoped a b) some h c = scoped_small n a b some h.0 h.1 (image_is_small n a some h.0 c.0) (image_is_small n b some h.1 c.1)
+image_is_small n (union a b) some h c = union_small n a b (image_is_small n a some h.0 c.0) (image_is_small n b some h.1 c.1)
+image_is_small n (sum a b) some h c = sum_small n a b some h.0 h.1 (image_is_small n a some h.0 c.0) (image_is_small n b some h.1 c.1)
+image_is_small n (plus a b) some h c = plus_small n a b c.2 (image_is_small n a some h.0 c.0) (image_is_small n b some h.1 c.1)
+image_is_small n (left a) some h c = left_small n a some h
+image_is_small n (right a) some h c = right_small n a some h

@@ -5,6 +5,7 @@ use Rattle.std.specs.Prelude.{List, [], ◌∷◌, codes}
 use Rattle.alg_model.specs.Expressions.{PureAlg, PureLabel, PureValue}
 use Rattle.net_graph.specs.Changes.{PureChange, link, drop}
 use Rattle.net_graph.specs.Nets.{PureNet}
+use Rattle.settled_laws.specs.Pair.{Fits, Improves}
 
 -- nodes p (0) and q (1), an arc from p to q with this label, and the value at both for destination x (0)
 abbrev pub wedge_net : PureAlg → PureLabel → PureValue → PureNet
@@ -19,3 +20,9 @@ wedge_net alg l v = record {
 -- the arc from q to p is added, that from p to q is taken out, and it is added again
 abbrev pub wedge_changes : PureLabel → List PureChange
 wedge_changes l = link 1 0 l ∷ drop 0 1 ∷ link 0 1 l ∷ []
+
+-- the label and the value are those of a text of the algebra's edition, and the label makes the value better
+pub record MakesWedge (alg : PureAlg) (l : PureLabel) (v : PureValue) : Type 0 where
+  pub fits : Fits alg l v
+  pub image : PureValue
+  pub improves : Improves alg l v image

@@ -4,3 +4,5 @@ pub mod Faults
 pub mod NetText
 pub mod LineErrors
 pub mod Views
+pub mod LineTexts
+pub mod LineLaws

@@ -1,5 +1,5 @@
 use Rattle.property_infer.specs.Views.{pure_verdict}
-use Rattle.wedge_nets.specs.Gadgets.{gadget_text}
+use Rattle.wedge_nets.specs.GadgetTexts.{gadget_text}
 use Rattle.std.proofs.Common.{option_map}
 use Rattle.topology_file.specs.Views.{pure_file}
 use Rattle.metacli.specs.Texts.{last_net}

@@ -1,6 +1,7 @@
 use Rattle.std.proofs.Common.{◌≡◌, ℕ, ◌≤◌, ◌-◌, ◌++◌, List, map}
 use Rattle.std.specs.Prelude.{string_bytes}
-use Rattle.net_gen.specs.Generated.{link_line, text_of, links_to}
+use Rattle.topology_file.specs.LineTexts.{text_of}
+use Rattle.net_gen.specs.Generated.{link_line, links_to}
 use Rattle.net_gen.proofs.lines.push_all_links.Given as goal
 
 -- the links of the nodes before this one are written

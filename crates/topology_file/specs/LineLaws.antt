@@ -1,15 +1,18 @@
--- The lines of a text that is put together of lines, and the words of a line that is put together of words.
-use Rattle.std.proofs.Common.{◌≡◌, ℕ, zero, suc, ◌-◌, ◌<◌, ◌≤◌, Bool, true, false, not, ◌&&◌, eqb, leb, List, [], ◌∷◌, ◌++◌, length, get_or, refl, sym, ap, ◌∙◌, arith}
+-- The lines of a text that is put together of lines, and the words of a line that is put together of words. Lemmas, so
+-- that proofs of other crates may cite them.
+use Rattle.std.proofs.Common.{◌≡◌, ℕ, zero, suc, ◌+◌, ◌-◌, ◌/◌, ◌%◌, ◌^◌, ◌<◌, ◌≤◌, Bool, true, false, not, ◌&&◌, eqb, leb, List, [], ◌∷◌, ◌++◌, length, get_or, take, if◌then◌else◌, Ok, refl, sym, ap, ◌∙◌, arith, length-append}
+use Rattle.std.specs.Prelude.{decimal}
 use Rattle.std.specs.List.{list_all, onto_first, AllByRecursion}
 use Rattle.std.proofs.lemmas.Bool.Decides.{nat_tests}
+use Rattle.std.proofs.lemmas.Fmt.{decimal_by_steps_wide}
 use Rattle.std.proofs.lemmas.List.{append-nil}
 use Rattle.meta_base.specs.Bytes.{is_blank, front, behind}
 use Rattle.net_graph.specs.Nets.{is_name_byte}
 use Rattle.topology_file.specs.declared.network.TheConstants.{MAX_LINE_BYTES}
 use Rattle.topology_file.specs.Texts.{is_not, lines_of, without_return, said_of, ends_word, words_of}
-use Rattle.topology_file.specs.Forms.{line_of}
+use Rattle.topology_file.specs.Forms.{line_from, plain_line, colon_line, line_of}
 use Rattle.topology_file.specs.NetText.{PureNetFile, after_form, after_line}
-use Rattle.net_gen.specs.Generated.{ended, text_of}
+use Rattle.topology_file.specs.LineTexts.{ended, text_of}
 
 pub both_true : (a b : Bool) → (a && b) ≡ true → (a ≡ true) × (b ≡ true)
 both_true true b h = (refl, h)
@@ -25,6 +28,12 @@ all_pass p q (c ∷ cs) f h =
     let t = both_true (p c) (list_all p cs) h in
     rw (f c t.0) (all_pass p q cs f t.1)
 
+pub all_joined : (p : ℕ → Bool) (xs ys : List ℕ) → list_all p xs ≡ true → list_all p ys ≡ true → list_all p (xs ++ ys) ≡ true
+all_joined p [] ys h k = k
+all_joined p (x ∷ xs) ys h k =
+    let t = both_true (p x) (list_all p xs) h in
+    rw t.0 (all_joined p xs ys t.1 k)
+
 pub front_through : (p : ℕ → Bool) (w rest : List ℕ) → list_all p w ≡ true → front p (w ++ rest) ≡ w ++ front p rest
 front_through p [] rest h = refl
 front_through p (c ∷ cs) rest h =
@@ -39,7 +48,7 @@ behind_through p (c ∷ cs) rest h =
 
 -- Lines.
 
-first_line : (line rest : List ℕ) → list_all (is_not 10) line ≡ true → lines_of (ended line ++ rest) ≡ line ∷ lines_of rest
+pub first_line : (line rest : List ℕ) → list_all (is_not 10) line ≡ true → lines_of (ended line ++ rest) ≡ line ∷ lines_of rest
 first_line [] rest h = refl
 first_line (c ∷ cs) rest h =
     let t = both_true (is_not 10 c) (list_all (is_not 10) cs) h in
@@ -49,7 +58,7 @@ first_line (c ∷ cs) rest h =
 unfoldable pub is_plain : ℕ → Bool
 is_plain c = is_not 10 c && (is_not 13 c && is_not 35 c)
 
-plain_is : (c : ℕ) → is_plain c ≡ true → (is_not 10 c ≡ true) × (is_not 13 c ≡ true) × (is_not 35 c ≡ true)
+pub plain_is : (c : ℕ) → is_plain c ≡ true → (is_not 10 c ≡ true) × (is_not 13 c ≡ true) × (is_not 35 c ≡ true)
 unfolding is_plain
 plain_is c h =
     let t = both_true (is_not 10 c) (is_not 13 c && is_not 35 c) h in
@@ -88,6 +97,21 @@ line_after f line i =
     let short = i.short in
     let fits : leb (length line) MAX_LINE_BYTES ≡ true = grind (arith, nat_tests) in
     rw (fits, says_itself line i.plain) refl
+
+-- a line that begins with # says nothing, whatever it goes on with
+silent_comment : (rest : List ℕ) → said_of (35 ∷ rest) ≡ []
+silent_comment [] = refl
+silent_comment (c ∷ cs) = by (eqb (get_or (35 ∷ c ∷ cs) (length (35 ∷ c ∷ cs) - 1) 0) 13)
+  where
+    by : (b : Bool) → front (is_not 35) (if b then take (length (35 ∷ c ∷ cs) - 1) (35 ∷ c ∷ cs) else 35 ∷ c ∷ cs) ≡ []
+    by true = let k : length (35 ∷ c ∷ cs) - 1 ≡ suc (length cs) = omega arith in rw k refl
+    by false = refl
+
+-- and adds nothing
+pub comment_after : (f : PureNetFile) (rest : List ℕ) → length (35 ∷ rest) ≤ MAX_LINE_BYTES → after_line f (35 ∷ rest) ≡ Ok f
+comment_after f rest short =
+    let fits : leb (length (35 ∷ rest)) MAX_LINE_BYTES ≡ true = grind (arith, nat_tests) in
+    rw (fits, silent_comment rest) refl
 
 -- Words.
 
@@ -138,3 +162,43 @@ word_behind w rest i = behind_through (is_not 58) w rest (all_pass is_name_byte 
 
 pub word_plain : (w : List ℕ) → IsWord w → list_all is_plain w ≡ true
 word_plain w i = all_pass is_name_byte is_plain w name_plain i.bytes
+
+digit_byte : (d : ℕ) → d < 10 → is_name_byte (48 + d) ≡ true
+digit_byte d h = grind (arith, nat_tests)
+
+abbrev AreNameBytes : ℕ → List ℕ → Type 0
+AreNameBytes n ds = (list_all is_name_byte ds ≡ true) × (0 < length ds)
+
+one_digit : (n : ℕ) → n < 10 → AreNameBytes n ((48 + n) ∷ [])
+one_digit n h = (rw (digit_byte n h) refl, omega arith)
+
+more_digits : (n : ℕ) (ds : List ℕ) → 10 ≤ n → AreNameBytes (n / 10) ds → AreNameBytes n (ds ++ ((48 + n % 10) ∷ []))
+more_digits n ds h p =
+    let digit : is_name_byte (48 + n % 10) ≡ true = digit_byte (n % 10) (omega arith) in
+    let more = length-append ds ((48 + n % 10) ∷ []) in
+    (all_joined is_name_byte ds ((48 + n % 10) ∷ []) p.0 (rw digit refl), omega arith)
+
+-- a printed number is a word
+pub number_word : (n : ℕ) → n < 10 ^ 64 → IsWord (decimal n)
+number_word n h =
+    let w = decimal_by_steps_wide AreNameBytes one_digit more_digits n h in
+    record { bytes = w.0; some = w.1 }
+
+-- Forms of lines.
+
+-- a line without a colon
+pub plain_form : (said : List ℕ) → list_all (is_not 58) said ≡ true → line_of said ≡ plain_line (words_of said)
+plain_form said h =
+    let f : front (is_not 58) said ≡ said = ap (front (is_not 58)) (sym (append-nil said)) ∙ front_through (is_not 58) said [] h ∙ append-nil said in
+    let b : behind (is_not 58) said ≡ [] = ap (behind (is_not 58)) (sym (append-nil said)) ∙ behind_through (is_not 58) said [] h in
+    ap (λ xs. line_from (words_of xs) (behind (is_not 58) said)) f ∙ ap (line_from (words_of said)) b
+
+-- a line with one
+pub colon_form : (before literal : List ℕ) → list_all (is_not 58) before ≡ true → line_of (before ++ 58 ∷ literal) ≡ colon_line (words_of before) literal
+colon_form before literal h =
+    let f : front (is_not 58) (before ++ 58 ∷ literal) ≡ before = front_through (is_not 58) before (58 ∷ literal) h ∙ append-nil before in
+    let b : behind (is_not 58) (before ++ 58 ∷ literal) ≡ 58 ∷ literal = behind_through (is_not 58) before (58 ∷ literal) h in
+    ap (λ xs. line_from (words_of xs) (behind (is_not 58) (before ++ 58 ∷ literal))) f ∙ ap (line_from (words_of before)) b
+
+pub colonless : (w : List ℕ) → IsWord w → list_all (is_not 58) w ≡ true
+colonless w i = all_pass is_name_byte (is_not 58) w no_colon i.bytes

@@ -1,0 +1,2 @@
+pub mod Gadgets
+pub mod GadgetTexts
