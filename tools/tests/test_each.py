@@ -6,7 +6,7 @@ import unittest
 from support import TOP, tool
 
 # What is no script of its own.
-OTHERS = ('raml.vim', 'tests')
+OTHERS = ('raml.vim', 'tests', 'hints', 'completions')
 
 
 class Each(unittest.TestCase):
