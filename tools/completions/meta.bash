@@ -13,6 +13,7 @@ _meta_usage() {
 
 # Files with that ending and folders; any files where there is none.
 _meta_files() {
+    local IFS=$'\n'
     COMPREPLY=($(compgen -f -X "!*.$1" -- "$word") $(compgen -d -S / -- "$word"))
     [ ${#COMPREPLY[@]} -gt 0 ] || COMPREPLY=($(compgen -f -- "$word"))
     compopt -o filenames -o nospace 2>/dev/null
@@ -21,10 +22,11 @@ _meta_files() {
 
 # What may follow the words of a command before the one that is completed.
 _meta_after() {
-    local program=$1 usage arguments=0 is_value=
+    local program=$1 usage arguments=0 is_value= help=
     shift
     usage=$(_meta_usage "$program" "$1")
     shift
+    [ $# -gt 0 ] || help=--help
     for it; do
         case $is_value$it in
             yes*) is_value= ;;
@@ -35,7 +37,7 @@ _meta_after() {
     if [ "$is_value" ]; then
         COMPREPLY=()
     elif [[ $word == -* ]]; then
-        COMPREPLY=($(compgen -W "$(grep -o -e '--[a-z]*' <<<"$usage") --help" -- "$word"))
+        COMPREPLY=($(compgen -W "$(grep -o -e '--[a-z]*' <<<"$usage") $help" -- "$word"))
     else
         case $arguments:$usage in
             0:*' FILE'*) _meta_files raml ;;
@@ -53,7 +55,7 @@ _meta() {
         words=("${words[@]:1}")
     done
     if [ ${#words[@]} -eq 0 ]; then
-        COMPREPLY=($(compgen -W "$(_meta_lines "$program" | awk '$1 != "COMMAND" { print $1 }')" -- "$word"))
+        COMPREPLY=($(compgen -W "$(_meta_lines "$program" | awk '{ print $1 }')" -- "$word"))
     else
         _meta_after "$program" "${words[@]}"
     fi

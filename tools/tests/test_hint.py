@@ -46,7 +46,7 @@ EXPRESSIONS = [
     ('main table { a < b; C: a -> b; C: b -> b };', '1:32', 'the row `C` is there'),
     ('main table { a < none; C: a -> a };', '1:18', 'no value may be called `none`'),
     ('main table { a < b; none: a -> a };', '1:21', 'no row may be called `none`'),
-    ('main table { v0' + ''.join(f' < v{k}' for k in range(1, 17)) + '; C: none };', '1:93', 'at most 16 values'),
+    ('main table { v0' + ''.join(f' < v{k}' for k in range(1, 17)) + '; C: none };', '1:100', 'at most 16 values'),
     ('main lex(gate,gate,gate);', '1:19', 'lex(A,lex(B,C))'),
     ('main lex(\n  gate,\n  gate,\n  gate\n);', '3:7', 'lex(A,lex(B,C))'),
     ('main lex(gate);', '1:14', 'has two parts: lex(A,B)'),
