@@ -105,11 +105,12 @@ def bracket_advice(token, operator, inside):
         return f'`{operator}` has two parts: {form}'
     if operator in SINGLES and token == ',':
         return f'`{operator}` has one part: {form}'
-    if '..' in form and token == ')' and inside and inside[-1][0].isdigit():
-        number = texts_of(inside)[-1]
+    number = texts_of(inside)[-1] if inside else ''
+    if '..' in form and token == ')' and number.isdigit() and (';' in form) == (b';' in [text for text, _ in inside]):
         return f'a range has both ends, also where they are one number: {number}..{number}'
     if form.endswith(('(TOP)', '(N)')):
-        return f'`{operator}` has one number: {form}'
+        is_more = token in ('..', ',') or not number.isdigit()
+        return f'`{operator}` has one number: {form}' if is_more else f'`{token}` stands where `)` is due: {form}'
     return f'`{operator}` is written {form}' if '..' in form else ''
 
 
@@ -154,6 +155,8 @@ def unexpected_advice(data, at, before):
         return at, 'the first word of a file is `raml`, `let` or `main`'
     last, start = before[-1]
     is_first = not data[data.rfind(b'\n', 0, at) + 1:at].strip()
+    if last == b';' and not open_marks(before):
+        return at, f'`{token}` opens no statement: that is `let NAME = EXPRESSION;` or `main EXPRESSION;`'
     advice = follow_advice(token, before) if token not in EXPR_WORDS else ''
     if advice:
         return at, advice
