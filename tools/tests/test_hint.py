@@ -168,12 +168,12 @@ WORDS = [
 
 @needs_program
 class Hints(Folder):
-    """tools/hint behind what the program itself refuses."""
+    """tools/hint after what the program itself refuses."""
 
     hints = loaded('hint')
 
     def hint(self, *words):
-        """The line that the program prints first, and the hint behind it."""
+        """The line that the program prints first, and the hint after it."""
         os.chdir(TOP)
         status, out, _ = run([built, *words])
         line, said = out.split('\n')[0], io.StringIO()
