@@ -9,7 +9,7 @@ KINDS = {'-1': 'provider', '0': 'peer'}
 
 def read(source, _):
     graph = Graph()
-    for number, line in enumerate(source.text.splitlines(), 1):
+    for number, line in enumerate(source.text.split('\n'), 1):
         line = line.split('#')[0].strip()
         if not line:
             continue

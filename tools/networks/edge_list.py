@@ -2,6 +2,7 @@
 
 import ast
 import re
+import warnings
 
 from .graph import BadInput, Edge, Graph, as_text
 
@@ -11,7 +12,9 @@ NUMBER = r'[+-]?(\d+\.?\d*|\.\d+)([eE][+-]?\d+)?'
 def attributes_of(rest):
     """The attributes behind the ends: {'length': 3}, or numbers, of which the first is also called weight."""
     if rest.startswith('{'):
-        found = ast.literal_eval(rest)
+        with warnings.catch_warnings():
+            warnings.simplefilter('ignore')
+            found = ast.literal_eval(rest)
         if not isinstance(found, dict):
             raise ValueError('the braces hold no attributes')
         return {str(key): as_text(value) for key, value in found.items() if value is not None}
@@ -25,7 +28,7 @@ def attributes_of(rest):
 
 def read(source, options):
     graph = Graph()
-    for number, line in enumerate(source.text.splitlines(), 1):
+    for number, line in enumerate(source.text.split('\n'), 1):
         line = line.split('#')[0].strip()
         words = line.split(None, 2)
         if not words:

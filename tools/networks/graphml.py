@@ -108,4 +108,6 @@ def read(source, _):
         parser.Parse(source.raw, True)
     except expat.ExpatError as error:
         raise BadInput(f'no XML: {expat.ErrorString(error.code)}', error.lineno) from None
+    except (LookupError, ValueError):
+        raise BadInput('it is in an encoding that is not read; UTF-8 is') from None
     return reader.filled()

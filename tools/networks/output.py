@@ -9,6 +9,8 @@ from .graph import BadInput, Edge, cleaned, listed, told_apart, wanted_names
 
 LINE_BYTES = 4096
 FILE_BYTES = 4194304
+# What no label and no value of a network file has; # would open a comment.
+NO_LITERAL = r'[^\t -~]|#'
 
 
 class Limits(NamedTuple):
@@ -38,8 +40,8 @@ class Template:
 
     def label(self, edge, missing):
         found = ''.join(self.part(it, edge, missing) for it in self.parts)
-        if not found.strip() or re.search(r'[#\x00-\x1f\x7f]', found):
-            raise BadInput(f'no label of a network file: {found!r}', edge.place)
+        if not found.strip() or re.search(NO_LITERAL, found):
+            raise BadInput(f'a label is of printable ASCII without #, and not {found!r}', edge.place)
         return found
 
     @staticmethod
@@ -164,8 +166,8 @@ def arc_lines(arcs):
 
 def origin_of(text, names):
     """An origin as (destination, node, value)."""
-    found = re.fullmatch(r'([^@]*)@([^=]+)=([^#\x00-\x1f\x7f]+)', text)
-    if not found:
+    found = re.fullmatch(r'([^@]*)@([^=]+)=(.+)', text)
+    if not found or re.search(NO_LITERAL, found[3]):
         raise BadInput(f'--origin is DEST@NODE=VALUE, and not {text}')
     if not re.fullmatch(r'[A-Za-z0-9_.-]{1,32}', found[1]):
         raise BadInput(f'--origin: a destination is named by 1 to 32 letters, digits, _, - and ., as '

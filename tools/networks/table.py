@@ -1,6 +1,7 @@
 """Reads tables with a header (CSV): a line for each edge, of which two columns are its ends."""
 
 import csv
+import io
 
 from .graph import BadInput, Edge, Graph, as_text
 
@@ -36,9 +37,8 @@ def ends_of(header, options):
 
 def rows_of(text):
     """The rows that aren't empty, each with its line."""
-    lines = text.splitlines(keepends=True)
-    first = next((it for it in lines if it.strip()), '')
-    rows = csv.reader(lines, delimiter=mark_of(first), strict=True, skipinitialspace=True)
+    first = next((it for it in text.split('\n') if it.strip()), '')
+    rows = csv.reader(io.StringIO(text, newline=''), delimiter=mark_of(first), strict=True, skipinitialspace=True)
     try:
         for row in rows:
             if any(it.strip() for it in row):
