@@ -60,11 +60,12 @@ def needed(pairs, name, what, place):
 
 
 def read(source, _):
-    graphs = [(pairs, line) for key, pairs, line in lists_of(source.text) if key == 'graph' and isinstance(pairs, list)]
-    if len(graphs) != 1:
-        raise BadInput('there is no graph in it' if not graphs else 'a second graph opens here; a network is made of one',
-                       graphs[1][1] if graphs else None)
-    pairs, graph = graphs[0][0], Graph()
+    found = [(pairs, line) for key, pairs, line in lists_of(source.text) if key == 'graph' and isinstance(pairs, list)]
+    if not found:
+        raise BadInput('there is no graph in it')
+    if len(found) > 1:
+        raise BadInput('a second graph opens here; a network is made of one', found[1][1])
+    pairs, graph = found[0][0], Graph()
     is_directed = data_of(pairs, []).get('directed') == '1'
     for key, inner, line in pairs:
         if key == 'node' and isinstance(inner, list):

@@ -105,9 +105,9 @@ def read(source, _):
             networks[area, id_of(lsa, area)] = attached
     if not graph.nodes:
         raise BadInput(f'no LSA in it lists the links of a router; `{COMMAND}` prints them')
-    unlisted = [it for it in links if it.kind == 'transit' and it.router not in networks.get((it.area, it.to), {it.router})]
     graph.notes += [(it.place, f'the link to the network {it.to} is left out: its LSA does not list {it.router}')
-                    for it in unlisted]
+                    for it in links
+                    if it.kind == 'transit' and it.router not in networks.get((it.area, it.to), {it.router})]
     pairs = list(pairs_of(links, networks))
     both_ways = {(link.router, other, link.area, link.kind) for link, other in pairs}
     for link, other in pairs:

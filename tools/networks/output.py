@@ -94,8 +94,9 @@ class Labels:
     """The labels of an edge's arcs: from its tail to its head, and back, where it makes an arc back."""
 
     def __init__(self, options):
-        made = {it: Template(getattr(options, it), '--' + it.replace('_', '-'))
-                for it in ('label', 'reverse_label', 'customer', 'peer', 'provider') if getattr(options, it) is not None}
+        given = [it for it in ('label', 'reverse_label', 'customer', 'peer', 'provider')
+                 if getattr(options, it) is not None]
+        made = {it: Template(getattr(options, it), '--' + it.replace('_', '-')) for it in given}
         self.missing = options.missing
         self.there, self.back = made.get('label'), made.get('reverse_label')
         self.of_kind = {'provider': (made.get('customer'), made.get('provider')), 'peer': (made.get('peer'),) * 2}

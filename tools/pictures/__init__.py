@@ -1,1 +1,1 @@
-"""What tools/picture draws: the reading of networks and rows, the Graphviz text, and the layout and the text of an SVG."""
+"""The parts of tools/picture: it reads networks and rows, and writes Graphviz text, or SVG with a layout of its own."""

@@ -1,8 +1,8 @@
 """Places the nodes of a picture: neighbours near each other, no node on another or on a line between others.
 
 Distances on the plane follow those in the graph: stress majorization (Gansner, Koren and North 2004), from several
-starts, of which the one with the fewest crossings is kept. Then nodes are pushed off each other and off lines. Nothing is
-drawn by lot, so a network has the same picture each time. Points of the plane are complex numbers.
+starts, of which the one with the fewest crossings is kept. Then nodes are pushed off each other and off lines. Nothing
+depends on chance, so a network has the same picture each time. Points of the plane are complex numbers.
 """
 
 import cmath
@@ -13,6 +13,8 @@ STARTS, ROUNDS = 10, 120
 # With more lines than this, crossings aren't counted: that would take minutes.
 MANY_LINES = 300
 GAP = 16
+# A line of this length has room for its label, also where nodes with many neighbours want longer ones.
+LABEL_LINE = 150
 
 
 def distances(count, lengths):
@@ -31,7 +33,7 @@ def distances(count, lengths):
 
 
 def components(far):
-    """The nodes of each part that hangs together, in order."""
+    """The nodes of each connected part, in order."""
     found = []
     for a, row in enumerate(far):
         if not any(a in part for part in found):
@@ -56,10 +58,20 @@ def starts_of(count, far):
         yield [complex(*it) for it in zip(places[::2], places[1::2])]
 
 
-def relaxed(points, far):
+def weights_of(far, lines):
+    """How much the distance of each two nodes counts: near ones more than far ones, and lines of nodes with many
+    neighbours most, so that these stand around and not on one side."""
+    weights = [[length ** -2 if length else 0.0 for length in row] for row in far]
+    ends = [end for line in lines for end in line]
+    for a, b in lines:
+        factor = 1 + max(ends.count(a), ends.count(b)) / 4
+        weights[a][b], weights[b][a] = weights[a][b] * factor, weights[b][a] * factor
+    return weights
+
+
+def relaxed(points, far, weights):
     """The points moved until their distances are near those of the graph."""
     count = len(points)
-    weights = [[length ** -2 if length else 0.0 for length in row] for row in far]
     totals = [sum(row) for row in weights]
     for _ in range(ROUNDS):
         moved = 0.0
@@ -96,6 +108,46 @@ def faults(points, far, lines, sizes):
     return crossings + 2 * hits, stress
 
 
+def tangles(points, sizes, lines, node):
+    """How many crossings and nodes on lines a node has a part in."""
+    found = 0
+    for a, b in lines:
+        found += 2 * (abs(push_off(points, sizes, node, (a, b))) > 6)
+        if node in (a, b):
+            found += 2 * sum(abs(push_off(points, sizes, other, (a, b))) > 6 for other in range(len(points)))
+            found += sum(is_crossing(points[a], points[b], points[c], points[d])
+                         for c, d in lines if not {a, b} & {c, d})
+    return found
+
+
+def untangled(points, sizes, lines):
+    """The points, of which each that has a part in a crossing is moved to where there are fewer, round its neighbours'
+    middle."""
+    # Among many lines a place with fewer crossings is no better to look at.
+    for node in list(range(len(points))) * 2 if len(lines) <= 2 * len(points) else []:
+        near = [points[b if a == node else a] for a, b in lines if node in (a, b)]
+        best = tangles(points, sizes, lines, node)
+        if not near or not best:
+            continue
+        middle, place = sum(near) / len(near), points[node]
+        reach = sum(abs(it - place) for it in near) / len(near)
+        rings = [cmath.rect(reach * ring, 2 * math.pi * turn / 12)
+                 for ring in ((0.4, 0.8, 1.3) if len(near) > 1 else (0.7, 1.0, 1.3)) for turn in range(12)]
+        for step in (0j, *rings):
+            points[node] = middle + step
+            found = tangles(points, sizes, lines, node)
+            best, place = (found, points[node]) if found < best else (best, place)
+        points[node] = place
+    return points
+
+
+def stretched(points, lengths):
+    """The points moved away from each other alike, until no line is much too short for its label."""
+    short = [length / (abs(points[a] - points[b]) or 1) for (a, b), length in lengths.items()]
+    factor = max(1.0, min(2.0, max(short) * 0.9))
+    return [it * factor for it in points]
+
+
 def push_off(points, sizes, node, line):
     """How a node has to move to be off a line between two others; 0 where it is."""
     a, b = points[line[0]], points[line[1]]
@@ -122,9 +174,15 @@ def push_apart(points, sizes, a, b, gap=GAP):
     return complex(0, math.copysign(down, step.imag))
 
 
-def spread(points, sizes, lines):
-    """The points pushed off each other and off lines."""
-    watched = lines if len(lines) <= MANY_LINES else []
+def push_along(points, line, length):
+    """How the end of a short line has to move from its start, so that a label has room."""
+    step = points[line[1]] - points[line[0]]
+    return step / (abs(step) or 1) * max(0.0, 0.75 * min(length, LABEL_LINE) - abs(step))
+
+
+def spread(points, sizes, lengths):
+    """The points pushed off each other, off lines, and from the other ends of short lines."""
+    watched = lengths if len(lengths) <= MANY_LINES else {}
     for _ in range(200):
         moved = 0.0
         for a, b in itertools.combinations(range(len(points)), 2):
@@ -132,7 +190,11 @@ def spread(points, sizes, lines):
             points[a] -= push / 2
             points[b] += push / 2
             moved = max(moved, abs(push))
-        for line in watched:
+        for line, length in watched.items():
+            push = push_along(points, line, length)
+            points[line[0]] -= push / 2
+            points[line[1]] += push / 2
+            moved = max(moved, abs(push))
             for node in range(len(points)):
                 push = push_off(points, sizes, node, line)
                 points[node] += push / 3
@@ -167,19 +229,20 @@ def turned(points):
     return [complex(-it.real if right else it.real, -it.imag if below else it.imag) for it in points]
 
 
-def part_layout(part, far, lines, sizes):
-    """The points of a part that hangs together, by its nodes."""
+def part_layout(part, far, lengths, sizes):
+    """The points of a connected part, by its nodes."""
     inner = {node: at for at, node in enumerate(part)}
-    lines = [(inner[a], inner[b]) for a, b in lines if a in inner]
+    lengths = {(inner[a], inner[b]): length for (a, b), length in lengths.items() if a in inner}
     far, sizes = [[far[a][b] for b in part] for a in part], [sizes[a] for a in part]
     if len(part) == 1:
         return {part[0]: 0j}
-    found = []
+    found, weights = [], weights_of(far, list(lengths))
     for start in starts_of(len(part), far):
-        points = turned(relaxed(start, far))
-        found.append((faults(points, far, lines, sizes), points))
+        points = turned(relaxed(start, far, weights))
+        found.append((faults(points, far, list(lengths), sizes), points))
     best = min(found, key=lambda it: (it[0][0], round(it[0][1], 6)))[1]
-    return dict(zip(part, spread(best, sizes, lines)))
+    best = stretched(untangled(best, [it / 2 for it in sizes], list(lengths)), lengths)
+    return dict(zip(part, spread(best, sizes, lengths)))
 
 
 def box_of(points, sizes):
@@ -193,8 +256,7 @@ def box_of(points, sizes):
 def placed(sizes, lengths):
     """A point for each node. Sizes are width and height as a complex number, lengths those wanted of the lines."""
     far, found = distances(len(sizes), lengths), {}
-    lines = list(lengths)
-    parts = [part_layout(it, far, lines, sizes) for it in components(far)]
+    parts = [part_layout(it, far, lengths, sizes) for it in components(far)]
     boxes = [box_of(list(it.values()), [sizes[a] for a in it]) for it in parts]
     area = sum(((b - a).real + 40) * ((b - a).imag + 40) for a, b in boxes)
     width = max([math.sqrt(area) * 1.3] + [(b - a).real for a, b in boxes])

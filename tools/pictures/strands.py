@@ -43,8 +43,10 @@ def strands_of(network, rows):
 
 
 def node_texts(node, network, rows):
-    """What stands below the name of a node, as (text, destination), and whether it is an origin."""
+    """What stands below the name of a node, as (text, destination), and whether it is an origin. A route that an origin
+    has of itself says nothing new."""
     origins = [(f'{dest} = {value}', dest) for dest, at, value in network.origins if at == node]
     several = len({dest for dest, *_ in rows}) > 1
-    values = [(f'{dest}: {value}' if several else value, dest) for dest, at, value, _ in rows if at == node]
-    return (values if not origins or several else []) + origins, bool(origins)
+    values = [(f'{dest}: {value}' if several else value, dest) for dest, at, value, path in rows
+              if at == node and path != [node]]
+    return values + origins, bool(origins)

@@ -11,6 +11,8 @@ MOST_NODES = 60
 SIZE, LINE, SMALL = 12, 15, 11
 MARGIN, HEAD_LENGTH, HEAD_WIDTH = 16, 9, 4
 LONGEST = 36
+# With more lines than this, labels stand in the middle: to look for places would take minutes.
+MANY_CURVES = 300
 GREY = '#707070'
 # Where on a line its label may stand, the best place first.
 PLACES = (0.5, 0.42, 0.58, 0.35, 0.65, 0.28, 0.72)
@@ -181,19 +183,23 @@ def grouped(strands):
 
 
 def curves_of(groups, nodes):
-    """A curve for each strand: alone it is straight; several stand side by side, those of one direction together."""
+    """A curve for each strand: alone it is straight; several stand side by side, those with labels outermost."""
     for (first, _), strands in groups.items():
-        strands = sorted(strands, key=lambda it: it.tail != first)
+        strands = [it for it in strands if it.tail == first] + [it for it in strands[::-1] if it.tail != first]
         for number, it in enumerate(strands):
-            bend = ((len(strands) - 1) / 2 - number) * 18
+            bend = ((len(strands) - 1) / 2 - number) * min(18, 60 / len(strands))
             yield Curve(it, nodes, -bend if it.tail == first else bend)
 
 
 def lengths_of(groups, nodes, places):
-    """How long the line between each two nodes is to be, so that its label has room."""
+    """How long the line between each two nodes is to be, so that its label and the neighbours of its ends have room."""
+    ends_of_all = [it for ends in groups for it in ends]
+    degrees = {it: ends_of_all.count(it) for it in nodes}
+
     def length(ends, strands):
         wide = max(width_of(shown(it.label), SMALL) for it in strands)
-        return sum(nodes[it].size.real / 2 for it in ends) * 0.8 + max(wide, 20) + 2 * HEAD_LENGTH + 30
+        needed = sum(nodes[it].size.real / 2 for it in ends) * 0.8 + max(wide, 20) + 2 * HEAD_LENGTH + 30
+        return max(needed, 10 * max(degrees[it] for it in ends))
     return {tuple(places[it] for it in ends): length(ends, strands) for ends, strands in groups.items()}
 
 
@@ -221,7 +227,8 @@ def drawn(network, rows, title):
     for curve in curves:
         if curve.strand.label:
             label = Label(curve)
-            label.settle(nodes.values(), labels, curves if len(curves) <= 300 else [])
+            if len(curves) <= MANY_CURVES:
+                label.settle(nodes.values(), labels, curves)
             labels.append(label)
     boxes = [*nodes.values(), *labels]
     low, high = box_of([it.at for it in boxes], [it.size for it in boxes])

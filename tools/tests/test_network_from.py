@@ -205,8 +205,9 @@ class Refusals(Case):
     def test_texts_that_are_no_graph(self):
         for text, place in (('', ': it is empty'), ('\n \n', ': it is empty'), ('# a\n', 'no edge'), ('a\n', ':1: '),
                             ('a b\nNew York Boston {}\n', ':2: '), ('a b {\n', ':1: '), ('a b {3}\n', ':1: '),
-                            ('One two three four.\n', ':1: '), ('<a/>', 'no graph'), ('<a>', ':1: '), ('{"a": 1}', 'JSON'),
-                            ('{"nodes": [}', ':1: '), ('graph [ node [ id 1 ]', ':1: '), ('1|2|3\n', ':1: '),
+                            ('One two three four.\n', ':1: '), ('<a/>', 'no graph'), ('<a>', ':1: '),
+                            ('{"a": 1}', 'JSON'), ('{"nodes": [}', ':1: '), ('graph [ node [ id 1 ]', ':1: '),
+                            ('1|2|3\n', ':1: '),
                             ('graph [\n]\n', 'no node'), (b'a \xff\n', ':1: '), ('[1, 2]', 'JSON'),
                             ('a,b,3\n', '--ends'), ('source,target\na,b,c\n', ':2: '), ('source,target\na,"b\n', ': ')):
             self.refused(self.file('f', text), '--label', '1', says=[place])
@@ -215,7 +216,8 @@ class Refusals(Case):
         self.refused(self.folder, '--label', '1', says=['directory'])
 
     def test_dangling_edges_are_named_with_their_place(self):
-        for text, place in (('<graphml><graph>\n<node id="a"/>\n<edge source="a" target="z"/></graph></graphml>', ':3: '),
+        graphml = '<graphml><graph>\n<node id="a"/>\n<edge source="a" target="z"/></graph></graphml>'
+        for text, place in ((graphml, ':3: '),
                             ('graph [\nnode [ id 7 ]\nedge [ source 7\ntarget 8 ]\n]', ':3: '),
                             ('{"nodes": [{"id": 1}],\n"edges": [{"source": 1, "target": 2}]}', ':edges[0]: ')):
             self.refused(self.file('f', text), '--label', '1', says=[place, 'there is no node'])
@@ -264,7 +266,8 @@ class Routes(Case):
 
     def test_the_program_takes_each_network(self):
         for policy, words in (('customer_provider', (data('as_rel_1.txt'), *AS_LABELS, '--origin', 'x@64521=(c,0)')),
-                              ('free_links', (data('frr_router.json'), '--label', '{cost}', '--origin', 'x@10.0.0.3=0'))):
+                              ('free_links', (data('frr_router.json'), '--label', '{cost}',
+                                              '--origin', 'x@10.0.0.3=0'))):
             name = self.file('n.net', tool('network_from', *words)[1])
             status, out, err = run([built, 'run', os.path.join(TOP, f'examples/{policy}.raml'), name])
             self.assertEqual((status, err), (0, ''), policy)
