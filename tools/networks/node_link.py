@@ -1,18 +1,41 @@
 """Reads node-link JSON, as networkx's node_link_data makes it: its edges stand under `links` or, later, `edges`."""
 
+import bisect
 import json
+import re
 
-from .graph import BadInput, Edge, Graph, as_text
+from .graph import BadInput, Edge, Graph, as_text, listed
 
 
 def loaded(source):
     """The JSON of a text."""
+    def without_repeats(pairs):
+        found = dict(pairs)
+        if len(found) < len(pairs):
+            raise BadInput(f'no JSON: an object has a key twice, of {listed(key for key, _ in pairs)}')
+        return found
     try:
-        return json.loads(source.text)
+        return json.loads(source.text, object_pairs_hook=without_repeats)
     except json.JSONDecodeError as error:
         raise BadInput(f'no JSON: {error.msg}', error.lineno) from None
     except (ValueError, RecursionError):
         raise BadInput('no JSON: it nests too deep, or has a number of thousands of digits') from None
+
+
+def lines_of(text, name):
+    """The line on which each entry of a list of the outermost object opens; the text is JSON of such an object."""
+    read, skip = json.JSONDecoder().raw_decode, re.compile(r'[\s,:]*')
+    ends = [it.start() for it in re.finditer('\n', text)]
+    key, at = None, skip.match(text, text.index('{') + 1).end()
+    while key != name or text[at] != '[':
+        # Keys and values of the object take turns.
+        found, after = read(text, at)
+        key, at = (found if key is None else None), skip.match(text, after).end()
+    at, lines = skip.match(text, at + 1).end(), []
+    while text[at] != ']':
+        lines.append(bisect.bisect_left(ends, at) + 1)
+        at = skip.match(text, read(text, at)[1]).end()
+    return lines
 
 
 def key_of(value, place):
@@ -27,10 +50,12 @@ def data_of(entry, but):
     return {name: as_text(value) for name, value in entry.items() if name not in but and value is not None}
 
 
-def entry_of(entry, place, keys):
-    if not isinstance(entry, dict) or not all(it in entry for it in keys):
-        raise BadInput(f'an object with {" and ".join(keys)} is needed here', place)
-    return entry
+def entries_of(found, name, keys, text):
+    """The entries of a list, objects with these keys, each with its line."""
+    for at, (entry, line) in enumerate(zip(found[name], lines_of(text, name))):
+        if not isinstance(entry, dict) or not all(it in entry for it in keys):
+            raise BadInput(f'{name}[{at}] is no object with {" and ".join(keys)}', line)
+        yield entry, line
 
 
 def read(source, _):
@@ -38,13 +63,10 @@ def read(source, _):
     name = next((it for it in ('links', 'edges') if isinstance(found, dict) and isinstance(found.get(it), list)), None)
     if name is None or not isinstance(found.get('nodes'), list):
         raise BadInput('node-link JSON is an object with a list nodes and a list links or edges')
-    for at, node in enumerate(found['nodes']):
-        place = f'nodes[{at}]'
-        graph.add_node(key_of(entry_of(node, place, ['id'])['id'], place), data_of(node, ['id']), place)
+    for node, line in entries_of(found, 'nodes', ['id'], source.text):
+        graph.add_node(key_of(node['id'], line), data_of(node, ['id']), line)
     is_directed = found.get('directed') is True
-    for at, edge in enumerate(found[name]):
-        place = f'{name}[{at}]'
-        entry_of(edge, place, ['source', 'target'])
-        ends = [key_of(edge[it], place) for it in ('source', 'target')]
-        graph.add_edge(Edge(*ends, data_of(edge, ['source', 'target']), place, is_directed))
+    for edge, line in entries_of(found, name, ['source', 'target'], source.text):
+        ends = [key_of(edge[it], line) for it in ('source', 'target')]
+        graph.add_edge(Edge(*ends, data_of(edge, ['source', 'target']), line, is_directed))
     return graph

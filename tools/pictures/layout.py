@@ -241,8 +241,8 @@ def part_layout(part, far, lengths, sizes):
         points = turned(relaxed(start, far, weights))
         found.append((faults(points, far, list(lengths), sizes), points))
     best = min(found, key=lambda it: (it[0][0], round(it[0][1], 6)))[1]
-    best = stretched(untangled(best, [it / 2 for it in sizes], list(lengths)), lengths)
-    return dict(zip(part, spread(best, sizes, lengths)))
+    best = turned(untangled(best, [it / 2 for it in sizes], list(lengths)))
+    return dict(zip(part, spread(stretched(best, lengths), sizes, lengths)))
 
 
 def box_of(points, sizes):

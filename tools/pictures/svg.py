@@ -140,7 +140,7 @@ class Label:
         low = self.at - self.size / 2
         if not self.curve.bend:
             yield (f'<rect x="{low.real:.1f}" y="{low.imag:.1f}" width="{self.size.real:.1f}" '
-                   f'height="{self.size.imag:.1f}" fill="#ffffff" fill-opacity="0.85"/>')
+                   f'height="{self.size.imag:.1f}" fill="#ffffff"/>')
         yield text_at(self.at + 4j, self.text, SMALL, self.curve.strand.colour or '#444444')
 
 

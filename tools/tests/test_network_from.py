@@ -219,7 +219,7 @@ class Refusals(Case):
         graphml = '<graphml><graph>\n<node id="a"/>\n<edge source="a" target="z"/></graph></graphml>'
         for text, place in ((graphml, ':3: '),
                             ('graph [\nnode [ id 7 ]\nedge [ source 7\ntarget 8 ]\n]', ':3: '),
-                            ('{"nodes": [{"id": 1}],\n"edges": [{"source": 1, "target": 2}]}', ':edges[0]: ')):
+                            ('{"nodes": [{"id": 1}],\n"edges": [{"source": 1, "target": 2}]}', ':2: ')):
             self.refused(self.file('f', text), '--label', '1', says=[place, 'there is no node'])
 
     def test_limits_of_the_profiles(self):
