@@ -8,6 +8,7 @@ KINDS = {'-1': 'provider', '0': 'peer'}
 
 
 def read(source, _):
+    """The graph of AS relationships."""
     graph = Graph()
     for number, line in enumerate(source.text.split('\n'), 1):
         line = line.split('#')[0].strip()

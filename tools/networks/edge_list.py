@@ -10,7 +10,7 @@ NUMBER = r'[+-]?(\d+\.?\d*|\.\d+)([eE][+-]?\d+)?'
 
 
 def attributes_of(rest):
-    """The attributes behind the ends: {'length': 3}, or numbers, of which the first is also called weight."""
+    """The attributes after the ends: {'length': 3}, or numbers, of which the first is also called weight."""
     if rest.startswith('{'):
         with warnings.catch_warnings():
             warnings.simplefilter('ignore')
@@ -27,6 +27,7 @@ def attributes_of(rest):
 
 
 def read(source, options):
+    """The graph of an edge list."""
     graph = Graph()
     for number, line in enumerate(source.text.split('\n'), 1):
         line = line.split('#')[0].strip()

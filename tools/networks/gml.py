@@ -60,6 +60,7 @@ def needed(pairs, name, what, place):
 
 
 def read(source, _):
+    """The graph of a GML file."""
     found = [(pairs, line) for key, pairs, line in lists_of(source.text) if key == 'graph' and isinstance(pairs, list)]
     if not found:
         raise BadInput('there is no graph in it')

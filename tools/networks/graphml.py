@@ -100,6 +100,7 @@ def refuse_entity(*_):
 
 
 def read(source, _):
+    """The graph of a GraphML file."""
     parser = expat.ParserCreate(namespace_separator=' ')
     reader = Reader(parser)
     parser.StartElementHandler, parser.EndElementHandler = reader.start, reader.end

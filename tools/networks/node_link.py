@@ -59,6 +59,7 @@ def entries_of(found, name, keys, text):
 
 
 def read(source, _):
+    """The graph of node-link JSON."""
     found, graph = loaded(source), Graph()
     name = next((it for it in ('links', 'edges') if isinstance(found, dict) and isinstance(found.get(it), list)), None)
     if name is None or not isinstance(found.get('nodes'), list):

@@ -95,6 +95,7 @@ def pairs_of(links, networks):
 
 
 def read(source, _):
+    """The graph of an OSPF database."""
     links, networks, graph = [], {}, Graph()
     for area, lsa in found_lsas(loaded(source)):
         attached = attached_of(lsa)

@@ -39,6 +39,7 @@ class Template:
                            'a brace')
 
     def label(self, edge, missing):
+        """The label of an edge; `missing` stands for an attribute that it doesn't have."""
         found = ''.join(self.part(it, edge, missing) for it in self.parts)
         if not found.strip() or re.search(NO_LITERAL, found):
             raise BadInput(f'a label is of printable ASCII without #, and not {found!r}', edge.place)
@@ -69,6 +70,7 @@ class Rule:
             raise BadInput(f'--parallel is first, last, least:ATTRIBUTE, greatest:ATTRIBUTE or refuse, and not {text}')
 
     def takes_new(self, old, new, pair):
+        """Whether the new one of two arcs with different labels is taken."""
         if self.word == 'refuse':
             raise BadInput(f'an arc from {pair[0]} to {pair[1]} is there, with the label {old.label} of '
                            f'{said_place(old.edge.place)}, and not {new.label}; --parallel says which is taken',
@@ -102,6 +104,7 @@ class Labels:
         self.of_kind = {'provider': (made.get('customer'), made.get('provider')), 'peer': (made.get('peer'),) * 2}
 
     def of(self, edge):
+        """The arcs of an edge as (pair of nodes, label)."""
         there, back = self.of_kind.get(edge.kind, (self.there, self.back))
         yield (edge.tail, edge.head), there.label(edge, self.missing)
         if back or not edge.is_directed:
@@ -109,6 +112,7 @@ class Labels:
 
 
 def said_place(place):
+    """A place inside of a message."""
     return f'line {place}' if isinstance(place, int) else str(place)
 
 
@@ -127,7 +131,7 @@ def around(names, edges, start, hops):
 
 def checked_node(text, names, option):
     """A node by its name, also as the source spells it."""
-    for name in (text, cleaned(text), text[2:] if text[:2] == 'AS' else text):
+    for name in (text, cleaned(text), text[2:] if re.fullmatch(r'AS\d+', text) else text):
         if name in names:
             return name
     close = difflib.get_close_matches(cleaned(text), names, 5) or list(names)[:5]
@@ -196,6 +200,7 @@ def check_limits(names, arcs, origins, profile):
 
 
 def check_lines(lines):
+    """Refuses a line or a file of more bytes than a network file may have."""
     for line in lines:
         if len(line.encode()) > LINE_BYTES:
             raise BadInput(f'a line would have more than {LINE_BYTES} bytes: {line[:60]} ..')

@@ -48,6 +48,7 @@ def rows_of(text):
 
 
 def read(source, options):
+    """The graph of a table."""
     rows, graph = rows_of(source.text), Graph()
     _, header = next(rows, (0, None))
     if header is None:

@@ -18,9 +18,14 @@ GREY = '#707070'
 PLACES = (0.5, 0.42, 0.58, 0.35, 0.65, 0.28, 0.72)
 
 
+def plain(text):
+    """A text without what XML may not have."""
+    return ''.join(it if it.isprintable() else '?' for it in text)
+
+
 def shown(text):
     """A text as it is drawn: a long one is cut."""
-    text = ''.join(it if it.isprintable() else '?' for it in text)
+    text = plain(text)
     return text if len(text) <= LONGEST else text[:LONGEST - 2] + '..'
 
 
@@ -97,7 +102,8 @@ class Curve:
         (first, last), (start, end) = self.ends()
         mark = ' and back' if self.strand.is_both else ''
         yield '<g>'
-        yield f'<title>{escape(f"{self.strand.tail} to {self.strand.head}{mark} : {self.strand.label}")}</title>'
+        title = f'{self.strand.tail} to {self.strand.head}{mark} : {plain(self.strand.label)}'
+        yield f'<title>{escape(title)}</title>'
         # The control point of the part of a parabola between two of its parts.
         control = (1 - start) * (1 - end) * self.tail.at + (start + end - 2 * start * end) * self.middle \
             + start * end * self.head.at

@@ -179,8 +179,8 @@ class Names(Case):
 
     def test_one_repeated_label_leaves_the_others(self):
         nodes = [(0, 'Ulm'), (1, 'Bonn'), (2, 'Ulm'), (3, 'Ulm_2'), (4, 'Köln'), (5, '?'), (6, None)]
-        lines = ''.join(f'node [ id {key} {"" if name is None else chr(10) + f"""label "{name}" """}]\n'
-                        for key, name in nodes)
+        labels = {key: '' if name is None else f'label "{name}"' for key, name in nodes}
+        lines = ''.join(f'node [ id {key} {labels[key]} ]\n' for key, _ in nodes)
         out, _ = self.network(self.file('g', f'graph [\n{lines}]\n'), '--label', '1')
         self.assertEqual(out, 'node Ulm Bonn Ulm_3 Ulm_2 Koln 5 6\n')
 

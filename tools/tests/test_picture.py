@@ -144,6 +144,8 @@ class Svg(Case):
         _, boxes, lines, labels = self.parts(self.file('n', 'node a b\nlink a b : <"&\'>\n'))
         self.assertEqual([it.text for it in labels], ['<"&\'>'])
         self.assertEqual(lines[0].find(f'{SPACE}title').text, 'a to b : <"&\'>')
+        _, _, lines, labels = self.parts(self.file('n', 'node a b\nlink a b : 1\x012\n'))
+        self.assertEqual(([it.text for it in labels], lines[0].find(f'{SPACE}title').text), (['1?2'], 'a to b : 1?2'))
         _, _, lines, labels = self.parts(self.file('n', f'node a b\nlink a b : {"x" * 99}\n'))
         self.assertEqual([it.text for it in labels], ['x' * 34 + '..'])
         self.assertIn('x' * 99, lines[0].find(f'{SPACE}title').text)
