@@ -1,4 +1,4 @@
-"""Reads GraphML, as networkx, the Topology Zoo and yEd write it."""
+"""Reads GraphML, as networkx and the Topology Zoo write it."""
 
 from xml.parsers import expat
 

@@ -11,7 +11,7 @@ MARKS = ',;\t'
 
 
 def mark_of(line):
-    """What parts the columns of a header: the mark that stands in it most often."""
+    """What separates the columns of a header: the mark that stands in it most often."""
     return max(MARKS, key=line.count)
 
 
