@@ -87,11 +87,11 @@ def bad_byte_advice(data, at):
     return {
         b'.': 'a range has two points: LOW..HIGH',
         b'-': 'numbers have no sign, and an arrow is `->`',
-        b'/': 'a comment begins with `#`',
+        b'/': 'a comment starts with `#`',
         b'"': 'names stand without quotes',
         b"'": 'names stand without quotes',
         b'>': 'a table names the preferred value first, and `<` or `=` before each later one',
-    }.get(byte, 'no word, number or mark of the language begins so')
+    }.get(byte, 'no word, number or mark of the language starts so')
 
 
 # --- tokens that can't follow

@@ -114,7 +114,7 @@ class Fixed(Form):
     def example(self):
         return self.word
 
-    def begins(self, text):
+    def opens(self, text):
         return text == self.word
 
     def read(self, reader):
@@ -133,7 +133,7 @@ class Signed(Form):
     def example(self):
         return f'{self.sign}0'
 
-    def begins(self, text):
+    def opens(self, text):
         return text == self.sign
 
     def read(self, reader):
@@ -193,7 +193,7 @@ class Group(Form):
     def parts(self):
         return self.members
 
-    def begins(self, text):
+    def opens(self, text):
         return text == self.marks[0][0]
 
     def read(self, reader):
@@ -225,7 +225,7 @@ class Either(Form):
     def read(self, reader):
         first = reader.next()[0]
         for form in self.forms:
-            if form.begins(first):
+            if form.opens(first):
                 return form.read(reader)
         return reader.take(self, lambda text: False, self.due())
 
@@ -310,7 +310,7 @@ def tail_advice(text, what):
     """What to say of what stands after a whole label or value."""
     return {
         ';': 'a line of a network file has no `;` at its end',
-        '/': 'a comment begins with `#`',
+        '/': 'a comment starts with `#`',
         '\r': 'a carriage return stands inside the line: only one at its very end is dropped',
     }.get(text, f'`{text}` stands after the end of the {what}')
 
