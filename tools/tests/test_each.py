@@ -19,3 +19,10 @@ class Each(unittest.TestCase):
                 status, out, _ = tool(name, '--help')
                 self.assertEqual((status, f'tools/{name}' in out), (0, True), name)
 
+    def test_words_that_are_none_are_refused_in_a_line(self):
+        for name in ('check_docs', 'test_tools'):
+            for words in (['--fast'], ['--program', '/nowhere/meta']):
+                status, out, err = tool(name, *words)
+                self.assertEqual((status, out, err.count('\n')), (2, '', 1), name)
+                self.assertTrue(err.startswith(f'{name}: {words[-1]}: '), err)
+
