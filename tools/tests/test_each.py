@@ -25,4 +25,3 @@ class Each(unittest.TestCase):
                 status, out, err = tool(name, *words)
                 self.assertEqual((status, out, err.count('\n')), (2, '', 1), name)
                 self.assertTrue(err.startswith(f'{name}: {words[-1]}: '), err)
-
