@@ -20,7 +20,7 @@ MEANINGS = {
     6: 'standard output took no more',
     7: 'out of memory',
     8: 'a file is too long',
-    70: 'the program could not be built',
+    70: 'there is no program to answer',
 }
 
 

@@ -25,7 +25,7 @@ def add_options(parser):
 
 
 def as_argument(path):
-    """The word for a file: one that begins with two dashes would be a flag."""
+    """The word for a file: one that starts with two dashes would be a flag."""
     return './' + path if path.startswith('--') else path
 
 
