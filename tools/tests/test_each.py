@@ -6,7 +6,7 @@ import unittest
 from support import TOP, tool
 
 # What is no script of its own.
-OTHERS = ('raml.vim', 'runs', 'tests')
+OTHERS = ('raml.vim', 'completions', 'hints', 'runs', 'tests')
 
 
 class Each(unittest.TestCase):
