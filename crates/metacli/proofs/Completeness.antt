@@ -18,7 +18,7 @@ use Rattle.metacli.specs.Outcome.{PureOutcome, stopped, checked, coded, routed, 
 use Rattle.metacli.specs.Complete.{IsUnlessMemory, IsTold, IsJudged, IsNetJudged, IsAny, IsDecided, IsDone, IsRunOut, IsRoutedWholly, CompleteBy}
 use Rattle.command_words.specs.declared.command.Command.{Command}
 use Rattle.command_words.specs.declared.command.Command.TheVariants.{Check, Code, Route, Settle, Stable, Run, Trace, Gadget, Demo}
-use Rattle.command_words.specs.declared.required.Required.{Required}
+use Rattle.command_words.specs.declared.command.Required.{Required}
 use Rattle.command_words.specs.declared.command.WordsFault.{WordsFault}
 use Rattle.metacli.specs.declared.routing.Solution.{Solution}
 use Rattle.metacli.specs.declared.routing.Solution.TheVariants.{Unbeaten, Settled, AllStable}

@@ -10,3 +10,4 @@ mod RowsBehind
 mod Written
 mod Demos
 mod Tables
+mod Wedges

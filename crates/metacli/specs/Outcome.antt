@@ -32,7 +32,7 @@ use Rattle.metacli.specs.Reading.{ReadsExpression, ReadsNetwork}
 use Rattle.command_words.specs.Words.{Words, words_fault_number}
 use Rattle.command_words.specs.declared.command.Command.{Command}
 use Rattle.command_words.specs.declared.command.Command.TheVariants.{Check, Code, Route, Settle, Stable, Run, Trace, Gadget, Demo}
-use Rattle.command_words.specs.declared.required.Required.{Required}
+use Rattle.command_words.specs.declared.command.Required.{Required}
 use Rattle.command_words.specs.declared.command.WordsFault.{WordsFault}
 use Rattle.metacli.specs.declared.ended.Ended.{Ended}
 use Rattle.metacli.specs.declared.routing.Solution.{Solution}
@@ -256,8 +256,8 @@ IsRoutedAs solution a file _ = ⊥
 -- Where all labels of the networks of a run are monotone, it made no more deliveries than were left at the starts of its
 -- phases, and with as many turns it is quiet.
 pub record ComesToRest (net : PureNet) (nets : List PureNet) (turns : ℕ) (past : List PurePhase) (last : PurePhase) (quiet : Bool) : Type 0 where
-  pub few : AreMonotone net nets → deliveries_made past last ≤ deliveries_left net nets past
-  pub quiet : AreMonotone net nets → deliveries_left net nets past ≤ turns → quiet ≡ true
+  pub most : AreMonotone net nets → deliveries_made past last ≤ deliveries_left net nets past
+  pub ends : AreMonotone net nets → deliveries_left net nets past ≤ turns → quiet ≡ true
 
 -- What run and trace come to where all was read: a run of the network's new nodes, and then on the networks after the
 -- changes, whose quiet phases have stable rows, and which comes to rest; unless memory is refused.

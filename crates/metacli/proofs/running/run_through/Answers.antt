@@ -32,8 +32,8 @@ returns-in-Ok-clause-run g c =
       is_run = is_run;
       stable = c.quiet_phases_are_stable.ensures net nets c.args.turns past last run.is_quiet c.run_on.ensures.net all later is_run;
       rests = record {
-        few = λ m. c.runs_are_short.ensures net nets c.args.turns past last run.is_quiet c.run_on.ensures.net all later m is_run;
-        quiet = λ m enough. c.enough_turns_are_quiet.ensures net nets c.args.turns past last run.is_quiet c.run_on.ensures.net all later m is_run enough;
+        most = λ m. c.runs_are_short.ensures net nets c.args.turns past last run.is_quiet c.run_on.ensures.net all later m is_run;
+        ends = λ m enough. c.enough_turns_are_quiet.ensures net nets c.args.turns past last run.is_quiet c.run_on.ensures.net all later m is_run enough;
       };
       of_networks = c.phases_are_of_networks.ensures net nets c.args.turns past last run.is_quiet c.run_on.ensures.net all later is_run;
     }
