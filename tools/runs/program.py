@@ -14,7 +14,7 @@ MEANINGS = {
     0: 'the command was carried out',
     1: 'the words were refused',
     2: 'the expression or the network was refused',
-    3: 'a label on an arc does not have a property that the command needs',
+    3: 'a label on an arc does not have a property that the command needs, or a required property fails',
     4: 'the turns were spent',
     5: 'a file could not be read',
     6: 'standard output took no more',

@@ -6,7 +6,7 @@ from runs.program import SCRIPT, Program
 from runs.texts import read_answer
 from runs.words import Refused
 
-BY = ('route', 'settle', 'run')
+BY = ('route', 'stable', 'settle', 'run')
 MAX_TURNS = 1_000_000
 
 
@@ -71,13 +71,29 @@ class Commands:
         named = named or (policy, network)
         found = self.answer(self.by, (policy, network), self.flags, named)
         if 'phases' in found:
-            last = found['phases'][-1]
-            if last['end'] == 'spent':
-                total = sum(it['deliveries'] for it in found['phases'])
-                raise Refused(f'{named[1]}: the run was spent after {total} deliveries, so its rows are no result '
-                              '(--turns N allows more)')
-            found = last
-        return {(row['node'], dest): row_text(row) for dest, rows in found['rows'].items() for row in rows}
+            rows = rows_of_run(found['phases'], named[1])
+        elif 'tables' in found:
+            rows = rows_of_tables(found['tables'], named[1])
+        else:
+            rows = found['rows']
+        return {(row['node'], dest): row_text(row) for dest, its_rows in rows.items() for row in its_rows}
+
+
+def rows_of_run(phases, network):
+    """The rows of the last phase by destination."""
+    if phases[-1]['end'] == 'spent':
+        total = sum(it['deliveries'] for it in phases)
+        raise Refused(f'{network}: the run was spent after {total} deliveries, so its rows are no result '
+                      '(--turns N allows more)')
+    return phases[-1]['rows']
+
+
+def rows_of_tables(tables, network):
+    """The rows of the one stable table of each destination."""
+    for dest, its_tables in tables.items():
+        if len(its_tables) != 1:
+            raise Refused(f'{network}: {dest} has {len(its_tables)} stable tables, so the rows are not known')
+    return {dest: its_tables[0] for dest, its_tables in tables.items()}
 
 
 def row_text(row):

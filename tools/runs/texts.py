@@ -20,12 +20,17 @@ SCRIPT_FLAGS = ('--proved', '--unproved')
 NUMBER = r'\d{1,20}'
 INSTANCE = r'(\S+) on (\S+)(?: and (\S+))? gives (\S+)(?: and (\S+))?'
 ROW = rf'({NAME}) ({NAME}) (?:none|(?!none )(\S+)((?: {NAME})+))'
+TABLES = rf'({NAME}) ({NUMBER}) stable'
 END_OF_RUN = rf'(quiet|spent) ({NUMBER})'
 DELIVERY = rf'({NUMBER}) ({NAME}) ({NAME})'
 ARC = rf'arc ({NAME}) ({NAME}) (\S+)'
 OPERATION = rf'({NUMBER}) ([a-z]+(?: (?:{NUMBER}|-))*)'
 COUNTS = rf'nodes ({NUMBER}) arcs ({NUMBER})'
 SUM = rf'({NAME}) reached ({NUMBER}) sum ({NUMBER})'
+# Where no network file holds the gadget of a policy, this line stands in the place of its first one.
+NO_GADGET = '# monotone no: no network file holds this instance'
+GADGET = ('node p q', 'link p q : {label}', 'origin x at p : {value}', 'origin x at q : {value}',
+          'then link q p : {label}', 'then drop p q', 'then link p q : {label}')
 
 
 class Lines:
@@ -39,8 +44,10 @@ class Lines:
     def has_more(self):
         return self.at < len(self.lines)
 
-    def has_next(self, pattern):
-        return self.has_more() and re.fullmatch(pattern, self.lines[self.at]) is not None
+    def has_next(self, pattern, after=0):
+        """Whether the next line, or the one so many lines after it, has this form."""
+        at = self.at + after
+        return at < len(self.lines) and re.fullmatch(pattern, self.lines[at]) is not None
 
     def take(self, pattern):
         """The groups of the next line, which must have this form."""
@@ -79,19 +86,40 @@ def instance_of(lines, text):
     return {'label': label, 'values': [first, second], 'images': [image(it) for it in images]}
 
 
+def read_verdict(lines, name, before=''):
+    text, = lines.take(rf'{before}{name} (?:yes|no: (.+))')
+    return {'holds': True} if text is None else {'holds': False, 'instance': instance_of(lines, text)}
+
+
 def read_verdicts(lines):
-    found = {}
-    for name in PROPERTIES:
-        text, = lines.take(rf'{name} (?:yes|no: (.+))')
-        found[name] = {'holds': True} if text is None else {'holds': False, 'instance': instance_of(lines, text)}
-    return {'verdicts': found}
+    """The verdicts and, where a line more follows, the required property that fails."""
+    found = {name: read_verdict(lines, name) for name in PROPERTIES}
+    if not lines.has_more():
+        return {'verdicts': found}
+    name, = lines.take(rf'required: ({PROPERTY})')
+    if found[name]['holds']:
+        raise lines.unknown(lines.at - 1)
+    return {'verdicts': found, 'required': name}
 
 
-def read_rows(lines, count=None):
-    """The rows by destination, as many as are said; all that remain, where no number is given."""
+def read_gadget(lines):
+    """The verdict on monotone, and the lines of the network file, whose first one is a comment with the verdict."""
+    if lines.has_next(NO_GADGET):
+        lines.take(NO_GADGET)
+        return {'gadget': {'monotone': {'holds': False}, 'network': None}}
+    verdict = read_verdict(lines, 'monotone', before='# ')
+    if verdict['holds']:
+        return {'gadget': {'monotone': verdict, 'network': None}}
+    label, value = verdict['instance']['label'], verdict['instance']['values'][0]
+    for form in GADGET:
+        lines.take(re.escape(form.format(label=label, value=value)))
+    return {'gadget': {'monotone': verdict, 'network': lines.lines[:lines.at]}}
+
+
+def read_rows(lines, count):
+    """So many rows, by destination."""
     found, nodes = {}, set()
-    stop = len(lines.lines) if count is None else lines.at + count
-    while lines.at < stop:
+    for _ in range(count):
         node, dest, value, path = lines.take(ROW)
         path = (path or '').split()
         if (path and path[0] != node) or (node, dest) in nodes:
@@ -101,8 +129,31 @@ def read_rows(lines, count=None):
     return found
 
 
-def read_tables(lines):
-    return {'rows': read_rows(lines)}
+def read_table(lines):
+    return {'rows': read_rows(lines, len(lines.lines))}
+
+
+def read_stable_table(lines, dest, number):
+    """A stable table of a destination, by its number. It ends before a line that is no row."""
+    lines.take(f'table {number}')
+    count = 0
+    while lines.has_next(ROW, count):
+        count += 1
+    found = read_rows(lines, count)
+    if list(found) != [dest]:
+        raise lines.unknown(lines.at - 1)
+    return found[dest]
+
+
+def read_stable_tables(lines):
+    """The stable tables of each destination."""
+    found = {}
+    while lines.has_more():
+        dest, count = lines.take(TABLES)
+        if dest in found:
+            raise lines.unknown(lines.at - 1)
+        found[dest] = [read_stable_table(lines, dest, number) for number in range(1, int(count) + 1)]
+    return {'tables': found}
 
 
 def read_delivery(lines):
@@ -154,8 +205,8 @@ def read_summary(lines):
     while lines.has_next(SUM):
         dest, reached, total = lines.take(SUM)
         sums.append({'destination': dest, 'reached': int(reached), 'sum': int(total)})
-    how = lines.take(rf'(quiet|spent {NUMBER})')[0].split()[0]
-    return {'summary': {'nodes': int(nodes), 'arcs': int(arcs), 'destinations': sums, 'end': how}}
+    end, = lines.take('(quiet)')
+    return {'summary': {'nodes': int(nodes), 'arcs': int(arcs), 'destinations': sums, 'end': end}}
 
 
 def read_run(lines):
@@ -168,13 +219,15 @@ def read_trace(lines):
 
 # For each command the statuses that its answer may come with, and what reads the text of that.
 READERS = {
-    'check': ((0,), read_verdicts),
+    'check': ((0, 3), read_verdicts),
+    'gadget': ((0,), read_gadget),
     'code': ((0,), read_code),
-    'route': ((0,), read_tables),
-    'settle': ((0,), read_tables),
+    'route': ((0,), read_table),
+    'stable': ((0,), read_stable_tables),
+    'settle': ((0,), read_table),
     'run': ((0, 4), read_run),
     'trace': ((0, 4), read_trace),
-    'demo': ((0, 4), read_summary),
+    'demo': ((0,), read_summary),
 }
 
 
@@ -236,9 +289,11 @@ def read_refusal(lines, status, arguments):
     return None
 
 
-def is_spent(found):
-    """Whether the last phase of a run, or the run of a summary, was spent."""
-    return any(part['end'] == 'spent' for part in [*found.get('phases', []), found.get('summary', {'end': None})])
+def status_of(found):
+    """The status that the program ends with after such an answer."""
+    if 'required' in found:
+        return 3
+    return 4 if any(phase['end'] == 'spent' for phase in found.get('phases', [])) else 0
 
 
 def read_whole(command, status, lines):
@@ -251,7 +306,7 @@ def read_whole(command, status, lines):
     found = reader(lines)
     if lines.has_more():
         raise lines.unknown()
-    if is_spent(found) != (status == 4):
+    if status_of(found) != status:
         raise Refused(f'the end that the program printed does not fit its status {status}')
     return found
 
