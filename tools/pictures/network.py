@@ -144,12 +144,18 @@ class Rows:
             self.is_run = True
             if words[0] == 'phase':
                 self.phases[int(words[1])] = []
-        elif not (len(words) == 3 and words[0].isdigit() and set(words[1:]) <= nodes):
+        elif not is_passed_over(words, nodes, dests):
             raise BadInput(f'no row of this network: {" ".join(words)[:60]}', line)
 
 
+def is_passed_over(words, nodes, dests):
+    """Whether a line is a delivery, or stands above the rows of the one stable table of a destination."""
+    is_delivery = len(words) == 3 and words[0].isdigit() and set(words[1:]) <= nodes
+    return is_delivery or words == ['table', '1'] or (words[0] in dests and words[1:] == ['1', 'stable'])
+
+
 def read_rows(text, network):
-    """The rows of an output of route, settle, run or trace."""
+    """The rows of an output of route, stable, settle, run or trace."""
     rows, nodes, dests = Rows(), set(network.nodes), set(network.destinations())
     for number, line in enumerate(text.split('\n'), 1):
         if line.strip():
