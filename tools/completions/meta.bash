@@ -20,21 +20,33 @@ _meta_files() {
     [[ ${COMPREPLY[0]-} == */ ]] || compopt +o nospace 2>/dev/null
 }
 
+# The words of a list after --require, each with those before it in the list and without those.
+_meta_properties() {
+    local before= it
+    [[ $2 != *,* ]] || before=${2%,*},
+    for it in $("$1" --help 2>/dev/null |
+        sed -n '/^LIST is one or more of /{ s///; s/, separated .*//; s/,/ /g; s/ and / /; p; }'); do
+        [[ ,$before == *,$it,* ]] || echo "$before$it"
+    done
+}
+
 # What may follow the words of a command before the one that is completed.
 _meta_after() {
-    local program=$1 usage arguments=0 is_value= help=
+    local program=$1 usage arguments=0 flag= help=
     shift
     usage=$(_meta_usage "$program" "$1")
     shift
     [ $# -gt 0 ] || help=--help
     for it; do
-        case $is_value$it in
-            yes*) is_value= ;;
-            --*) is_value=yes ;;
+        case $flag:$it in
+            -*) flag= ;;
+            :--*) flag=$it ;;
             *) arguments=$((arguments + 1)) ;;
         esac
     done
-    if [ "$is_value" ]; then
+    if [ "$flag" = --require ]; then
+        COMPREPLY=($(compgen -W "$(_meta_properties "$program" "$word")" -- "$word"))
+    elif [ "$flag" ]; then
         COMPREPLY=()
     elif [[ $word == -* ]]; then
         COMPREPLY=($(compgen -W "$(grep -o -e '--[a-z]*' <<<"$usage") $help" -- "$word"))

@@ -31,7 +31,7 @@ def list_advice(text):
         if it == '':
             return f'{"a comma has no property beside it" if text else "the list is empty"}: {form}'
         if it != it.strip():
-            return f'no space stands beside a comma: {form}'
+            return f'no space stands in the list: {form}'
         if it not in PROPERTIES:
             return f'`{it}` is no property{meant(it, PROPERTIES)}: {form}'
         if it in seen:

@@ -12,6 +12,7 @@ import xml.etree.ElementTree as xml
 
 from support import TOP, Folder, built, needs_program, tool
 
+WAYS = ('route', 'stable', 'settle', 'run')
 ADD = 'main add(1..10);'
 # Two equally long ways from a to d.
 DIAMOND = 'node a b c d\nlink a b : 1\nlink a c : 1\nlink b d : 1\nlink c d : 1\norigin x at d : 0\n'
@@ -48,7 +49,8 @@ class Words(Over):
     def test_bad_words(self):
         for name, files in (('test_policy', ['t']), ('routes_diff', ['p', 'n', 'p', 'n']), ('what_if', ['p', 'n'])):
             for words in ([], [*files, '--by', 'walk'], [*files, '--turns', '1,000'], [*files, '--turns', '1000001'],
-                          [*files, '--by', 'route', '--turns', '5'], [*files, '--unknown'], [*files, '--by']):
+                          [*files, '--by', 'route', '--turns', '5'], [*files, '--by', 'stable', '--turns', '5'],
+                          [*files, '--unknown'], [*files, '--by']):
                 status, out, said = tool(name, *words)
                 self.assertEqual((status, out, said.count('\n')), (2, '', 1), (name, words, said))
         self.assertIn('--nodes', tool('what_if', 'p', 'n', '--nodes', '--pairs')[2])
@@ -68,6 +70,15 @@ class Words(Over):
         program = self.file('program', '#!/bin/sh\necho a x none\necho quiet 0\necho said >&2\n')
         os.chmod(program, 0o755)
         self.assertEqual(tool('routes_diff', 'p', 'n', 'p', 'n', '--program', program), (0, '', 'said\n'))
+
+    def test_tables_that_are_not_one(self):
+        for text in ('x 2 stable\ntable 1\na x 1 a\ntable 2\na x 0 a\n', 'x 0 stable\n'):
+            self.file('text', text)
+            program = self.file('program', f'#!/bin/sh\ncat {self.folder}/text\n')
+            os.chmod(program, 0o755)
+            status, out, said = tool('routes_diff', 'p', 'n', 'p', 'n', '--by', 'stable', '--program', program)
+            self.assertEqual((status, out), (2, ''))
+            self.assertIn(f'routes_diff: n: x has {text[2]} stable tables', said)
 
     def test_standard_output_that_takes_no_more(self):
         program = self.file('program', '#!/bin/sh\nshift\necho a x 1 $1\necho quiet 0\n')
@@ -93,9 +104,20 @@ class TestPolicy(Over):
 
     def test_each_way_to_the_rows(self):
         text = 'policy add.raml\nnetwork diamond.net\nexpect a x via b\n'
-        for by in ('route', 'settle', 'run'):
+        for by in WAYS:
             self.assertEqual(self.outcome(text, '--by', by)[:2], (0, '1 passed, 0 failed\n'))
         self.assertEqual(self.outcome(text, '--turns', '4')[0], 0)
+
+    def test_links_that_cost_nothing(self):
+        """Around a circle of them all routes have one value, so the shortest path decides; no label is strict."""
+        self.file('free.raml', 'main add(0..10);')
+        self.file('circle.net', 'node a b c\nboth a b : 0\nboth b c : 0\nboth c a : 0\norigin x at a : 0\n'
+                                'origin y at b : 0\norigin y at c : 0\n')
+        text = ('policy free.raml\nnetwork circle.net\nexpect b x via a\nexpect c x via a\nexpect c x value 0\n'
+                'expect a y via b\nexpect c y value 0\n')
+        for by in ('stable', 'route', 'run'):
+            self.assertEqual(self.outcome(text, '--by', by), (0, '5 passed, 0 failed\n', ''))
+        self.assert_refused('test_policy', [self.file('a.test', text), '--by', 'settle'], 'circle.net: strict fails on a b')
 
     def test_failures(self):
         text = ('policy add.raml\nnetwork diamond.net\nexpect verdict strict no\nexpect a x via c\nexpect a x none\n'
@@ -208,6 +230,7 @@ class TestPolicy(Over):
         path = self.file('a.test', 'policy gadget.raml\nnetwork bad.net\nexpect z x value o\n')
         self.assert_refused('test_policy', [path, '--turns', '50'], 'bad.net: ', 'spent after 50 deliveries')
         self.assert_refused('test_policy', [path, '--by', 'settle'], 'bad.net: strict fails on p q: N on d gives a')
+        self.assert_refused('test_policy', [path, '--by', 'stable'], 'bad.net: monotone fails on p q: N on d gives a')
 
 
 @needs_program
@@ -216,7 +239,7 @@ class RoutesDiff(Over):
 
     def test_no_difference(self):
         again = self.file('again.net', '# the same\n' + DIAMOND)
-        for by in ('route', 'settle', 'run'):
+        for by in WAYS:
             self.assertEqual(self.of('routes_diff', self.add, self.diamond, self.add, again, '--by', by), (0, '', ''))
 
     def test_rows_that_differ(self):
@@ -229,9 +252,10 @@ class RoutesDiff(Over):
 
     def test_the_last_phase(self):
         cut = self.file('cut.net', DIAMOND + 'then drop b d\nthen link b d : 5\n')
-        status, out, _ = self.of('routes_diff', self.add, self.diamond, self.add, cut, '--by', 'settle')
-        self.assertEqual((status, out.splitlines()), (1, [
-            'changed a x: 2 a b d -> 2 a c d', 'changed b x: 1 b d -> 5 b d', 'added 0, removed 0, changed 2']))
+        for by in ('stable', 'settle'):
+            status, out, _ = self.of('routes_diff', self.add, self.diamond, self.add, cut, '--by', by)
+            self.assertEqual((status, out.splitlines()), (1, [
+                'changed a x: 2 a b d -> 2 a c d', 'changed b x: 1 b d -> 5 b d', 'added 0, removed 0, changed 2']))
 
     def test_refusals(self):
         bad = self.file('bad.net', 'node a\nnode a\n')
@@ -251,7 +275,7 @@ class WhatIf(Over):
         return out.splitlines()
 
     def test_links(self):
-        for by in ('route', 'settle', 'run'):
+        for by in WAYS:
             self.assertEqual(self.tried(DIAMOND, '--by', by), [
                 'link a b down: lost 0, moved 1', '  moved a x: 2 a b d -> 2 a c d',
                 'link a c down: lost 0, moved 0',
@@ -330,6 +354,6 @@ class Examples(Over):
     def test_they_pass(self):
         folder = os.path.join(TOP, 'examples/tests')
         for name in os.listdir(folder):
-            for by in ('settle', 'run'):
+            for by in ('stable', 'settle', 'run'):
                 status, out, said = self.of('test_policy', os.path.join(folder, name), '--by', by)
                 self.assertEqual((status, out.endswith(' passed, 0 failed\n'), said), (0, True, ''), name)

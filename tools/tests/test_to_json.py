@@ -9,6 +9,10 @@ from support import TOP, Folder, built, needs_program, tool
 
 STRICT_NO = 'strict no: 0 on 4 gives 4\n'
 CHECKED = 'monotone yes\n' + STRICT_NO + 'isotone yes\ncancellative yes\ntotal yes\n'
+# Two nodes, of which each prefers the route of the other by the label (3,1) to its own of value (0,0).
+GADGET = ('# monotone no: (3,1) on (0,0) gives (3,1)\nnode p q\nlink p q : (3,1)\norigin x at p : (0,0)\n'
+          'origin x at q : (0,0)\nthen link q p : (3,1)\nthen drop p q\nthen link p q : (3,1)\n')
+NO_GADGET = '# monotone no: no network file holds this instance\n'
 
 
 class Printed(Folder):
@@ -48,6 +52,34 @@ class Printed(Folder):
         text = CHECKED.replace('isotone yes', 'isotone no: on on and and gives gives none and on')
         self.assertEqual(self.members(['check', 'f'], text)['verdicts']['isotone']['instance'],
                          {'label': 'on', 'values': ['and', 'gives'], 'images': [None, 'on']})
+
+    def test_a_required_property(self):
+        found = self.members(['check', 'f', '--require', 'total,strict'], CHECKED + 'required: strict\n', 3)
+        self.assertEqual((found['required'], found['verdicts']['strict']['holds'], len(found)), ('strict', False, 2))
+        self.assertNotIn('required', self.members(['check', '--require', 'total', 'f'], CHECKED))
+
+    def test_gadget(self):
+        words = ['gadget', 'f']
+        instance = {'label': '(3,1)', 'values': ['(0,0)'], 'images': ['(3,1)']}
+        for text, wanted in (
+                ('# monotone yes\n', {'monotone': {'holds': True}, 'network': None}),
+                (NO_GADGET, {'monotone': {'holds': False}, 'network': None}),
+                (GADGET, {'monotone': {'holds': False, 'instance': instance}, 'network': GADGET.splitlines()})):
+            self.assertEqual(self.members(words, text), {'gadget': wanted})
+
+    def test_stable_tables(self):
+        """The destination may be called as a word of the lines is, and so may nodes."""
+        text = 'stable 1 stable\ntable 1\na stable 0 a\n1 stable none\ny 1 stable\ntable 1\na y none\n1 y 2 1\n'
+        self.assertEqual(self.members(['stable', 'f', 'n'], text), {'tables': {
+            'stable': [[{'node': 'a', 'value': '0', 'path': ['a']}, {'node': '1', 'value': None, 'path': []}]],
+            'y': [[{'node': 'a', 'value': None, 'path': []}, {'node': '1', 'value': '2', 'path': ['1']}]]}})
+        self.assertEqual(self.members(['stable', 'f', 'n'], ''), {'tables': {}})
+
+    def test_several_tables(self):
+        text = 'x 2 stable\ntable 1\na x 0 a\ntable 2\na x 1 a\ny 0 stable\n'
+        self.assertEqual(self.members(['stable', 'f', 'n'], text), {'tables': {
+            'x': [[{'node': 'a', 'value': '0', 'path': ['a']}], [{'node': 'a', 'value': '1', 'path': ['a']}]],
+            'y': []}})
 
     def test_rows(self):
         self.assertEqual(self.members(['route', 'f', 'n'], 'a x 3 a b\nb x 0 b\na y none\nb y none\n'), {'rows': {
@@ -116,11 +148,37 @@ class Printed(Folder):
         self.assert_unknown(['code', 'f'], 'order\n0 less\n2 less\n', 3)
         self.assert_unknown(['demo', '1', '2'], 'nodes 2 arcs 1\nx0 reached 2\nquiet\n', 2)
         self.assert_unknown(['route', 'f', 'n'], 'network refused: N6 at line 3\n', 1)
+        for line in ('required: monotone', 'required: safe', 'required: strict,total', 'required:'):
+            self.assert_unknown(['check', 'f'], f'{CHECKED}{line}\n', 6, 3)
+        self.assert_unknown(['check', 'f'], f'{CHECKED}required: strict\nrequired: strict\n', 7, 3)
+        self.assert_unknown(['demo', '1', '2'], 'nodes 2 arcs 1\nspent 100000\n', 2)
+
+    def test_unknown_gadgets(self):
+        for old, new, line in (('# monotone no: ', '# monotone yes\n', 2), ('link p q : (3', 'link p q : (2', 3),
+                               ('origin x at q : (0', 'origin x at q : (1', 5), ('then drop p q', 'then drop q p', 7),
+                               ('# monotone', 'monotone', 1), (' gives (3,1)', '', 1), ('node p q', 'node p q r', 2),
+                               ('then link p q : (3,1)\n', 'then link p q : (3,1)\nnode r\n', 9)):
+            self.assert_unknown(['gadget', 'f'], GADGET.replace(old, new), line)
+        self.assert_unknown(['gadget', 'f'], NO_GADGET + 'node p q\n', 2)
+        self.assert_unknown(['gadget', 'f'], '# monotone yes\n' + NO_GADGET, 2)
+
+    def test_unknown_tables(self):
+        for text, line in (('table 1\na x 0 a\n', 1), ('x 1 stable\na x 0 a\n', 2),
+                           ('x 1 stable\ntable 2\na x 0 a\n', 2), ('x 1 stable\ntable 1\na y 0 a\n', 3), ('x 1 stable\ntable 1\na x 0 a\nb y 0 b\n', 4),
+                           ('x 1 stable\ntable 1\na x 0 a\na x 0 a\n', 4), ('x 1 stable\ntable 1\na x 0 b\n', 3),
+                           ('x 1 stable\ntable 1\na x 0 a\ntable 2\na x 0 a\n', 4), ('x one stable\n', 1),
+                           ('x 1 stable\ntable 1\na x 0 a\nx 1 stable\ntable 1\na x 0 a\n', 4),
+                           ('x 1 stable\ntable 1\ny 1 stable\ntable 1\na y 0 a\n', 2)):
+            self.assert_unknown(['stable', 'f', 'n'], text, line)
 
     def test_other_texts(self):
         for words, text, status in ((['check', 'f'], CHECKED[:-1], 0), (['run', 'f', 'n'], 'a x none\n', 0),
                                     (['run', 'f', 'n'], 'spent 3\n', 0), (['run', 'f', 'n'], 'quiet 3\n', 4),
                                     (['check', 'f'], CHECKED, 3), (['walk', 'f'], 'a\n', 0), (['check', 'f'], '', 5),
+                                    (['check', 'f'], CHECKED + 'required: strict\n', 0), (['gadget', 'f'], '', 0),
+                                    (['gadget', 'f'], GADGET[:GADGET.index('then drop')], 0),
+                                    (['gadget', 'f'], GADGET, 3), (['stable', 'f', 'n'], 'x 1 stable\ntable 1\n', 0),
+                                    (['stable', 'f', 'n'], 'x 1 stable\n', 0), (['demo', '1', '2'], 'quiet\n', 4),
                                     (['check', 'f'], 'monotone yes\u00e9\n', 0), (['demo', '1', '2'], '', 0)):
             ended, out, said = tool('to_json', self.stand_in(text, status), *words)
             self.assertEqual((ended, out, said.count('\n'), said[:9]), (2, '', 1, 'to_json: '), words)
@@ -159,7 +217,10 @@ class Program(Folder):
         one = [{'node': 'a', 'value': '1', 'path': ['a', 'b']}, {'node': 'b', 'value': '0', 'path': ['b']}]
         none = [{'node': 'a', 'value': None, 'path': []}, one[1]]
         self.assertTrue(all(it['holds'] for it in self.json_of('check', policy, network)['verdicts'].values()))
+        self.assertNotIn('required', self.json_of('check', policy, network, '--require', 'total,strict'))
         self.assertEqual(self.json_of('code', policy, network)['code'], {'order': ['less'], 'arcs': []})
+        self.assertEqual(self.json_of('gadget', policy)['gadget'], {'monotone': {'holds': True}, 'network': None})
+        self.assertEqual(self.json_of('stable', policy, network)['tables'], {'x': [none]})
         for command in ('route', 'settle'):
             self.assertEqual(self.json_of(command, policy, network)['rows'], {'x': none})
         phases = [{'phase': 0, 'rows': {'x': one}, 'end': 'quiet', 'deliveries': 1},
@@ -169,6 +230,21 @@ class Program(Folder):
         self.assertEqual(self.json_of('trace', policy, network)['phases'], phases)
         self.assertEqual(self.json_of('run', policy, network, '--turns', '0')['phases'][0]['end'], 'spent')
         self.assertEqual(self.json_of('demo', '1', '2')['summary']['end'], 'quiet')
+
+    def test_labels_that_make_routes_better(self):
+        """Three numbers of preference before the count of links: a greater one is better, and a link sets it."""
+        policy = self.file('f.raml', 'main lex(lp(3), add(1..1));')
+        found = self.json_of('gadget', policy)['gadget']
+        instance, network = found['monotone']['instance'], self.file('n.net', '\n'.join(found['network']) + '\n')
+        value, made = instance['values'][0], instance['images'][0]
+        phases = self.json_of('run', policy, network)['phases']
+        self.assertEqual([it['deliveries'] for it in phases], [1, 1, 1, 1])
+        for number, wanted in ((1, [('p', made, ['p', 'q']), ('q', value, ['q'])]),
+                               (3, [('p', value, ['p']), ('q', made, ['q', 'p'])])):
+            self.assertEqual([(it['node'], it['value'], it['path']) for it in phases[number]['rows']['x']], wanted)
+        self.assertEqual(self.json_of('check', policy, '--require', 'total,strict,monotone')['required'], 'monotone')
+        self.assertEqual(self.json_of('stable', policy, network)['refusal']['property'], 'monotone')
+        self.assertEqual(self.json_of('check', policy, '--require', 'safe')['refusal']['fault'], 'C6')
 
     def test_refusals(self):
         policy, network = self.file('f.raml', 'main lex(add(1..10)'), self.file('n.net', 'node a\n')
