@@ -194,6 +194,6 @@ def property_hint(prop, tail, head, command, name):
         if ends == [tail, head] or (first == 'both' and ends == [head, tail]):
             place = (number, column)
     other = {'monotone': 'a label that never makes a route better, or `run`, which asks nothing of labels',
-             'isotone': '`stable`, where all labels are monotone, or `run`, or a policy that keeps the order of routes',
+             'isotone': 'a policy that keeps the order of routes, or `stable`, where all labels are monotone, or `run`',
              'strict': 'a label that makes each route worse, or `stable`, where all labels are monotone, or `run`'}[prop]
     return pointed(name, data, *place, f'this label isn\'t {prop}, which `{command}` needs; take {other}')

@@ -4,11 +4,11 @@ from hints.shown import meant
 
 # What a no means, and what to change, as docs/using.md has it.
 PROPERTIES = {
-    'monotone': 'a label makes a route better, so two routers may have two stable states, which `gadget` shows; look for'
-                ' an `lp` at the front of a `lex`, and for a table row that maps a value to a better one',
+    'monotone': 'a label makes a route better, so two routers may have two stable states, which `gadget` shows; look'
+                ' for an `lp` at the front of a `lex`, and for a table row that maps a value to a better one',
     'strict': 'a label makes a route no worse; with monotone labels there is one stable state all the same, so ask'
-              ' whether monotone is enough; else raise the low number of a range from 0 to 1, or put a strict part last,'
-              ' as in lex(.., add(1..1))',
+              ' whether monotone is enough; else raise the low number of a range from 0 to 1, or put a strict part'
+              ' last, as in lex(.., add(1..1))',
     'isotone': 'a label does not keep the order of two routes; in a `lex`, parts that make different routes equal go'
                ' last, and parts that reject routes go first',
     'cancellative': 'a label makes two routes equally good that were not; by itself that does no harm, and as the first'

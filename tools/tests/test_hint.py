@@ -148,21 +148,49 @@ NETWORKS = [
     ('node a b\nthen drop a b\n', 'N11', '2:1', 'no such arc'),
 ]
 
+# What stands in the place of LIST, and what the hint says of it.
+LISTS = [
+    ('safe', '`safe` is no property: '),
+    ('Strict', '(is `strict` meant?)'),
+    ('isotonic,strict', '(is `isotone` meant?)'),
+    ('total,strict,total', '`total` stands there twice'),
+    ('strict,', 'a comma has no property beside it'),
+    (',strict', 'a comma has no property beside it'),
+    ('strict,,total', 'a comma has no property beside it'),
+    ('monotone, strict', 'no space'),
+    ('', 'the list is empty'),
+]
+
 # Words, and what the hint says of them.
 WORDS = [
     (['chekc', 'f'], 'is `check` meant'),
     (['route', 'f'], 'route FILE NET'),
     (['route', 'f', 'n', '--workers=2'], 'two words'),
-    (['check', 'f', '--workers', '2'], 'check FILE [NET]'),
+    (['check', 'f', '--workers', '2'], 'check FILE [NET] [--require LIST]'),
+    (['check', 'f', '--require=strict'], 'two words, as --require strict'),
+    (['check', 'f', '--require'], 'a flag without its value'),
+    (['route', 'f', 'n', '--require', 'strict'], '`route` doesn\'t have'),
+    (['gadget', 'f', 'n'], 'gadget FILE'),
+    (['stabel', 'f', 'n'], 'is `stable` meant'),
+    (['gadget', 'missing.raml'], 'no such file'),
     (['demo', '1', '1'], '2 to 512'),
     (['check', 'missing.raml'], 'no such file'),
     (['check', '/'], 'a folder'),
     (['check', '-'], '/dev/stdin'),
     (['check', '-h'], 'meta COMMAND --help'),
     (['check', 'f', '--help'], 'meta check --help'),
-    (['run', 'examples/shortest_path.raml', 'examples/diamond.net', '--turns', '0'], '--turns'),
+    (['run', 'examples/shortest_path.raml', 'examples/diamond.net', '--turns', '0'], '--turns N'),
+    (['run', 'examples/shortest_path.raml', 'examples/diamond.net', '--turns', '0'], 'isn\'t monotone'),
     (['route', 'examples/customer_provider.raml', 'examples/providers.net'], 'providers.net:3:12: '),
     (['settle', 'examples/bad_gadget.raml', 'examples/disagree.net'], 'disagree.net:6:12: '),
+    (['settle', 'examples/bad_gadget.raml', 'examples/disagree.net'], 'or `stable`, where all labels are mono'),
+    (['stable', 'examples/bad_gadget.raml', 'examples/disagree.net'], 'disagree.net:6:12: this label isn\'t monotone'),
+    (['check', 'examples/free_links.raml', '--require', 'total,strict'], 'strict is required'),
+    (['check', 'examples/bad_gadget.raml', '--require', 'monotone'], '`gadget` shows'),
+    (['check', 'examples/bad_gadget.raml', 'examples/disagree.net', '--require', 'monotone'], 'monotone is required'),
+    (['check', 'examples/shortest_widest.raml', '--require', 'cancellative,isotone'], 'isotone is required'),
+    (['check', 'examples/shortest_widest.raml', '--require', 'cancellative'], 'cancellative is required'),
+    (['check', 'examples/isis.raml', 'examples/abilene.net', '--require', 'total'], 'total is required'),
 ]
 
 
@@ -173,10 +201,10 @@ class Hints(Folder):
     hints = loaded('hint')
 
     def hint(self, *words):
-        """The line that the program prints first, and the hint after it."""
+        """The line that the program prints last, and the hint after it."""
         os.chdir(TOP)
         status, out, _ = run([built, *words])
-        line, said = out.split('\n')[0], io.StringIO()
+        line, said = out.split('\n')[-2], io.StringIO()
         with contextlib.redirect_stdout(said):
             self.assertEqual(self.hints.main([str(status), line, *words]), 0)
         return line, said.getvalue()
@@ -218,4 +246,12 @@ class Hints(Folder):
 
     def test_words(self):
         for words, advice in WORDS:
-            self.assertIn(advice, self.hint(*words)[1])
+            self.assertIn(advice, self.hint(*words)[1], words)
+
+    def test_lists_of_properties(self):
+        for text, advice in LISTS:
+            for words in (['check', 'f', '--require', text], ['check', '--require', text, 'f', 'n']):
+                line, hint = self.hint(*words)
+                self.assertEqual(line, 'words refused: C6')
+                self.assertIn(advice, hint, words)
+                self.assertIn('monotone, strict, isotone, cancellative and total', hint)

@@ -57,6 +57,16 @@ class Graphviz(Case):
         rows = self.file('route', 'a x 2 a c d\nb x 5 b d\nc x 1 c d\nd x 0 d\n')
         self.assertIn('"b" -> "d" [label="5", color=', self.drawn(example('cut.net'), rows))
 
+    def test_stable_tables(self):
+        """Their rows are drawn as those of route are. A second table of a destination is refused."""
+        net = self.file('n', 'node a b\nlink a b : 1\norigin x at b : 0\norigin y at a : 0\n')
+        first, second = 'a x 1 a b\nb x 0 b\n', 'a y 0 a\nb y none\n'
+        stable = self.file('stable', f'x 1 stable\ntable 1\n{first}y 1 stable\ntable 1\n{second}')
+        self.assertEqual(self.drawn(net, stable), self.drawn(net, self.file('route', first + second)))
+        for text, line in ((f'x 2 stable\ntable 1\n{first}', 1), (f'x 1 stable\ntable 2\n{first}', 2),
+                           (f'z 1 stable\ntable 1\n{first}', 1)):
+            self.refused(net, self.file('r', text), says=f'r:{line}: no row of this network')
+
     def test_standard_input(self):
         for words, text in ((['-'], 'node a b\nlink a b : 7\n'),
                             ([example('diamond.net'), '-'], 'a x 2 a b d\n')):

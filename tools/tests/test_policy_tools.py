@@ -117,7 +117,8 @@ class TestPolicy(Over):
                 'expect a y via b\nexpect c y value 0\n')
         for by in ('stable', 'route', 'run'):
             self.assertEqual(self.outcome(text, '--by', by), (0, '5 passed, 0 failed\n', ''))
-        self.assert_refused('test_policy', [self.file('a.test', text), '--by', 'settle'], 'circle.net: strict fails on a b')
+        path = self.file('a.test', text)
+        self.assert_refused('test_policy', [path, '--by', 'settle'], 'circle.net: strict fails on a b')
 
     def test_failures(self):
         text = ('policy add.raml\nnetwork diamond.net\nexpect verdict strict no\nexpect a x via c\nexpect a x none\n'

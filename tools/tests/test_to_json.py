@@ -164,10 +164,11 @@ class Printed(Folder):
 
     def test_unknown_tables(self):
         for text, line in (('table 1\na x 0 a\n', 1), ('x 1 stable\na x 0 a\n', 2),
-                           ('x 1 stable\ntable 2\na x 0 a\n', 2), ('x 1 stable\ntable 1\na y 0 a\n', 3), ('x 1 stable\ntable 1\na x 0 a\nb y 0 b\n', 4),
+                           ('x 1 stable\ntable 2\na x 0 a\n', 2), ('x 1 stable\ntable 1\na y 0 a\n', 3),
+                           ('x 1 stable\ntable 1\na x 0 a\nb y 0 b\n', 4),
                            ('x 1 stable\ntable 1\na x 0 a\na x 0 a\n', 4), ('x 1 stable\ntable 1\na x 0 b\n', 3),
                            ('x 1 stable\ntable 1\na x 0 a\ntable 2\na x 0 a\n', 4), ('x one stable\n', 1),
-                           ('x 1 stable\ntable 1\na x 0 a\nx 1 stable\ntable 1\na x 0 a\n', 4),
+                           ('x 1 stable\ntable 1\na x 0 a\nx 1 stable\n', 4),
                            ('x 1 stable\ntable 1\ny 1 stable\ntable 1\na y 0 a\n', 2)):
             self.assert_unknown(['stable', 'f', 'n'], text, line)
 
