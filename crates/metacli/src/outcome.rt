@@ -265,7 +265,14 @@ impl Made {
 
     // Nothing.
     fn nothing(alloc: Global) -> Made
-        ensures { result ≡ record { verdicts = None; listing = None; gadget = None; rows = []; journal = []; past = [] } }
+        ensures { result ≡ record {
+          verdicts = None;
+          listing = None;
+          gadget = None;
+          rows = [];
+          journal = [];
+          past = [];
+        } }
     {
         Made {
             verdicts: None,
@@ -279,7 +286,14 @@ impl Made {
 
     // Verdicts.
     fn of_verdicts(alloc: Global, verdicts: Verdicts) -> Made
-        ensures { result ≡ record { verdicts = Some verdicts; listing = None; gadget = None; rows = []; journal = []; past = [] } }
+        ensures { result ≡ record {
+          verdicts = Some verdicts;
+          listing = None;
+          gadget = None;
+          rows = [];
+          journal = [];
+          past = [];
+        } }
     {
         Made {
             verdicts: Some(verdicts),
@@ -293,7 +307,14 @@ impl Made {
 
     // Code.
     fn of_listing(alloc: Global, listing: Listing) -> Made
-        ensures { result ≡ record { verdicts = None; listing = Some listing; gadget = None; rows = []; journal = []; past = [] } }
+        ensures { result ≡ record {
+          verdicts = None;
+          listing = Some listing;
+          gadget = None;
+          rows = [];
+          journal = [];
+          past = [];
+        } }
     {
         Made {
             verdicts: None,
@@ -328,7 +349,14 @@ impl Made {
 
     // Routes.
     fn of_rows(alloc: Global, rows: List<RouteRow>) -> Made
-        ensures { result ≡ record { verdicts = None; listing = None; gadget = None; rows = rows; journal = []; past = [] } }
+        ensures { result ≡ record {
+          verdicts = None;
+          listing = None;
+          gadget = None;
+          rows = rows;
+          journal = [];
+          past = [];
+        } }
     {
         Made {
             verdicts: None,

@@ -191,7 +191,8 @@ fn check_files<S: Shelf>(
     net: &str,
     require: Required,
 ) -> Outcome
-    ensures checked { IsCheckedOn require file.now net.now (S.now_is shelf.old) (S.now_is shelf.new) (pure_outcome result) }
+    ensures checked { IsCheckedOn require file.now net.now (S.now_is shelf.old) (S.now_is shelf.new)
+        (pure_outcome result) }
     ensures printable { CanBeWritten result }
 {
     let alg = match read_expression(alloc, shelf, file) {

@@ -36,11 +36,11 @@ value_after_space : (alg : PureAlg) (text : List ℕ) (v : PureValue) → ValueT
 value_after_space alg text v t = record { shape = t.shape; has = t.has; splits = after_space _ text t.splits; means = t.means }
 
 -- what the laws of literals say
-abbrev pub LabelsAreTold : Type 0
-LabelsAreTold = (greatest : ℕ) (a : Expression) (text : List ℕ) → Tells (spelled_label_to greatest a text) (LabelTextTo greatest a text) (IsLabelFaultTo greatest a text)
+abbrev pub LabelsAreSpelled : Type 0
+LabelsAreSpelled = (greatest : ℕ) (a : Expression) (text : List ℕ) → Tells (spelled_label_to greatest a text) (LabelTextTo greatest a text) (IsLabelFaultTo greatest a text)
 
-abbrev pub ValuesAreTold : Type 0
-ValuesAreTold = (greatest : ℕ) (a : Expression) (text : List ℕ) → Tells (spelled_value_to greatest a text) (ValueTextTo greatest a text) (IsValueFaultTo greatest a text)
+abbrev pub ValuesAreSpelled : Type 0
+ValuesAreSpelled = (greatest : ℕ) (a : Expression) (text : List ℕ) → Tells (spelled_value_to greatest a text) (ValueTextTo greatest a text) (IsValueFaultTo greatest a text)
 
 abbrev pub LabelsAreReadBack : Type 0
 LabelsAreReadBack = (a : PureAlg) (l : PureLabel) → IsFormed a.expression → IsLabel a.expression l → LabelAtMost (greatest_number a.edition) l → LabelText a (label_text a.expression l) l
@@ -53,7 +53,7 @@ pub record AreSpelled (alg : PureAlg) (l : PureLabel) (v : PureValue) : Type 0 w
   pub label : spelled_label alg (32 ∷ label_text alg.expression l) ≡ Ok l
   pub value : spelled_value alg (32 ∷ value_text (carrier_of alg.expression) v) ≡ Ok v
 
-pub are_spelled : LabelsAreTold → ValuesAreTold → LabelsAreReadBack → ValuesAreReadBack → (alg : PureAlg) (l : PureLabel) (v : PureValue) → IsAlg alg → Fits alg l v → AreSpelled alg l v
+pub are_spelled : LabelsAreSpelled → ValuesAreSpelled → LabelsAreReadBack → ValuesAreReadBack → (alg : PureAlg) (l : PureLabel) (v : PureValue) → IsAlg alg → Fits alg l v → AreSpelled alg l v
 are_spelled labels values label_back value_back alg l v a f =
     let label = label_text alg.expression l in
     let value = value_text (carrier_of alg.expression) v in

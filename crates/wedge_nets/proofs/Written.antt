@@ -11,7 +11,7 @@ use Rattle.wedge_nets.specs.GadgetTexts.{wedge_lines}
 seven : (start a b c d e f g : List ℕ) → start ++ a ++ b ++ c ++ d ++ e ++ f ++ g ≡ start ++ (a ++ (b ++ (c ++ (d ++ (e ++ (f ++ (g ++ [])))))))
 seven start a b c d e f g = rw (append-nil g) (simp append_assoc)
 
--- the lines of a wedge, one behind another
+-- the lines of a wedge, one after another
 pub wedge_written : {E : Type 0} (r : Result (Unit {0}) E) (x : Expression) (l : PureLabel) (v : PureValue) (start a b c d e f g : List ℕ)
     → a ≡ start ++ codes "node p q\n" → b ≡ a ++ ended (codes "link p q : " ++ label_text x l)
     → c ≡ b ++ ended (codes "origin x at p : " ++ value_text (carrier_of x) v) → d ≡ c ++ ended (codes "origin x at q : " ++ value_text (carrier_of x) v)

@@ -1,12 +1,10 @@
 // The text of a wedge.
 ghost use Rattle.std.specs.Prelude.{◌≡◌, ◌++◌, OnOk, IfOk, codes};
 ghost use Rattle.meta_base.specs.Appending.{Gains};
-ghost use Rattle.alg_classes.specs.Instances.{pure_instance};
 ghost use Rattle.alg_model.specs.Application.{IsLabel};
 ghost use Rattle.alg_model.specs.Carriers.{carrier_of, In};
 ghost use Rattle.alg_model.specs.Properties.{monotone};
 ghost use Rattle.alg_model.specs.Texts.{label_text, value_text};
-ghost use Rattle.alg_model.specs.Verdicts.{fails};
 ghost use Rattle.alg_model.specs.Views.{pure_label, pure_value};
 ghost use Rattle.property_infer.specs.Views.{pure_verdict};
 ghost use Rattle.report_text.specs.VerdictTexts.{verdict_text};

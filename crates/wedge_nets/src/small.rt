@@ -1,7 +1,7 @@
 // Labels and values without great numbers, made of any.
 ghost use Rattle.std.specs.Prelude.{◌≡◌, IfOk};
 ghost use Rattle.alg_model.specs.Carriers.{carrier_of};
-ghost use Rattle.alg_model.specs.Expressions.{lex, scoped, union, sum, left, pairs, sides, pair, first, second, pair_label, both_label, first_label, second_label};
+ghost use Rattle.alg_model.specs.Expressions.{scoped, union, sum, sides, pair, first, second, pair_label, both_label, first_label, second_label};
 ghost use Rattle.alg_model.specs.Views.{expression_of, pure_value, pure_label};
 ghost use Rattle.settled_laws.specs.SmallInstances.{small_beside, small_label, small_label_on, small_value_under};
 
