@@ -1,4 +1,5 @@
-// Tests of `demo`: summaries of generated networks, worked out from the rule of the generator by hand.
+// Tests of `demo`: summaries of generated networks, worked out from the rule of the generator by hand, and that its
+// networks come to rest.
 use crate::program::{ended_with, run_on};
 use std::test::Fail;
 
@@ -28,6 +29,17 @@ fn summaries_are_printed(rt: HostRuntime) -> Result<(), Fail> {
     ];
     for (seed, nodes, text) in cases {
         assert!(rt; ended_with(run_on(&rt, &["demo", seed, nodes], b"", b"")?, *text, 0));
+    }
+    Ok(())
+}
+
+#[test]
+fn networks_of_each_size_come_to_rest(rt: HostRuntime) -> Result<(), Fail> {
+    for count in 2..513u32 {
+        let nodes = format!(in rt.alloc(); "{count}")?;
+        let outcome = run_on(&rt, &["demo", "1", nodes.as_str()], b"", b"")?;
+        let is_quiet = outcome.taken.as_slice().ends_with(b"\nquiet\n");
+        assert!(rt; is_quiet && outcome.status == 0, "{count} nodes");
     }
     Ok(())
 }

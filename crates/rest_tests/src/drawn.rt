@@ -22,7 +22,7 @@ use test_nodes::{make_delivery, new_nodes, rows_now};
 use test_readers::network;
 use vector_runs::carried_nodes;
 
-const NETWORKS: u32 = 150;
+const NETWORKS: u32 = 1000;
 
 const MOST_DELIVERIES: u64 = 2000;
 
@@ -134,7 +134,7 @@ fn drawn_arc(
     } else {
         arcs.len() - 1
     };
-    Ok(Some(ArcId(arcs[place] as u32)))
+    Ok(Some(arcs[place]))
 }
 
 // Whether as much waits on each arc of the machine as is tracked.
@@ -242,7 +242,7 @@ fn the_sum_falls_with_each_delivery(rt: HostRuntime) -> Result<(), Fail> {
     for _network in 0..NETWORKS {
         follow_drawn(rt.alloc(), &mut draws, &mut tally)?;
     }
-    assert!(rt; tally.made > 1000, "{} deliveries", tally.made);
+    assert!(rt; tally.made > 10_000, "{} deliveries", tally.made);
     for (definition, kept) in DEFINITIONS.iter().zip(tally.kept.iter()) {
         let falls = *kept == 0;
         assert_eq!(rt;
