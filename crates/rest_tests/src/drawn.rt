@@ -1,5 +1,6 @@
 // Tests of drawn schedules: the sum falls with each delivery, by the right definition of it alone.
-ghost use Rattle.std.specs.Prelude.{◌≡◌, OnOk};
+ghost use Rattle.std.specs.Prelude.{◌≡◌, IfOk, OnOk, map};
+ghost use Rattle.node_core.specs.Machine.{AreUnbegun};
 ghost use Rattle.node_core.specs.MachineOf.{machine_of, net_of};
 ghost use Rattle.node_core.specs.Running.{AreUpTo, IsRunning};
 ghost use Rattle.path_vector.specs.Node.{path_vector};
@@ -12,7 +13,7 @@ use crate::networks::{changed_net, drawn_lines};
 use crate::tables::{Table, drawn_table, expression_of};
 use crate::tracked::{Tracked, briefs_of};
 use alg_model::{Algebra, TreeAlgebra};
-use meta_base::ArcId;
+use meta_base::{ArcId, List, NoMemory};
 use net_graph::{Net, RouteRow};
 use node_core::{Config, NodeCore};
 use path_vector::PvNode;
@@ -180,6 +181,21 @@ fn follow<A: Algebra>(
     Err("the run doesn't end".into())
 }
 
+// The nodes of the machine, on a network that differs from theirs in its arcs alone.
+fn carried_from<'a, A: Algebra>(
+    alloc: Global,
+    config: Config<'a, PvNode<'a, A>>,
+    next: &'a Net,
+) -> Result<List<PvNode<'a, A>>, NoMemory>
+    requires running { IsRunning path_vector (net_of config) (machine_of state_of pure_update config) }
+    requires next { next.now ≡ record (net_of config) { arcs = next.now.arcs } }
+    ensures { IfOk result (λ nodes. AreUnbegun path_vector next.now 0 (map state_of nodes)) }
+{
+    let (nodes, _waiting) = config.into_parts();
+    let carried = carried_nodes(alloc, nodes, next)?;
+    Ok(carried)
+}
+
 // Runs the new nodes of the network, and then carries them to the next one, which differs in its arcs alone.
 fn follow_both<A: Algebra>(
     alloc: Global,
@@ -198,8 +214,7 @@ fn follow_both<A: Algebra>(
     let rows = rows_now(alloc, &config)?;
     let mut measured = Measured::of_new(alloc, net, table, rows.as_slice())?;
     follow(alloc, &mut config, table, &mut measured, draws, tally)?;
-    let (nodes, _waiting) = config.into_parts();
-    let nodes = carried_nodes(alloc, nodes, next)?;
+    let nodes = carried_from(alloc, config, next)?;
     let mut config = Config::start(alloc, next, nodes)?;
     let rows = rows_now(alloc, &config)?;
     let mut measured = measured.carried(alloc, next, table, rows.as_slice())?;
