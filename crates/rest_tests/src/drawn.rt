@@ -269,3 +269,64 @@ fn the_sum_falls_with_each_delivery(rt: HostRuntime) -> Result<(), Fail> {
     }
     Ok(())
 }
+
+// The sums of the new nodes of a network, by each definition.
+fn sums_with<A: Algebra>(
+    alloc: Global,
+    algebra: &A,
+    net: &Net,
+    table: &Table,
+) -> Result<Vec<u128>, Fail>
+    requires { A.expression algebra.now ≡ net.now.alg.expression }
+{
+    let nodes = new_nodes(alloc, algebra, net)?;
+    let config = Config::start(alloc, net, nodes)?;
+    let rows = rows_now(alloc, &config)?;
+    Ok(Measured::of_new(alloc, net, table, rows.as_slice())?.sums)
+}
+
+fn sums_on(alloc: Global, net: &Net, table: &Table) -> Result<Vec<u128>, Fail> {
+    sums_with(alloc, &TreeAlgebra::new(net.alg()), net, table)
+}
+
+// The same over the network of these lines, by the table of two values whose one label makes the second of each.
+fn sums_over(alloc: Global, lines: &[u8]) -> Result<Vec<u128>, Fail> {
+    let ranks = Vec::from_slice(alloc, &[0usize, 1])?;
+    let mut labels = Vec::new(alloc);
+    labels.push(Vec::from_slice(alloc, &[Some(1usize), Some(1)])?)?;
+    let table = Table { ranks, labels };
+    let expression = expression_of(alloc, &table)?;
+    let net = network(alloc, expression.as_str(), lines)?;
+    let sums = sums_on(alloc, &net, &table);
+    drop(net);
+    sums
+}
+
+// The lines of a network, and by hand its sums at the start, by each definition. With n nodes the level of none is 2n,
+// by lengths alone n, and the one update that waits has that budget.
+const SUMS: &[(&[u8], [u128; 4])] = &[
+    // The listener speaks to nobody.
+    (
+        b"node n0 n1\nlink n1 n0 : l0\norigin x at n0 : v0\n",
+        [1, 1, 1, 0],
+    ),
+    // Both speak to each other: a budget of 4 is 5 deliveries, and one of 2 is 3.
+    (
+        b"node n0 n1\nlink n1 n0 : l0\nlink n0 n1 : l0\norigin x at n0 : v0\n",
+        [5, 3, 5, 1],
+    ),
+    // The listener speaks to one that speaks to nobody.
+    (
+        b"node n0 n1 n2\nlink n1 n0 : l0\nlink n2 n1 : l0\norigin x at n0 : v0\n",
+        [2, 2, 2, 0],
+    ),
+];
+
+#[test]
+fn sums_are_those_by_hand(rt: HostRuntime) -> Result<(), Fail> {
+    for (lines, sums) in SUMS {
+        let found = sums_over(rt.alloc(), *lines)?;
+        assert_eq!(rt; found.as_slice(), sums.as_slice());
+    }
+    Ok(())
+}
