@@ -1,6 +1,10 @@
-// Tests of `demo`: summaries of generated networks, worked out from the rule of the generator by hand.
+// Tests of `demo`: summaries of generated networks, worked out from the rule of the generator by hand, and that its
+// networks come to rest.
 use crate::program::{ended_with, run_on};
+use std::ops::Range;
+use std::sync::Wait;
 use std::test::Fail;
+use std::thread::Threads;
 
 #[test]
 fn summaries_are_printed(rt: HostRuntime) -> Result<(), Fail> {
@@ -29,5 +33,45 @@ fn summaries_are_printed(rt: HostRuntime) -> Result<(), Fail> {
     for (seed, nodes, text) in cases {
         assert!(rt; ended_with(run_on(&rt, &["demo", seed, nodes], b"", b"")?, *text, 0));
     }
+    Ok(())
+}
+
+// Whether `demo` with a seed is quiet for each of these counts of nodes.
+fn are_quiet(
+    rt: &(impl AllocGlobal + Threads + Wait + Sync),
+    counts: Range<u32>,
+) -> Result<bool, Fail> {
+    for count in counts {
+        let nodes = format!(in rt.alloc(); "{count}")?;
+        let outcome = run_on(rt, &["demo", "1", nodes.as_str()], b"", b"")?;
+        if outcome.status != 0 || !outcome.taken.as_slice().ends_with(b"\nquiet\n") {
+            return Ok(false);
+        }
+    }
+    Ok(true)
+}
+
+// All counts of nodes from 2 to 512, in parts: a build with checks takes half a minute for each.
+#[test]
+fn smallest_networks_come_to_rest(rt: HostRuntime) -> Result<(), Fail> {
+    assert!(rt; are_quiet(&rt, 2..257)?);
+    Ok(())
+}
+
+#[test]
+fn small_networks_come_to_rest(rt: HostRuntime) -> Result<(), Fail> {
+    assert!(rt; are_quiet(&rt, 257..363)?);
+    Ok(())
+}
+
+#[test]
+fn large_networks_come_to_rest(rt: HostRuntime) -> Result<(), Fail> {
+    assert!(rt; are_quiet(&rt, 363..445)?);
+    Ok(())
+}
+
+#[test]
+fn largest_networks_come_to_rest(rt: HostRuntime) -> Result<(), Fail> {
+    assert!(rt; are_quiet(&rt, 445..513)?);
     Ok(())
 }

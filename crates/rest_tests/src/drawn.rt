@@ -1,5 +1,6 @@
 // Tests of drawn schedules: the sum falls with each delivery, by the right definition of it alone.
-ghost use Rattle.std.specs.Prelude.{◌≡◌, OnOk};
+ghost use Rattle.std.specs.Prelude.{◌≡◌, IfOk, OnOk, map};
+ghost use Rattle.node_core.specs.Machine.{AreUnbegun};
 ghost use Rattle.node_core.specs.MachineOf.{machine_of, net_of};
 ghost use Rattle.node_core.specs.Running.{AreUpTo, IsRunning};
 ghost use Rattle.path_vector.specs.Node.{path_vector};
@@ -12,7 +13,7 @@ use crate::networks::{changed_net, drawn_lines};
 use crate::tables::{Table, drawn_table, expression_of};
 use crate::tracked::{Tracked, briefs_of};
 use alg_model::{Algebra, TreeAlgebra};
-use meta_base::ArcId;
+use meta_base::{ArcId, List, NoMemory};
 use net_graph::{Net, RouteRow};
 use node_core::{Config, NodeCore};
 use path_vector::PvNode;
@@ -22,7 +23,7 @@ use test_nodes::{make_delivery, new_nodes, rows_now};
 use test_readers::network;
 use vector_runs::carried_nodes;
 
-const NETWORKS: u32 = 150;
+const NETWORKS: u32 = 1000;
 
 const MOST_DELIVERIES: u64 = 2000;
 
@@ -134,7 +135,7 @@ fn drawn_arc(
     } else {
         arcs.len() - 1
     };
-    Ok(Some(ArcId(arcs[place] as u32)))
+    Ok(Some(arcs[place]))
 }
 
 // Whether as much waits on each arc of the machine as is tracked.
@@ -180,6 +181,21 @@ fn follow<A: Algebra>(
     Err("the run doesn't end".into())
 }
 
+// The nodes of the machine, on a network that differs from theirs in its arcs alone.
+fn carried_from<'a, A: Algebra>(
+    alloc: Global,
+    config: Config<'a, PvNode<'a, A>>,
+    next: &'a Net,
+) -> Result<List<PvNode<'a, A>>, NoMemory>
+    requires running { IsRunning path_vector (net_of config) (machine_of state_of pure_update config) }
+    requires next { next.now ≡ record (net_of config) { arcs = next.now.arcs } }
+    ensures { IfOk result (λ nodes. AreUnbegun path_vector next.now 0 (map state_of nodes)) }
+{
+    let (nodes, _waiting) = config.into_parts();
+    let carried = carried_nodes(alloc, nodes, next)?;
+    Ok(carried)
+}
+
 // Runs the new nodes of the network, and then carries them to the next one, which differs in its arcs alone.
 fn follow_both<A: Algebra>(
     alloc: Global,
@@ -198,8 +214,7 @@ fn follow_both<A: Algebra>(
     let rows = rows_now(alloc, &config)?;
     let mut measured = Measured::of_new(alloc, net, table, rows.as_slice())?;
     follow(alloc, &mut config, table, &mut measured, draws, tally)?;
-    let (nodes, _waiting) = config.into_parts();
-    let nodes = carried_nodes(alloc, nodes, next)?;
+    let nodes = carried_from(alloc, config, next)?;
     let mut config = Config::start(alloc, next, nodes)?;
     let rows = rows_now(alloc, &config)?;
     let mut measured = measured.carried(alloc, next, table, rows.as_slice())?;
@@ -242,7 +257,7 @@ fn the_sum_falls_with_each_delivery(rt: HostRuntime) -> Result<(), Fail> {
     for _network in 0..NETWORKS {
         follow_drawn(rt.alloc(), &mut draws, &mut tally)?;
     }
-    assert!(rt; tally.made > 1000, "{} deliveries", tally.made);
+    assert!(rt; tally.made > 10_000, "{} deliveries", tally.made);
     for (definition, kept) in DEFINITIONS.iter().zip(tally.kept.iter()) {
         let falls = *kept == 0;
         assert_eq!(rt;
@@ -251,6 +266,67 @@ fn the_sum_falls_with_each_delivery(rt: HostRuntime) -> Result<(), Fail> {
             "{definition:?}: {kept} of {}",
             tally.made
         );
+    }
+    Ok(())
+}
+
+// The sums of the new nodes of a network, by each definition.
+fn sums_with<A: Algebra>(
+    alloc: Global,
+    algebra: &A,
+    net: &Net,
+    table: &Table,
+) -> Result<Vec<u128>, Fail>
+    requires { A.expression algebra.now ≡ net.now.alg.expression }
+{
+    let nodes = new_nodes(alloc, algebra, net)?;
+    let config = Config::start(alloc, net, nodes)?;
+    let rows = rows_now(alloc, &config)?;
+    Ok(Measured::of_new(alloc, net, table, rows.as_slice())?.sums)
+}
+
+fn sums_on(alloc: Global, net: &Net, table: &Table) -> Result<Vec<u128>, Fail> {
+    sums_with(alloc, &TreeAlgebra::new(net.alg()), net, table)
+}
+
+// The same over the network of these lines, by the table of two values whose one label makes the second of each.
+fn sums_over(alloc: Global, lines: &[u8]) -> Result<Vec<u128>, Fail> {
+    let ranks = Vec::from_slice(alloc, &[0usize, 1])?;
+    let mut labels = Vec::new(alloc);
+    labels.push(Vec::from_slice(alloc, &[Some(1usize), Some(1)])?)?;
+    let table = Table { ranks, labels };
+    let expression = expression_of(alloc, &table)?;
+    let net = network(alloc, expression.as_str(), lines)?;
+    let sums = sums_on(alloc, &net, &table);
+    drop(net);
+    sums
+}
+
+// The lines of a network, and by hand its sums at the start, by each definition. With n nodes the level of none is 2n,
+// by lengths alone n, and the one update that waits has that budget.
+const SUMS: &[(&[u8], [u128; 4])] = &[
+    // The listener speaks to nobody.
+    (
+        b"node n0 n1\nlink n1 n0 : l0\norigin x at n0 : v0\n",
+        [1, 1, 1, 0],
+    ),
+    // Both speak to each other: a budget of 4 is 5 deliveries, and one of 2 is 3.
+    (
+        b"node n0 n1\nlink n1 n0 : l0\nlink n0 n1 : l0\norigin x at n0 : v0\n",
+        [5, 3, 5, 1],
+    ),
+    // The listener speaks to one that speaks to nobody.
+    (
+        b"node n0 n1 n2\nlink n1 n0 : l0\nlink n2 n1 : l0\norigin x at n0 : v0\n",
+        [2, 2, 2, 0],
+    ),
+];
+
+#[test]
+fn sums_are_those_by_hand(rt: HostRuntime) -> Result<(), Fail> {
+    for (lines, sums) in SUMS {
+        let found = sums_over(rt.alloc(), *lines)?;
+        assert_eq!(rt; found.as_slice(), sums.as_slice());
     }
     Ok(())
 }

@@ -1,4 +1,4 @@
-// Tests of networks on which the deliveries double with each stage: the bound on deliveries is reached by a schedule.
+// Tests of networks on which one schedule takes twice as many deliveries, and three more, with each stage.
 ghost use Rattle.std.specs.Prelude.{◌≡◌};
 ghost use Rattle.node_core.specs.MachineOf.{machine_of, net_of};
 ghost use Rattle.node_core.specs.Running.{AreUpTo, IsRunning};

@@ -1,5 +1,5 @@
-//! The tests of how runs end: drawn networks whose labels are monotone, new and changed, under drawn schedules, with the
-//! sum of the deliveries that are left computed at each delivery by a plain program of its definition; wrong
+//! The tests of how runs end: drawn networks whose labels are monotone, new and changed, under drawn schedules, with
+//! the sum of the deliveries that are left computed at each delivery by a plain program of its definition; wrong
 //! definitions, whose sums don't fall; and networks on which the deliveries double with each stage. It stands on every
 //! library that it tests.
 #![tactic(auto)]

@@ -253,7 +253,7 @@ impl Measure {
             sum = sum.saturating_add(self.left_on(alloc, table, tracked, arc)?);
         }
         if sum == u128::MAX {
-            return Err("the sum is too great to be told".into());
+            return Err("the sum is too great".into());
         }
         Ok(sum)
     }

@@ -183,13 +183,15 @@ impl Tracked {
         Ok(())
     }
 
-    // The numbers of the arcs on which something waits.
-    pub(crate) fn waiting(&self, alloc: Global) -> Result<Vec<usize>, Fail> {
+    // The arcs on which something waits.
+    pub(crate) fn waiting(&self, alloc: Global) -> Result<Vec<ArcId>, Fail> {
         let mut arcs = Vec::new(alloc);
-        for (arc, link) in self.links.iter().enumerate() {
+        let mut id = 0u32;
+        for link in &self.links {
             if !link.waits.is_empty() {
-                arcs.push(arc)?;
+                arcs.push(ArcId(id))?;
             }
+            id = id.wrapping_add(1);
         }
         Ok(arcs)
     }
