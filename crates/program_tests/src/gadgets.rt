@@ -1,5 +1,5 @@
-// Tests of `gadget`: the network of two routers with which a policy that isn't monotone is shown, by its form, since any
-// label and value that violate monotone may stand in it; and what its runs come to.
+// Tests of `gadget`: the network of two routers that shows that a policy isn't monotone, by its form, since any label
+// and value that violate monotone may stand in it; and what its runs come to.
 use crate::program::{CUSTOMERS, ended_with, run, run_on};
 use crate::runs::WORKERS;
 use std::alloc::{AllocGlobal, Global};
@@ -92,8 +92,8 @@ fn has_memory(rt: &(impl AllocGlobal + Threads + Wait + Sync), file: &[u8]) -> R
     Ok(true)
 }
 
-// Policies of each operator that can have a label that isn't monotone. Those of `left` with the greatest numbers fail to
-// be on values with numbers alone that no file can hold.
+// Policies of each operator that can have a label that isn't monotone. The greatest label of `left` violates
+// monotone only with values that no file can hold.
 const POLICIES: &[&str] = &[
     "main lp(3);",
     "main table { o < a < d; D: o -> d; N: d -> a };",

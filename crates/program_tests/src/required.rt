@@ -18,31 +18,24 @@ fn ended_after_verdicts(
     }
 }
 
-// Ends that aren't those of a required property that fails.
-const OTHER_ENDS: &[(&[u8], u8)] = &[
-    (
-        b"monotone yes\nstrict no: 0 on 0 gives 0\nisotone yes\ncancellative yes\ntotal yes\n",
-        3,
-    ),
-    (
-        b"monotone yes\nstrict no: 0 on 0 gives 0\nisotone yes\ncancellative yes\ntotal yes\nrequired: strict\n",
-        0,
-    ),
-    (
-        b"monotone yes\nstrict no: 0 on 0 gives 0\nisotone yes\ncancellative yes\ntotal yes\nrequired: total\n",
-        3,
-    ),
-    (
-        b"monotone yes\nstrict no: 0 on 0 gives 0\nisotone yes\ncancellative yes\ntotal yes\nrequired: total\nrequired: strict\n",
-        3,
-    ),
-    (b"required: strict\n", 3),
+// What `check` prints where not strict alone fails.
+const NO_STRICT: &str =
+    "monotone yes\nstrict no: 0 on 0 gives 0\nisotone yes\ncancellative yes\ntotal yes\n";
+
+// Verdicts, what stands after them, and a status, that don't say that strict is required and fails.
+const OTHER_ENDS: &[(&str, &str, u8)] = &[
+    (NO_STRICT, "", 3),
+    (NO_STRICT, "required: strict\n", 0),
+    (NO_STRICT, "required: total\n", 3),
+    (NO_STRICT, "required: total\nrequired: strict\n", 3),
+    ("", "required: strict\n", 3),
 ];
 
 #[test]
 fn other_ends_are_told_apart(rt: HostRuntime) -> Result<(), Fail> {
-    for (taken, status) in OTHER_ENDS {
-        let outcome = outcome_of(rt.alloc(), *taken, *status)?;
+    for (verdicts, line, status) in OTHER_ENDS {
+        let text = format!(in rt.alloc(); "{verdicts}{line}")?;
+        let outcome = outcome_of(rt.alloc(), text.as_bytes(), *status)?;
         assert!(rt; !ended_after_verdicts(outcome, "y-yyy", "required: strict\n", 3)?);
     }
     Ok(())
