@@ -9,4 +9,6 @@ mod algebras;
 #[cfg(test)]
 mod classes;
 #[cfg(test)]
+mod pairs;
+#[cfg(test)]
 mod properties;

@@ -47,12 +47,12 @@ right(cap(2; 0..0)) | 0 1 2 | keep
 right(lp(0)) | 0 | keep";
 
 // The cases, in a call, so that no proof looks into them.
-fn small_algebras() -> &'static str {
+pub(crate) fn small_algebras() -> &'static str {
     SMALL_ALGEBRAS
 }
 
 // The text of the label's image of the value, or `none`.
-fn image(alloc: Global, alg: &Alg, label: &str, value: &str) -> Result<String, Fail> {
+pub(crate) fn image(alloc: Global, alg: &Alg, label: &str, value: &str) -> Result<String, Fail> {
     let text = match image_text(alloc, alg, label, value)? {
         Some(text) => format!(in alloc; "{}", text.as_str())?,
         None => format!(in alloc; "none")?,
@@ -61,7 +61,7 @@ fn image(alloc: Global, alg: &Alg, label: &str, value: &str) -> Result<String, F
 }
 
 // How two values compare, of which none is worse than each other.
-fn compare(alloc: Global, alg: &Alg, u: &str, v: &str) -> Result<Ordering, Fail> {
+pub(crate) fn compare(alloc: Global, alg: &Alg, u: &str, v: &str) -> Result<Ordering, Fail> {
     match (u == "none", v == "none") {
         (true, true) => Ok(Ordering::Equal),
         (true, false) => Ok(Ordering::Greater),
@@ -133,7 +133,7 @@ fn all_have(
 }
 
 // Whether the property is inferred.
-fn is_inferred(alloc: Global, alg: &Alg, property: Property) -> Result<bool, NoMemory> {
+pub(crate) fn is_inferred(alloc: Global, alg: &Alg, property: Property) -> Result<bool, NoMemory> {
     let verdicts = verdicts(alloc, alg)?;
     Ok(matches!(verdicts.on(property), Verdict::Yes))
 }

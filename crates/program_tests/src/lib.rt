@@ -8,14 +8,20 @@ mod codes;
 #[cfg(test)]
 mod demos;
 #[cfg(test)]
+mod gadgets;
+#[cfg(test)]
 mod host;
 #[cfg(test)]
 mod program;
+#[cfg(test)]
+mod required;
 #[cfg(test)]
 mod routes;
 #[cfg(test)]
 mod runs;
 #[cfg(test)]
 mod settled;
+#[cfg(test)]
+mod stable;
 #[cfg(test)]
 mod tables;

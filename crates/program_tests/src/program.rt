@@ -2,7 +2,7 @@
 use meta_base::{
     List, MAX_FILE_BYTES, MemFile, MemShelf, MemSink, NoMemory, OpenGate, Shelf, Sink, Text,
 };
-use metacli::{Command, read_words, run_meta, status};
+use metacli::{Command, Required, read_words, run_meta, status};
 use std::alloc::Global;
 use std::str;
 use std::sync::Wait;
@@ -38,10 +38,11 @@ struct Around<'a> {
     bite: usize,
 }
 
-// How much the sink takes at a time where that is of no matter, and what it has room for.
+// How much the sink takes at a time where that is of no matter, and what it has room for: eight of the longest lines of
+// a network file.
 const BITE: usize = 100;
 
-const ROOM: usize = 1000;
+const ROOM: usize = 32768;
 
 fn list_of<T: Copy>(alloc: Global, items: &[T]) -> Result<List<T>, NoMemory> {
     Ok(List::from_vec(Vec::from_slice(alloc, items)?))
@@ -91,7 +92,7 @@ fn run_around(
 }
 
 // A run of these words without a fault.
-fn run(
+pub(crate) fn run(
     rt: &(impl AllocGlobal + Threads + Wait + Sync),
     words: &[&str],
     file: &[u8],
@@ -192,7 +193,7 @@ fn strict_fails_on_zero(rt: HostRuntime) -> Result<(), Fail> {
 }
 
 // Each fault of words, by its number. A fault is looked for only where the words have none of those in front of
-// it: no command, an unknown one, a bad flag, a wrong count, a bad number.
+// it: no command, an unknown one, a bad flag, a wrong count, a bad number or list.
 #[test]
 fn words_are_refused(rt: HostRuntime) -> Result<(), Fail> {
     let refused: &[(&[u8], &[&[&str]])] = &[
@@ -214,6 +215,13 @@ fn words_are_refused(rt: HostRuntime) -> Result<(), Fail> {
                 &["run", "f", "n", "--turns"],
                 &["route", "f", "--workers", "n"],
                 &["route", "f", "--workers", "x"],
+                &["stable", "f"],
+                &["gadget"],
+                &["gadget", "f", "n"],
+                &["check", "f", "--require"],
+                &["check", "--require", "strict"],
+                &["check", "--require", "safe"],
+                &["check", "a", "b", "c", "--require", ""],
             ],
         ),
         (
@@ -248,6 +256,30 @@ fn words_are_refused(rt: HostRuntime) -> Result<(), Fail> {
                 &["check", "f", "--workers", "2"],
                 &["settle", "f", "n", "--workers", "2"],
                 &["demo", "1", "2", "--turns", "3"],
+                &["check", "f", "--require", "strict", "--require", "total"],
+                &["code", "f", "--require", "strict"],
+                &["gadget", "f", "--require", "strict"],
+                &["route", "f", "n", "--require", "safe"],
+                &["stable", "f", "n", "--workers", "2"],
+            ],
+        ),
+        (
+            b"words refused: C6\n",
+            &[
+                &["check", "f", "--require", ""],
+                &["check", "f", "--require", ","],
+                &["check", "f", "--require", "safe"],
+                &["check", "f", "--require", "Strict"],
+                &["check", "f", "--require", "stric"],
+                &["check", "f", "--require", "stricter"],
+                &["check", "f", "--require", "strict,"],
+                &["check", "f", "--require", ",strict"],
+                &["check", "f", "--require", "strict, total"],
+                &["check", "f", "--require", "strict,,total"],
+                &["check", "f", "--require", "total,safe"],
+                &["check", "f", "--require", "strict,strict"],
+                &["check", "f", "--require", "strict,total,strict"],
+                &["check", "f", "--require", "--require"],
             ],
         ),
     ];
@@ -269,19 +301,50 @@ fn words_mean(alloc: Global, words: &[&str], command: Command) -> Result<bool, F
     Ok(read_words(&texts) == Ok(command))
 }
 
+// `check` with these places of its files, and the marked properties required.
+fn check_of(file: usize, net: Option<usize>, marks: &str) -> Command {
+    let marks = marks.as_bytes();
+    let is_marked = |place: usize| marks.get(place) == Some(&b'y');
+    Command::Check {
+        file,
+        net,
+        require: Required {
+            monotone: is_marked(0),
+            strict: is_marked(1),
+            isotone: is_marked(2),
+            cancellative: is_marked(3),
+            total: is_marked(4),
+        },
+    }
+}
+
 // The places of the files are told from the arguments, wherever flags and their values stand.
 #[test]
 fn words_mean_commands(rt: HostRuntime) -> Result<(), Fail> {
     let route = |file, net, workers| Command::Route { file, net, workers };
     let meant: &[(&[&str], Command)] = &[
-        (&["check", "f"], Command::Check { file: 1, net: None }),
+        (&["check", "f"], check_of(1, None, "")),
+        (&["check", "f", "n"], check_of(1, Some(2), "")),
         (
-            &["check", "f", "n"],
-            Command::Check {
-                file: 1,
-                net: Some(2),
-            },
+            &["check", "f", "--require", "isotone"],
+            check_of(1, None, "--y--"),
         ),
+        (
+            &["check", "--require", "total,strict", "f", "n"],
+            check_of(3, Some(4), "-y--y"),
+        ),
+        (
+            &[
+                "check",
+                "f",
+                "--require",
+                "total,cancellative,isotone,strict,monotone",
+                "n",
+            ],
+            check_of(1, Some(4), "yyyyy"),
+        ),
+        (&["gadget", "f"], Command::Gadget { file: 1 }),
+        (&["stable", "f", "n"], Command::Stable { file: 1, net: 2 }),
         (&["route", "f", "n"], route(1, 2, 4)),
         (&["route", "--workers", "2", "f", "n"], route(3, 4, 2)),
         (&["route", "f", "--workers", "16", "n"], route(1, 4, 16)),
@@ -306,8 +369,18 @@ fn words_mean_commands(rt: HostRuntime) -> Result<(), Fail> {
 
 #[test]
 fn other_commands_are_told_apart(rt: HostRuntime) -> Result<(), Fail> {
-    let check = Command::Check { file: 1, net: None };
-    let others: &[&[&str]] = &[&["check", "f", "n"], &["settle", "f", "n"], &["check"], &[]];
+    let check = Command::Check {
+        file: 1,
+        net: None,
+        require: Required::default(),
+    };
+    let others: &[&[&str]] = &[
+        &["check", "f", "n"],
+        &["check", "f", "--require", "total"],
+        &["settle", "f", "n"],
+        &["check"],
+        &[],
+    ];
     for words in others {
         assert!(rt; !words_mean(rt.alloc(), *words, check)?, "{words:?}");
     }
@@ -345,7 +418,7 @@ const PROPERTIES: [&str; 5] = ["monotone", "strict", "isotone", "cancellative", 
 
 // Whether the five lines say of each property that it holds, where it is marked `y`, and else deny it with an
 // instance.
-fn says(text: &str, marks: &str) -> Result<bool, Fail> {
+pub(crate) fn says(text: &str, marks: &str) -> Result<bool, Fail> {
     for ((line, property), mark) in text.lines().zip(PROPERTIES).zip(marks.chars()) {
         let rest = line.strip_prefix(property).ok_or("another property")?;
         if (mark == 'y') != (rest == " yes") || (mark != 'y') != rest.starts_with(" no: ") {

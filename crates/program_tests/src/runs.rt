@@ -5,7 +5,7 @@ use crate::settled::{DIAMOND, PROVIDERS, SHORTEST, UNHEARD, WIDE_THEN_SHORT};
 use std::str;
 use std::test::Fail;
 
-const WORKERS: [&str; 4] = ["1", "2", "4", "16"];
+pub(crate) const WORKERS: [&str; 4] = ["1", "2", "4", "16"];
 
 const HOPS: &[u8] = b"main add(1..1);";
 
@@ -293,7 +293,7 @@ fn bad_gadgets_use_all_turns(rt: HostRuntime) -> Result<(), Fail> {
 
 // Each of p and q likes the way by the other one best. So there are two stable tables, and the nodes may never come
 // to either.
-const DISAGREE: &[u8] = b"node z p q
+pub(crate) const DISAGREE: &[u8] = b"node z p q
 link p z : D
 link q z : D
 link p q : N
