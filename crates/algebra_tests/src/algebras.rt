@@ -156,15 +156,22 @@ fn sums_pass_a_word(alloc: Global, alg: &Alg) -> Result<bool, NoMemory>
     Ok(matches!(image, Some(Value::Number(18_446_744_073_709_551_617))))
 }
 
+// Whether a copy of the algebra is `add(1..1)` in profile 2.
+fn is_copied(alloc: Global, alg: &Alg) -> Result<bool, NoMemory> {
+    let copied = alg.copy_part(alloc, alg.tree())?;
+    let is_same = matches!(copied.tree(), Tree::Add { low: 1, high: 1 });
+    let edition = copied.edition();
+    drop(copied);
+    Ok(is_same && edition == Edition::Two)
+}
+
 #[test]
 fn trees_are_carried_out(rt: HostRuntime) -> Result<(), Fail> {
     let alg = Alg::checked_in(Tree::Add { low: 1, high: 1 }, Edition::Two)?;
-    let copied = alg.copy_part(rt.alloc(), alg.tree())?;
+    let is_copied = is_copied(rt.alloc(), &alg);
     let is_sum = sums_pass_a_word(rt.alloc(), &alg);
     drop(alg);
-    assert!(rt; is_sum?);
-    assert!(rt; matches!(copied.tree(), Tree::Add { low: 1, high: 1 }));
-    assert_eq!(rt; copied.edition(), Edition::Two);
+    assert!(rt; is_copied? && is_sum?);
     Ok(())
 }
 
@@ -222,17 +229,50 @@ fn some_value(alloc: Global, alg: &Alg) -> Result<Value, NoMemory> {
     carrier_of(alloc, alg)?.member(alloc)
 }
 
+// Whether the algebra has the numbers up to 5 for its values.
+fn is_up_to_five(alloc: Global, alg: &Alg) -> Result<bool, NoMemory> {
+    let is_carrier = matches!(carrier_of(alloc, alg)?, Carrier::UpTo(5));
+    Ok(is_carrier && value_in(alg, &Value::Number(5)) && !value_in(alg, &Value::Number(6)))
+}
+
+// Whether the algebra has the one value for its values, and the labels of `gate`.
+fn is_gate(alloc: Global, alg: &Alg) -> Result<bool, NoMemory> {
+    let is_unit = matches!(some_value(alloc, alg)?, Value::Unit);
+    Ok(is_unit && label_in(alg, &Label::Deny) && !label_in(alg, &Label::Keep))
+}
+
+// Whether the algebra of the expression has the other's carrier.
+fn has_carrier_of(alloc: Global, expression: &str, other: &Alg) -> Result<bool, Fail> {
+    let alg = algebra(alloc, expression)?;
+    let is_same = same_carrier(&alg, other);
+    drop(alg);
+    Ok(is_same)
+}
+
+// Whether the algebra has the numbers up to 5 for its values, as `op(5)` has and `gate` hasn't.
+fn is_carrier_of_op(alloc: Global, alg: &Alg) -> Result<bool, Fail> {
+    Ok(
+        is_up_to_five(alloc, alg)?
+            && has_carrier_of(alloc, "op(5)", alg)?
+            && !has_carrier_of(alloc, "gate", alg)?,
+    )
+}
+
 #[test]
 fn carriers_and_members(rt: HostRuntime) -> Result<(), Fail> {
-    let alloc = rt.alloc();
-    let cap = algebra(alloc, "cap(5; 1..1)")?;
-    let gate = algebra(alloc, "gate")?;
-    assert!(rt; matches!(carrier_of(alloc, &cap)?, Carrier::UpTo(5)));
-    assert!(rt; matches!(some_value(alloc, &gate)?, Value::Unit));
-    assert!(rt; same_carrier(&cap, &algebra(alloc, "op(5)")?));
-    assert!(rt; !same_carrier(&cap, &gate));
-    assert!(rt; label_in(&gate, &Label::Deny) && !label_in(&gate, &Label::Keep));
-    assert!(rt; value_in(&cap, &Value::Number(5)) && !value_in(&cap, &Value::Number(6)));
+    let cap = algebra(rt.alloc(), "cap(5; 1..1)")?;
+    let is_carrier = is_carrier_of_op(rt.alloc(), &cap);
+    drop(cap);
+    assert!(rt; is_carrier?);
+    Ok(())
+}
+
+#[test]
+fn gates_have_one_value(rt: HostRuntime) -> Result<(), Fail> {
+    let gate = algebra(rt.alloc(), "gate")?;
+    let is_gate = is_gate(rt.alloc(), &gate);
+    drop(gate);
+    assert!(rt; is_gate?);
     Ok(())
 }
 

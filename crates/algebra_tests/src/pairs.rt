@@ -131,14 +131,17 @@ fn decide_as_inferred(alloc: Global, case: &str) -> Result<bool, Fail> {
     let (expression, rest) = case.split_once(" | ").ok_or("no values")?;
     let (values, labels) = rest.split_once(" | ").ok_or("no labels")?;
     let alg = algebra(alloc, expression)?;
+    let decided = decide_on(alloc, &alg, labels, values);
+    drop(alg);
+    decided
+}
+
+// The same of the algebra, and of its labels and values.
+fn decide_on(alloc: Global, alg: &Alg, labels: &str, values: &str) -> Result<bool, Fail> {
     let mut are_all_one = true;
     for label in labels.split(' ') {
         for value in values.split(' ') {
-            let pair = Pair {
-                alg: &alg,
-                label,
-                value,
-            };
+            let pair = Pair { alg, label, value };
             let violates = violates(alloc, pair)?;
             if stable_tables(alloc, pair)? != if violates { 2 } else { 1 } {
                 return Ok(false);
@@ -146,7 +149,7 @@ fn decide_as_inferred(alloc: Global, case: &str) -> Result<bool, Fail> {
             are_all_one = are_all_one && !violates;
         }
     }
-    Ok(is_inferred(alloc, &alg, Property::Monotone)? == are_all_one)
+    Ok(is_inferred(alloc, alg, Property::Monotone)? == are_all_one)
 }
 
 #[test]

@@ -111,12 +111,23 @@ fn find_tables<R: AllocGlobal + Threads + Sync>(
     Ok(are_tables(tables.as_slice(), expected))
 }
 
+// The same on the square, which is dropped at one exit alone: what a network owns makes each exit dear to prove.
+fn find_on_square<R: AllocGlobal + Threads + Sync>(
+    rt: &R,
+    workers: u32,
+    expected: &[&[Found]],
+) -> Result<bool, Fail> {
+    let net = network(rt.alloc(), "add(0..9)", SQUARE)?;
+    let found = find_tables(rt, &net, workers, expected);
+    drop(net);
+    found
+}
+
 #[test]
 fn workers_find_the_same_tables(rt: HostRuntime) -> Result<(), Fail> {
-    let net = network(rt.alloc(), "add(0..9)", SQUARE)?;
     for workers in [1, 2, 3, 16] {
         assert!(rt;
-            find_tables(&rt, &net, workers, SQUARE_TABLES)?,
+            find_on_square(&rt, workers, SQUARE_TABLES)?,
             "by {workers} workers"
         );
     }
@@ -125,9 +136,8 @@ fn workers_find_the_same_tables(rt: HostRuntime) -> Result<(), Fail> {
 
 #[test]
 fn other_tables_are_told_apart(rt: HostRuntime) -> Result<(), Fail> {
-    let net = network(rt.alloc(), "add(0..9)", SQUARE)?;
     for expected in OTHER_TABLES {
-        assert!(rt; !find_tables(&rt, &net, 1, *expected)?);
+        assert!(rt; !find_on_square(&rt, 1, *expected)?);
     }
     Ok(())
 }
@@ -142,7 +152,29 @@ fn many_dests(alloc: Global, count: usize) -> Result<Net, Fail> {
     network(alloc, "add(0..9)", &text)
 }
 
-// Whether so many workers find the tables of so many destinations, in order, and as many as expected.
+// Whether these are the tables of the first destinations, in order, each with its number for its value.
+fn are_in_order(tables: &[DestTable]) -> bool {
+    for (dest, table) in tables.iter().enumerate() {
+        if !is_table(table, dest, &[(dest as Amount, &[0])]) {
+            return false;
+        }
+    }
+    true
+}
+
+// Whether so many workers find as many tables of the network as expected, in order.
+fn find_so_many<R: AllocGlobal + Threads + Sync>(
+    rt: &R,
+    net: &Net,
+    workers: u32,
+    expected: usize,
+) -> Result<bool, Fail> {
+    let tables = tables_by(rt, net, workers)?;
+    let tables = tables.as_slice();
+    Ok(tables.len() == expected && are_in_order(tables))
+}
+
+// The same on a network of so many destinations.
 fn find_in_order<R: AllocGlobal + Threads + Sync>(
     rt: &R,
     dests: usize,
@@ -150,13 +182,9 @@ fn find_in_order<R: AllocGlobal + Threads + Sync>(
     expected: usize,
 ) -> Result<bool, Fail> {
     let net = many_dests(rt.alloc(), dests)?;
-    let tables = tables_by(rt, &net, workers)?;
-    for (dest, table) in tables.as_slice().iter().enumerate() {
-        if !is_table(table, dest, &[(dest as Amount, &[0])]) {
-            return Ok(false);
-        }
-    }
-    Ok(tables.as_slice().len() == expected)
+    let found = find_so_many(rt, &net, workers, expected);
+    drop(net);
+    found
 }
 
 #[test]
