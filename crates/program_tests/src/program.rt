@@ -194,96 +194,97 @@ fn strict_fails_on_zero(rt: HostRuntime) -> Result<(), Fail> {
 
 // Each fault of words, by its number. A fault is looked for only where the words have none of those in front of
 // it: no command, an unknown one, a bad flag, a wrong count, a bad number or list.
+const REFUSED_WORDS: &[(&[u8], &[&[&str]])] = &[
+    (b"words refused: C1\n", &[&[]]),
+    (
+        b"words refused: C2\n",
+        &[&["walk", "f"], &["--help"], &["Check", "f"], &[""]],
+    ),
+    (
+        b"words refused: C3\n",
+        &[
+            &["check"],
+            &["check", "a", "b", "c"],
+            &["route", "f"],
+            &["route", "f", "n", "n"],
+            &["settle", "f"],
+            &["demo", "1"],
+            &["route", "f", "n", "--workers"],
+            &["run", "f", "n", "--turns"],
+            &["route", "f", "--workers", "n"],
+            &["route", "f", "--workers", "x"],
+            &["stable", "f"],
+            &["gadget"],
+            &["gadget", "f", "n"],
+            &["check", "f", "--require"],
+            &["check", "--require", "strict"],
+            &["check", "--require", "safe"],
+            &["check", "a", "b", "c", "--require", ""],
+        ],
+    ),
+    (
+        b"words refused: C4\n",
+        &[
+            &["route", "f", "n", "--workers", "0"],
+            &["run", "f", "n", "--turns", "1000001"],
+            &["trace", "f", "n", "--turns", "-1"],
+            &["route", "f", "n", "--workers", "17"],
+            &["route", "f", "n", "--workers", "x"],
+            &["route", "f", "n", "--workers", ""],
+            &["route", "f", "n", "--workers", "+4"],
+            &["route", "f", "n", "--workers", "000000000000000000004"],
+            &["route", "f", "n", "--workers", "99999999999999999999"],
+            &["route", "f", "--workers", "--workers", "n"],
+            &["demo", "1", "1"],
+            &["demo", "1", "513"],
+            &["demo", "x", "2"],
+            &["demo", "18446744073709551616", "2"],
+        ],
+    ),
+    (
+        b"words refused: C5\n",
+        &[
+            &["route", "f", "n", "--workers=4"],
+            &["route", "f", "n", "--turns", "4"],
+            &["run", "f", "n", "--turns", "4", "--turns", "4"],
+            &["route", "f", "n", "--"],
+            &["route", "--"],
+            &["route", "f", "n", "--workers", "2", "--workers", "3"],
+            &["route", "f", "n", "--workers", "2", "--workers"],
+            &["check", "f", "--workers", "2"],
+            &["settle", "f", "n", "--workers", "2"],
+            &["demo", "1", "2", "--turns", "3"],
+            &["check", "f", "--require", "strict", "--require", "total"],
+            &["code", "f", "--require", "strict"],
+            &["gadget", "f", "--require", "strict"],
+            &["route", "f", "n", "--require", "safe"],
+            &["stable", "f", "n", "--workers", "2"],
+        ],
+    ),
+    (
+        b"words refused: C6\n",
+        &[
+            &["check", "f", "--require", ""],
+            &["check", "f", "--require", ","],
+            &["check", "f", "--require", "safe"],
+            &["check", "f", "--require", "Strict"],
+            &["check", "f", "--require", "stric"],
+            &["check", "f", "--require", "stricter"],
+            &["check", "f", "--require", "strict,"],
+            &["check", "f", "--require", ",strict"],
+            &["check", "f", "--require", "strict, total"],
+            &["check", "f", "--require", "strict,,total"],
+            &["check", "f", "--require", "total,safe"],
+            &["check", "f", "--require", "strict,strict"],
+            &["check", "f", "--require", "strict,total,strict"],
+            &["check", "f", "--require", "--require"],
+        ],
+    ),
+];
+
 #[test]
 fn words_are_refused(rt: HostRuntime) -> Result<(), Fail> {
-    let refused: &[(&[u8], &[&[&str]])] = &[
-        (b"words refused: C1\n", &[&[]]),
-        (
-            b"words refused: C2\n",
-            &[&["walk", "f"], &["--help"], &["Check", "f"], &[""]],
-        ),
-        (
-            b"words refused: C3\n",
-            &[
-                &["check"],
-                &["check", "a", "b", "c"],
-                &["route", "f"],
-                &["route", "f", "n", "n"],
-                &["settle", "f"],
-                &["demo", "1"],
-                &["route", "f", "n", "--workers"],
-                &["run", "f", "n", "--turns"],
-                &["route", "f", "--workers", "n"],
-                &["route", "f", "--workers", "x"],
-                &["stable", "f"],
-                &["gadget"],
-                &["gadget", "f", "n"],
-                &["check", "f", "--require"],
-                &["check", "--require", "strict"],
-                &["check", "--require", "safe"],
-                &["check", "a", "b", "c", "--require", ""],
-            ],
-        ),
-        (
-            b"words refused: C4\n",
-            &[
-                &["route", "f", "n", "--workers", "0"],
-                &["run", "f", "n", "--turns", "1000001"],
-                &["trace", "f", "n", "--turns", "-1"],
-                &["route", "f", "n", "--workers", "17"],
-                &["route", "f", "n", "--workers", "x"],
-                &["route", "f", "n", "--workers", ""],
-                &["route", "f", "n", "--workers", "+4"],
-                &["route", "f", "n", "--workers", "000000000000000000004"],
-                &["route", "f", "n", "--workers", "99999999999999999999"],
-                &["route", "f", "--workers", "--workers", "n"],
-                &["demo", "1", "1"],
-                &["demo", "1", "513"],
-                &["demo", "x", "2"],
-                &["demo", "18446744073709551616", "2"],
-            ],
-        ),
-        (
-            b"words refused: C5\n",
-            &[
-                &["route", "f", "n", "--workers=4"],
-                &["route", "f", "n", "--turns", "4"],
-                &["run", "f", "n", "--turns", "4", "--turns", "4"],
-                &["route", "f", "n", "--"],
-                &["route", "--"],
-                &["route", "f", "n", "--workers", "2", "--workers", "3"],
-                &["route", "f", "n", "--workers", "2", "--workers"],
-                &["check", "f", "--workers", "2"],
-                &["settle", "f", "n", "--workers", "2"],
-                &["demo", "1", "2", "--turns", "3"],
-                &["check", "f", "--require", "strict", "--require", "total"],
-                &["code", "f", "--require", "strict"],
-                &["gadget", "f", "--require", "strict"],
-                &["route", "f", "n", "--require", "safe"],
-                &["stable", "f", "n", "--workers", "2"],
-            ],
-        ),
-        (
-            b"words refused: C6\n",
-            &[
-                &["check", "f", "--require", ""],
-                &["check", "f", "--require", ","],
-                &["check", "f", "--require", "safe"],
-                &["check", "f", "--require", "Strict"],
-                &["check", "f", "--require", "stric"],
-                &["check", "f", "--require", "stricter"],
-                &["check", "f", "--require", "strict,"],
-                &["check", "f", "--require", ",strict"],
-                &["check", "f", "--require", "strict, total"],
-                &["check", "f", "--require", "strict,,total"],
-                &["check", "f", "--require", "total,safe"],
-                &["check", "f", "--require", "strict,strict"],
-                &["check", "f", "--require", "strict,total,strict"],
-                &["check", "f", "--require", "--require"],
-            ],
-        ),
-    ];
-    for (text, lists) in refused {
+    for (text, lists) in REFUSED_WORDS {
         for words in *lists {
             let outcome = run(&rt, *words, b"main add(1..10);")?;
             assert!(rt; ended_with(outcome, *text, 1), "{words:?}");
@@ -318,31 +319,35 @@ fn check_of(file: usize, net: Option<usize>, marks: &str) -> Command {
     }
 }
 
+// The properties that are required are those of the list, in whatever order.
+#[test]
+fn words_mean_checks(rt: HostRuntime) -> Result<(), Fail> {
+    let all = "total,cancellative,isotone,strict,monotone";
+    let meant: &[(&[&str], usize, Option<usize>, &str)] = &[
+        (&["check", "f"], 1, None, "-----"),
+        (&["check", "f", "n"], 1, Some(2), "-----"),
+        (&["check", "f", "--require", "monotone"], 1, None, "y----"),
+        (&["check", "f", "--require", "isotone"], 1, None, "--y--"),
+        (
+            &["check", "--require", "total,strict", "f", "n"],
+            3,
+            Some(4),
+            "-y--y",
+        ),
+        (&["check", "f", "--require", all, "n"], 1, Some(4), "yyyyy"),
+    ];
+    for (words, file, net, marks) in meant {
+        let command = check_of(*file, *net, *marks);
+        assert!(rt; words_mean(rt.alloc(), *words, command)?, "{words:?}");
+    }
+    Ok(())
+}
+
 // The places of the files are told from the arguments, wherever flags and their values stand.
 #[test]
 fn words_mean_commands(rt: HostRuntime) -> Result<(), Fail> {
     let route = |file, net, workers| Command::Route { file, net, workers };
     let meant: &[(&[&str], Command)] = &[
-        (&["check", "f"], check_of(1, None, "")),
-        (&["check", "f", "n"], check_of(1, Some(2), "")),
-        (
-            &["check", "f", "--require", "isotone"],
-            check_of(1, None, "--y--"),
-        ),
-        (
-            &["check", "--require", "total,strict", "f", "n"],
-            check_of(3, Some(4), "-y--y"),
-        ),
-        (
-            &[
-                "check",
-                "f",
-                "--require",
-                "total,cancellative,isotone,strict,monotone",
-                "n",
-            ],
-            check_of(1, Some(4), "yyyyy"),
-        ),
         (&["gadget", "f"], Command::Gadget { file: 1 }),
         (&["stable", "f", "n"], Command::Stable { file: 1, net: 2 }),
         (&["route", "f", "n"], route(1, 2, 4)),
