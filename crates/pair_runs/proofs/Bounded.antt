@@ -1,12 +1,7 @@
 -- Runs are bounded on every network over an algebra exactly if all its labels are monotone.
-use Rattle.std.proofs.Common.{◌≡◌, ℕ, ◌+◌, ◌≤◌, ◌↔◌, List, [], ◌∷◌, Option, Some, None, length, map, refl, ◌∙◌, arith}
+use Rattle.std.proofs.Common.{◌≡◌, ℕ, ◌+◌, ◌≤◌, ◌↔◌, List, [], ◌∷◌, length, map, refl, arith}
 use Rattle.std.specs.List.{AllByRecursion, range_with_len}
-use Rattle.alg_model.specs.declared.edition.Edition.{Edition}
-use Rattle.alg_model.specs.declared.edition.Edition.TheVariants.{One, Two}
 use Rattle.alg_model.specs.Expressions.{PureAlg, PureLabel, PureValue}
-use Rattle.alg_model.specs.Carriers.{carrier_of, IsPreferred}
-use Rattle.alg_model.specs.Application.{App}
-use Rattle.alg_model.specs.Bounds.{greatest_number}
 use Rattle.alg_model.specs.Formation.{IsAlg}
 use Rattle.alg_model.specs.Properties.{monotone, IsMonotone}
 use Rattle.net_graph.specs.Nets.{PureArc, IsArcOf}
@@ -16,7 +11,8 @@ use Rattle.path_vector.specs.Laws.{new_nodes_may_begin}
 use Rattle.path_vector.specs.Node.{new_node, path_vector}
 use Rattle.settled_laws.specs.Pair.{pair_net, Fits, Improves}
 use Rattle.settled_laws.specs.PairIsNet.{pair_is_net}
-use Rattle.settled_laws.specs.SmallImages.{small_image}
+use Rattle.settled_laws.specs.SmallInstances.{small_label_on, small_value_under}
+use Rattle.settled_laws.specs.SmallWedges.{small_wedge}
 use Rattle.settled_laws.specs.UniqueTables.{LabelsAreMonotone}
 use Rattle.vector_rest.specs.EndLaws.{begun_runs_end}
 use Rattle.vector_rest.specs.Left.{left_from}
@@ -31,21 +27,11 @@ none_improves alg l v w a bounded f g =
     let count = run.count_is in
     absurd (omega (arith, few, count))
 
-some_number : (e : Edition) → 1 ≤ greatest_number e
-some_number One = omega arith
-some_number Two = omega arith
-
 -- where a label made some value better, one without great numbers would do so
 pub monotone_where_bounded : (alg : PureAlg) → IsAlg alg → AllRunsAreBounded alg → LabelsAreMonotone alg
-monotone_where_bounded alg a bounded l is v within = by (App alg.expression l v) refl
-  where
-    by : (o : Option PureValue) → App alg.expression l v ≡ o → ¬ IsPreferred (carrier_of alg.expression) o (Some v)
-    by None e p = absurd (cc)
-    by (Some w) e p =
-        let s = small_image (greatest_number alg.edition) alg.expression (some_number alg.edition) a.bound a.formed.carriers l v w is within e in
-        none_improves alg s.l s.v s.w a bounded
-        (record { label_in = s.label_in; value_in = s.value_in; label_bound = s.label_small; value_bound = s.value_small })
-        (record { image = s.image; preferred = s.order ∙ p })
+monotone_where_bounded alg a bounded l is v within p =
+    let s = small_wedge alg l v a is within p in
+    none_improves alg (small_label_on alg.expression l v) (small_value_under alg.expression l v) s.image a bounded s.fits s.improves
 
 arcs_have_monotone : (alg : PureAlg) (nodes : ℕ) (arcs : List PureArc) → LabelsAreMonotone alg → AllByRecursion (IsArcOf alg nodes) arcs → AllByRecursion (λ (a : PureArc). IsMonotone alg.expression a.label) arcs
 arcs_have_monotone alg nodes [] m h = tt
