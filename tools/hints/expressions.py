@@ -140,7 +140,7 @@ def follow_advice(token, before):
     if is_number and last in ('main', '=', '(', ','):
         return f'an expression stands here, and no number: add({token}..{token}) adds {token} on each link'
     if token == ',' and not operator and 'main' in texts_of(before):
-        return 'two parts are put together by an operator: lex(A,B)'
+        return 'an operator joins two parts: lex(A,B)'
     if operator == 'table':
         return table_advice(token, inside)
     return bracket_advice(token, operator, inside)
