@@ -81,7 +81,7 @@ AreDistinct (class ∷ classes) = (¬ HasProfile classes class.profile) × AreDi
 abbrev pub IsTruthOf : Bool → Type 0 → Type 0
 IsTruthOf b P = (b ≡ true → P) × (P → b ≡ true)
 
--- the new list is the old one with the class behind it if its profile is new, and else the old one
+-- the new list is the old one with the class after it if its profile is new, and else the old one
 abbrev pub IsGrownBy : List Class → Class → List Class → Type 0
 IsGrownBy old class new =
     (HasProfile old class.profile × (new ≡ old)) ⊎ ((¬ HasProfile old class.profile) × (new ≡ old ++ class ∷ []))

@@ -245,8 +245,8 @@ AreRoutesOn Unbeaten net rows =
 AreRoutesOn Settled net rows = AreRowsOfTables net (BestFirst net) rows × AreSettledRows net rows
 AreRoutesOn AllStable net rows = AreRowsOfTables net (BestFirst net) rows × AreSettledRows net rows
 
--- What route, settle and stable come to where all was read, on the network behind its changes: the routes, where its labels
--- are fit for them; else the first arc whose label isn't; unless memory is refused.
+-- What route, settle and stable come to where all was read, on the network after its changes: the routes, where its
+-- labels are fit for them; else the first arc whose label isn't; unless memory is refused.
 abbrev pub IsRoutedAs : Solution → PureAlg → PureNetFile → PureOutcome → Type 0
 IsRoutedAs solution a file (routed s b f rows) = (s ≡ solution) × (b ≡ a) × (f ≡ file) × IsFit solution (changed_net file) × AreRoutesOn solution (changed_net file) rows
 IsRoutedAs solution a file (stopped b f (lacks arc x)) = (b ≡ Some a) × (f ≡ Some file) × IsFirstLack (asked_of solution) (changed_net file) arc x
@@ -305,7 +305,7 @@ pub record WithNetwork (a : PureAlg) (name : List ℕ) (Then : PureNetFile → P
 abbrev pub IsAlgebraChecked : Required → PureAlg → Moment → Moment → PureOutcome → Type 0
 IsAlgebraChecked r a old new o = (new ≡ old) × IsCheckedAs r a None (IsLabel a.expression) o × DecidesTables a o
 
--- the network file is read over the algebra, and then the labels on its arcs are decided on, behind all changes
+-- the network file is read over the algebra, and then the labels on its arcs are decided on, after all changes
 abbrev pub IsNetworkChecked : Required → List ℕ → PureAlg → Moment → Moment → PureOutcome → Type 0
 IsNetworkChecked r net a = WithNetwork a net (λ f. IsCheckedAs r a (Some f) (IsOnArc (changed_net f)))
 
@@ -317,11 +317,11 @@ IsAlgebraWedged a old new o = (new ≡ old) × IsWedgedAs a o
 abbrev pub IsAlgebraCoded : PureAlg → Moment → Moment → PureOutcome → Type 0
 IsAlgebraCoded a old new o = (new ≡ old) × IsCodedAs a None [] o
 
--- the network file is read over the algebra, and then the labels on its arcs are compiled too, behind all changes
+-- the network file is read over the algebra, and then the labels on its arcs are compiled too, after all changes
 abbrev pub IsNetworkCoded : List ℕ → PureAlg → Moment → Moment → PureOutcome → Type 0
 IsNetworkCoded net a = WithNetwork a net (λ f. IsCodedAs a (Some f) (labels_on (changed_net f)))
 
--- the network file is read over the algebra, and then its routes are found, behind all changes
+-- the network file is read over the algebra, and then its routes are found, after all changes
 abbrev pub IsNetworkRouted : Solution → List ℕ → PureAlg → Moment → Moment → PureOutcome → Type 0
 IsNetworkRouted solution net a = WithNetwork a net (IsRoutedAs solution a)
 

@@ -27,13 +27,13 @@ pure_outcome (outcome.Gadget a v) = wedged a (pure_verdict v)
 pure_outcome (outcome.Ran a f nets traced run) = ran a (pure_file f) traced (map pure_phase run.past) (pure_phase run.last) run.is_quiet
 pure_outcome (outcome.Shown a f last) = shown a (pure_file f) (pure_phase last)
 
--- the network whose labels were compiled, if there is one, is that of the file behind its changes
+-- the network whose labels were compiled, if there is one, is that of the file after its changes
 abbrev pub IsListedOn : Option NetFile → Option PureNet → Type 0
 IsListedOn None behind = Unit {0}
 IsListedOn (Some f) behind = last_of behind f.net ≡ changed_net (pure_file f)
 
--- the network of an arc that lacks a property is that of the file behind its changes; those of the phases behind the
--- first are those behind the first change, the first two, and so on
+-- the network of an arc that doesn't have a property is that of the file after its changes; those of the phases after
+-- the first are those after the first change, the first two, and so on
 abbrev pub IsBehind : Outcome → Type 0
 IsBehind (outcome.Stopped a f r) = Unit {0}
 IsBehind (outcome.Lacking a f behind lack) = last_of behind f.net ≡ changed_net (pure_file f)

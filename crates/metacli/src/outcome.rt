@@ -81,7 +81,7 @@ pub enum Outcome {
         file: Option<NetFile>,
         stop: Stop,
     },
-    /// An arc of the network behind its changes, which is `None` where there are none, has a label that isn't fit.
+    /// An arc of the network after its changes, which is `None` where there are none, has a label that isn't fit.
     Lacking {
         alg: Alg,
         file: NetFile,
@@ -95,7 +95,7 @@ pub enum Outcome {
         verdicts: Verdicts,
         unmet: Option<Property>,
     },
-    /// The code of an algebra's order, and of the labels of a network over it behind its changes, where there is one:
+    /// The code of an algebra's order, and of the labels of a network over it after its changes, where there is one:
     /// `behind` is `None` where there are no changes.
     Coded {
         alg: Alg,
@@ -115,11 +115,11 @@ pub enum Outcome {
         alg: Alg,
         verdict: Verdict,
     },
-    /// The phases of path-vector nodes on the network of a file, and on those behind its changes.
+    /// The phases of path-vector nodes on the network of a file, and on those after its changes.
     Ran {
         alg: Alg,
         file: NetFile,
-        /// The networks behind the first change, the first two, and so on.
+        /// The networks after the first change, the first two, and so on.
         changed: List<Net>,
         /// Deliveries are printed.
         is_traced: bool,

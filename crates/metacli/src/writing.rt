@@ -128,7 +128,7 @@ fn put_code<K: Sink>(
     put_line(out, code_lines(alloc, alg, net, listing))
 }
 
-// The network whose labels were compiled: that of the file, or the one behind its changes.
+// The network whose labels were compiled: that of the file, or the one after its changes.
 fn listed_net<'a>(file: &'a Option<NetFile>, behind: &'a Option<Net>) -> Option<&'a Net>
     requires { IsListedOn file.now behind.now }
     ensures { option_map (λ net. net.now) result ≡ last_net (option_map pure_file file.now) }
@@ -163,7 +163,7 @@ fn stop_line(alloc: Global, stop: Stop) -> Result<Text, NoMemory>
     line
 }
 
-// Writes the line of an arc whose label lacks a property. Memory for the answer is taken before.
+// Writes the line of an arc whose label doesn't have a property. Memory for the answer is taken before.
 fn write_lack<K: Sink>(alloc: Global, out: &mut K, net: &Net, lack: &Lack) -> Answer
     requires { CanLack lack.now.arc.0 (pure_instance lack.now.instance) (Some net.now) }
     ensures { Written (K.holds out.old) (lacks_text lack.now.arc.0 (pure_instance lack.now.instance) (Some net.now))

@@ -17,7 +17,7 @@ pub record AreDemoNodes (n : ℕ) : Type 0 where
   pub least : MIN_DEMO_NODES ≤ n
   pub most : n ≤ MAX_DEMO_NODES
 
--- Links. One behind the state x takes its first draw from there.
+-- Links. One after the state x takes its first draw from there.
 
 -- the group of the node k: what the numbers of its speakers leave by GROUPS
 abbrev pub group : ℕ → ℕ
@@ -42,7 +42,7 @@ link k x = record { listener = k; speaker = speaker k x; weight = weight (next x
 abbrev pub apart_from : Link → Link → List Link
 apart_from first second = if second.speaker == first.speaker then [] else second ∷ []
 
--- links, and the state behind their draws
+-- links, and the state after their draws
 pub record Drawn : Type 0 where
   pub links : List Link
   pub state : ℕ

@@ -38,7 +38,7 @@ covers_present a all l labels p is has c = record {
   covered = one_more a all l labels labels p is has (λ q h. h) c.covered;
 }
 
--- it is new, and comes behind the others
+-- it is new, and comes after the others
 covers_appended : (a : PureAlg) (all : List PureLabel) (l : PureLabel) (old : List Labelled) (x : Labelled) → IsLabelWith a l x.profile
     → pure_label x.label ≡ l → CoversLabels a all old → CoversLabels a (all ++ l ∷ []) (old ++ x ∷ [])
 covers_appended a all l old x is same c = record {

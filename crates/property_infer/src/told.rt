@@ -42,7 +42,7 @@ pub(crate) fn has_property(profile: &Profile, property: Property) -> bool
     fact_of(property).is_in(profile)
 }
 
-// Values at which the label lacks the property, which it does.
+// Values at which the label, which doesn't have the property, shows it.
 pub(crate) fn instance(
     alloc: Global,
     alg: &Alg,
@@ -68,7 +68,7 @@ pub(crate) fn instance(
     })
 }
 
-// No at the first label that lacks the property.
+// No at the first label that doesn't have the property.
 fn verdict_of(
     alloc: Global,
     alg: &Alg,
@@ -89,8 +89,8 @@ fn verdict_of(
     }
 }
 
-/// The verdicts that labels of the algebra tell: yes where all have the property, else no with an instance of the
-/// first that lacks it. Where they cover the algebra, the verdicts are exact for all of its labels. They are refused
+/// The verdicts that labels of the algebra tell: yes where all have the property, else no with an instance of the first
+/// that doesn't have it. Where they cover the algebra, the verdicts are exact for all of its labels. They are refused
 /// for want of memory alone.
 pub fn verdicts_of(alloc: Global, alg: &Alg, labels: &[Labelled]) -> Result<Verdicts, NoMemory>
     requires { AllByRecursion (LabelledOf alg.now) labels.now }

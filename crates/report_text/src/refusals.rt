@@ -18,13 +18,13 @@ use topology_file::NetFault;
 /// Why the program does nothing of what it is asked.
 #[derive(Debug, Drop)]
 pub enum Refusal {
-    /// The words mean no command: the number of what is wrong with them; printed behind a C.
+    /// The words mean no command: the number of what is wrong with them; printed after a C.
     Words(u8),
-    /// The expression file means no algebra; its kind is printed behind an X.
+    /// The expression file means no algebra; its kind is printed after an X.
     Expr(ExprFault),
-    /// The network file means no network; its kind is printed behind an N.
+    /// The network file means no network; its kind is printed after an N.
     Network(NetFault),
-    /// An arc of the network has a label that lacks a property, and the instance shows it.
+    /// An arc of the network has a label that doesn't have a property, and the instance shows it.
     Lacks { arc: ArcId, instance: Instance },
     /// That file can't be read.
     Read(Which),
@@ -89,7 +89,7 @@ pub(crate) fn push_ends(out: &mut String, net: &Net, arc: &Arc) -> Result<(), No
     push_node(out, net, arc.head)
 }
 
-/// The one line of an arc of the network whose label lacks a property, which the instance shows: it names the
+/// The one line of an arc of the network whose label doesn't have a property, which the instance shows: it names the
 /// listener and then the speaker. It is refused for want of memory alone.
 pub fn lacks_line(
     alloc: Global,
@@ -140,7 +140,7 @@ fn long_line(alloc: Global, which: Which) -> Result<Text, NoMemory>
     Ok(Text::from_string(out))
 }
 
-/// The one line of a refusal. Where an arc's label lacks a property, `net` is the network of that arc, and
+/// The one line of a refusal. Where an arc's label doesn't have a property, `net` is the network of that arc, and
 /// the line names the listener and then the speaker; no other line needs a network. The line is refused
 /// for want of memory alone.
 pub fn refusal_line(alloc: Global, refusal: &Refusal, net: Option<&Net>) -> Result<Text, NoMemory>
