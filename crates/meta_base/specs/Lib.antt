@@ -1,3 +1,4 @@
+pub mod Numbers
 pub mod Count
 pub mod Shelf
 pub mod Sink

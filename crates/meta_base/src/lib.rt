@@ -22,7 +22,7 @@ mod whole;
 pub use errors::{Failed, NoMemory, TakeError};
 pub use gate::{Gate, OpenGate};
 pub use ids::{ArcId, Delivery, DestId, NodeId, Place, Which};
-pub use limits::{MAX_FILE_BYTES, MAX_NUMBER};
+pub use limits::{MAX_FILE_BYTES, MAX_NUMBER, numbers_are_specified};
 pub use list::List;
 pub use mem_shelf::{MemFile, MemShelf};
 pub use mem_sink::MemSink;
