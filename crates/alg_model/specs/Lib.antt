@@ -1,3 +1,4 @@
+pub mod Numbers
 pub mod Expressions
 pub mod Codes
 pub mod Carriers

@@ -3,6 +3,7 @@ ghost use Rattle.alg_model.specs.declared.edition.Edition.TheVariants.{One};
 ghost use Rattle.alg_model.specs.Views.{expression_of};
 ghost use Rattle.alg_model.specs.Formation.{IsFormed, IsAlg, IsFirstBroken};
 ghost use Rattle.alg_model.specs.Bounds.{ExpressionAtMost, greatest_number};
+ghost use Rattle.alg_model.specs.Numbers.{max_instance_number, max_marks, max_simple_symbols, max_table_names, max_tree_nodes, max_value_number};
 ghost use Rattle.meta_base.specs.declared.limits.TheConstants.{MAX_NUMBER};
 
 use crate::formation::{meets_carriers, meets_names, meets_ranges, room_behind};
@@ -30,6 +31,16 @@ pub const MAX_VALUE_NUMBER: Amount = 1 << 120;
 
 /// The greatest number of the values of an instance.
 pub const MAX_INSTANCE_NUMBER: Amount = 1 << 66;
+
+/// The bounds of expressions and of values are the numbers of the specification.
+pub fn numbers_are_specified()
+    ensures tree_nodes { MAX_TREE_NODES ≡ max_tree_nodes }
+    ensures table_names { MAX_TABLE_NAMES ≡ max_table_names }
+    ensures simple_symbols { MAX_SIMPLE_SYMBOLS ≡ max_simple_symbols }
+    ensures marks { MAX_MARKS ≡ max_marks }
+    ensures value { MAX_VALUE_NUMBER ≡ max_value_number }
+    ensures instance { MAX_INSTANCE_NUMBER ≡ max_instance_number }
+{}
 
 /// The first formation rule that a tree breaks, in this order.
 #[derive(Clone, Copy, Debug, PartialEq, Eq, Error)]
