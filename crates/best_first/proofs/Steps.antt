@@ -11,7 +11,7 @@ use Rattle.alg_model.specs.Laws.{at_most_more}
 use Rattle.net_graph.specs.Nets.{PureNet, IsNet, origin_value, label_between}
 use Rattle.net_graph.specs.Routes.{PureRoute, Better, is_better}
 use Rattle.net_graph.specs.Walks.{along}
-use Rattle.net_graph.specs.declared.limits.TheConstants.{MAX_NODES_TWO}
+use Rattle.net_graph.specs.declared.limits.TheConstants.{MOST_NODES}
 use Rattle.net_graph.specs.Laws.{few_nodes}
 use Rattle.net_graph.specs.Tables.{PureRow, TableOf, IsRouteOf, AreRowsFrom, carrier, route_at, is_among, IsOfferBy, IsOfferFrom, AreFixed, BestFirst}
 use Rattle.best_first.specs.Found.{found_at, none_count, rows_from, better_of, own_offer, arc_offer}
@@ -420,7 +420,7 @@ last_state net dest rows open_routes n st none = record { table_of = table; orde
         let room = st.room in
         let bound = n.node_room in
         let nodes = few_nodes net.alg.edition in
-        let few : length r.path ≤ MAX_NODES_TWO = omega arith in
+        let few : length r.path ≤ MOST_NODES = omega arith in
         record {
           value_in = h.value_in;
           bound = at_most_more (MAX_LABEL_NUMBER * length r.path) MAX_ROW_NUMBER r.value (omega arith) h.bound;

@@ -5,7 +5,8 @@ use Rattle.std.specs.List.{list_any, AllByRecursion}
 use Rattle.std.proofs.lemmas.Bool.Decides.{nat_tests}
 use Rattle.std.proofs.lemmas.List.FromFn.{length-map-range_with_len, map-range_with_len_more}
 use Rattle.alg_model.specs.Expressions.{number_label}
-use Rattle.net_graph.specs.declared.limits.TheConstants.{MAX_ARCS, MAX_NODES_ONE}
+use Rattle.alg_model.specs.declared.edition.Edition.TheVariants.{One}
+use Rattle.net_graph.specs.Limits.{max_nodes, max_arcs}
 use Rattle.net_graph.specs.Nets.{PureArc, PureNet, is_arc_between, number_of}
 use Rattle.topology_file.specs.Forms.{nodes, link}
 use Rattle.topology_file.specs.NetText.{PureNetFile, after_form, after_line}
@@ -30,7 +31,7 @@ names_more k = map-range_with_len_more node_name 0 k k (omega arith)
 node_added : (k : ℕ) → k < MAX_DEMO_NODES → after_form (file_with (node_names k) []) (nodes (node_name k ∷ [])) ≡ Ok (file_with (node_names k ++ node_name k ∷ []) [])
 node_added k h =
     let count = length-map-range_with_len node_name 0 k in
-    let room : leb (length (node_names k) + 1) MAX_NODES_ONE ≡ true = grind (arith, nat_tests) in
+    let room : leb (length (node_names k) + 1) (max_nodes One) ≡ true = grind (arith, nat_tests) in
     rw (unnumbered k (omega arith), room) refl
 
 -- the line of the node k, behind those of the nodes before it
@@ -87,7 +88,7 @@ pub record IsNewLink (n : ℕ) (links : List Link) (l : Link) : Type 0 where
   pub least : 1 ≤ l.weight
   pub most : l.weight ≤ 9
   pub absent : AllByRecursion (Misses l.listener l.speaker) links
-  pub room : length links < MAX_ARCS
+  pub room : length links < max_arcs
 
 link_added : (n : ℕ) (links : List Link) (l : Link) → n ≤ MAX_DEMO_NODES → IsNewLink n links l
     → after_form (file_with (node_names n) (arcs_of 0 links)) (link (node_name l.listener) (node_name l.speaker) (32 ∷ decimal l.weight))
@@ -98,7 +99,7 @@ link_added n links l h i =
     let taken = i.room in
     let count = length_arcs 0 links in
     let apart : eqb l.listener l.speaker ≡ false = grind (arith, nat_tests) in
-    let room : leb (length (arcs_of 0 links) + 1) MAX_ARCS ≡ true = grind (arith, nat_tests) in
+    let room : leb (length (arcs_of 0 links) + 1) max_arcs ≡ true = grind (arith, nat_tests) in
     rw (numbered n l.listener listener_in (omega arith), numbered n l.speaker (omega arith) (omega arith), apart, none_between l.listener l.speaker 0 links i.absent, weight_spelled l.weight i.least i.most, room) refl
 
 pub link_step : (n : ℕ) (links : List Link) (l : Link) → n ≤ MAX_DEMO_NODES → IsNewLink n links l

@@ -6,7 +6,7 @@ use Rattle.alg_model.specs.Expressions.{PureCarrier, PureValue}
 use Rattle.alg_model.specs.Carriers.{carrier_of, In, IsPreferred}
 use Rattle.alg_model.specs.Bounds.{AtMost}
 use Rattle.alg_model.specs.Properties.{PureProperty, Has, monotone}
-use Rattle.net_graph.specs.declared.route.TheConstants.{MAX_ROW_NUMBER}
+use Rattle.net_graph.specs.Limits.{max_row_number}
 use Rattle.net_graph.specs.Nets.{PureArc, PureNet, origin_value}
 use Rattle.net_graph.specs.Routes.{PureRoute, Better}
 use Rattle.net_graph.specs.Walks.{Walk, Weight, along}
@@ -35,7 +35,7 @@ value_at table node = option_map (λ (r : PureRoute). r.value) (route_at table n
 -- the value is in the carrier, its numbers are small, and so is the path
 pub record IsRouteOf (net : PureNet) (r : PureRoute) : Type 0 where
   pub value_in : In (carrier net) r.value
-  pub bound : AtMost MAX_ROW_NUMBER r.value
+  pub bound : AtMost max_row_number r.value
   pub path : length r.path ≤ 2 ^ 29
 
 -- the rows are those of the nodes from i on

@@ -6,7 +6,7 @@ use Rattle.std.proofs.lemmas.List.FromFn.{length-range_with_len}
 use Rattle.net_graph.specs.Nets.{IsNet, arcs_to}
 use Rattle.net_graph.specs.NetLaws.{few_dests}
 use Rattle.net_graph.specs.Routes.{PureRoute}
-use Rattle.node_core.specs.declared.node.TheConstants.{MAX_BEGUN}
+use Rattle.node_core.specs.Numbers.{max_begun}
 use Rattle.node_core.specs.Machine.{changed_at}
 use Rattle.node_core.specs.Kinds.{IsLawful, IsSentBy, IsLater, on_arc, speaker}
 use Rattle.node_core.specs.MachineLaws.{all_join, on_arc_join}
@@ -37,7 +37,7 @@ begun_count s a (dest ∷ dests) n =
     let sum = length-append (on_arc a (begun_updates s dest)) (on_arc a (all_begun_updates s dests)) in
     rw (on_arc_join a (begun_updates s dest) (all_begun_updates s dests)) (omega (arith, one, more, sum))
 
-begun_few : (s : PvState) (a : ℕ) → IsNet s.net → length (on_arc a (Begin s).1) ≤ MAX_BEGUN
+begun_few : (s : PvState) (a : ℕ) → IsNet s.net → length (on_arc a (Begin s).1) ≤ max_begun
 begun_few s a n =
     let count = begun_count s a (range_with_len 0 (length s.net.dests)) n in
     let dests = length-range_with_len 0 (length s.net.dests) in

@@ -1,6 +1,6 @@
 ghost use Rattle.std.specs.Prelude.{◌≡◌, ◌<◌, ◌≤◌, [], Some, true, IfOk, OnErr, OnOk, length, map, slice_get};
 ghost use Rattle.std.proofs.Math.ListN.{set};
-ghost use Rattle.net_graph.specs.declared.limits.TheConstants.{MAX_DESTS_ONE};
+ghost use Rattle.net_graph.specs.declared.limits.TheConstants.{MOST_DESTS};
 ghost use Rattle.net_graph.specs.Nets.{PureArc};
 ghost use Rattle.net_graph.specs.Views.{pure_row};
 ghost use Rattle.path_vector.specs.Lawful.{path_vector_is_lawful};
@@ -128,7 +128,7 @@ impl<'a, A: Algebra> PvNode<'a, A> {
     // How many destinations its network has.
     pub(crate) fn dest_count(&self) -> usize
         ensures count { result ≡ length self.now.net.dests }
-        ensures few { result ≤ MAX_DESTS_ONE }
+        ensures few { result ≤ MOST_DESTS }
     {
         self.net.dest_count()
     }

@@ -13,7 +13,7 @@ use Rattle.alg_model.specs.Application.{App}
 use Rattle.alg_model.specs.Bounds.{greatest_number}
 use Rattle.alg_model.specs.Formation.{IsAlg}
 use Rattle.alg_model.specs.Laws.{images_in, images_at_most, at_most_more, greatest_is_bounded}
-use Rattle.net_graph.specs.declared.route.TheConstants.{MAX_ROW_NUMBER}
+use Rattle.net_graph.specs.Limits.{max_row_number}
 use Rattle.net_graph.specs.Nets.{PureNet, label_between, origin_value}
 use Rattle.net_graph.specs.Routes.{PureRoute, Better}
 use Rattle.net_graph.specs.Tables.{PureRow, AreRowsFrom, IsRouteOf, Told, route_at, carrier, is_among, IsOfferBy, Offers, IsChoice, Stable}
@@ -109,7 +109,7 @@ q_is_end alg l v = record { own = refl; arc = refl; only = only }
 own_route : (alg : PureAlg) (l : PureLabel) (v : PureValue) (p : List ℕ) → Fits alg l v → length p ≤ 2 → IsRouteOf (pair_net alg l v) (route v p)
 own_route alg l v p f short =
     let bound = greatest_is_bounded alg.edition in
-    record { value_in = f.value_in; bound = at_most_more (greatest_number alg.edition) MAX_ROW_NUMBER v (omega arith) f.value_bound; path = omega arith }
+    record { value_in = f.value_in; bound = at_most_more (greatest_number alg.edition) max_row_number v (omega arith) f.value_bound; path = omega arith }
 
 image_in : (alg : PureAlg) (l : PureLabel) (v w : PureValue) → IsAlg alg → Fits alg l v → App alg.expression l v ≡ Some w → In (carrier_of alg.expression) w
 image_in alg l v w a f e = images_in alg.expression l v w a.formed f.label_in f.value_in e
@@ -120,7 +120,7 @@ other_route alg l v w p a f e short =
     let bound = greatest_is_bounded alg.edition in
     record {
       value_in = image_in alg l v w a f e;
-      bound = at_most_more (n + n) MAX_ROW_NUMBER w (omega arith) (images_at_most alg.expression l v w n n f.label_in f.label_bound f.value_bound e);
+      bound = at_most_more (n + n) max_row_number w (omega arith) (images_at_most alg.expression l v w n n f.label_in f.label_bound f.value_bound e);
       path = omega arith;
     }
 
