@@ -1,6 +1,7 @@
 // Words and runs of digits at the front of a text.
 ghost use Rattle.std.specs.Prelude.{◌≡◌, ◌≤◌, IfSome};
 ghost use Rattle.meta_base.specs.Bytes.{is_digit, is_word_byte, front, behind, number_from};
+ghost use Rattle.sig_text.specs.Numbers.{max_literal_number};
 ghost use Rattle.sig_text.specs.Sequences.{within};
 ghost use Rattle.sig_text.specs.declared.bytes.TheConstants.{MAX_LITERAL_NUMBER};
 
@@ -9,6 +10,11 @@ use meta_base::bytes::{is_digit, is_word_byte};
 
 /// The greatest number that any literal may hold: [`crate::read_value_to`] takes no greater bound.
 pub const MAX_LITERAL_NUMBER: Amount = 1 << 119;
+
+/// The bound of literals is the number of the specification.
+pub fn numbers_are_specified()
+    ensures { MAX_LITERAL_NUMBER ≡ max_literal_number }
+{}
 
 // The bytes of a word at the front, and what comes behind them.
 pub fn split_word(text: &[u8]) -> (&[u8], &[u8])

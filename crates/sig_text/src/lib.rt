@@ -12,7 +12,7 @@ mod print;
 mod read;
 mod value;
 
-pub use bytes::MAX_LITERAL_NUMBER;
+pub use bytes::{MAX_LITERAL_NUMBER, numbers_are_specified};
 pub use faults::{LitError, LitFault};
 pub use laws::{
     labels_are_spelled_or_refused, labels_are_told, labels_are_unique, one_text_one_label_fault,
