@@ -8,7 +8,7 @@ use Rattle.std.proofs.lemmas.Fmt.{decimal_by_steps_wide}
 use Rattle.std.proofs.lemmas.List.{append-nil}
 use Rattle.meta_base.specs.Bytes.{is_blank, front, behind}
 use Rattle.net_graph.specs.Nets.{is_name_byte}
-use Rattle.topology_file.specs.declared.network.TheConstants.{MAX_LINE_BYTES}
+use Rattle.topology_file.specs.Numbers.{max_line_bytes}
 use Rattle.topology_file.specs.Texts.{is_not, lines_of, without_return, said_of, ends_word, words_of}
 use Rattle.topology_file.specs.Forms.{line_from, plain_line, colon_line, line_of}
 use Rattle.topology_file.specs.NetText.{PureNetFile, after_form, after_line}
@@ -68,7 +68,7 @@ plain_is c h =
 -- a line of such bytes that isn't too long
 pub record IsLine (line : List ℕ) : Type 0 where
   pub plain : list_all is_plain line ≡ true
-  pub short : length line ≤ MAX_LINE_BYTES
+  pub short : length line ≤ max_line_bytes
 
 pub lines_again : (lines : List (List ℕ)) → AllByRecursion IsLine lines → lines_of (text_of lines) ≡ lines
 lines_again [] a = refl
@@ -95,7 +95,7 @@ says_itself line h =
 pub line_after : (f : PureNetFile) (line : List ℕ) → IsLine line → after_line f line ≡ after_form f (line_of line)
 line_after f line i =
     let short = i.short in
-    let fits : leb (length line) MAX_LINE_BYTES ≡ true = grind (arith, nat_tests) in
+    let fits : leb (length line) max_line_bytes ≡ true = grind (arith, nat_tests) in
     rw (fits, says_itself line i.plain) refl
 
 -- a line that begins with # says nothing, whatever it goes on with
@@ -108,9 +108,9 @@ silent_comment (c ∷ cs) = by (eqb (get_or (35 ∷ c ∷ cs) (length (35 ∷ c 
     by false = refl
 
 -- and adds nothing
-pub comment_after : (f : PureNetFile) (rest : List ℕ) → length (35 ∷ rest) ≤ MAX_LINE_BYTES → after_line f (35 ∷ rest) ≡ Ok f
+pub comment_after : (f : PureNetFile) (rest : List ℕ) → length (35 ∷ rest) ≤ max_line_bytes → after_line f (35 ∷ rest) ≡ Ok f
 comment_after f rest short =
-    let fits : leb (length (35 ∷ rest)) MAX_LINE_BYTES ≡ true = grind (arith, nat_tests) in
+    let fits : leb (length (35 ∷ rest)) max_line_bytes ≡ true = grind (arith, nat_tests) in
     rw (fits, silent_comment rest) refl
 
 -- Words.

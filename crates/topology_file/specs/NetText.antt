@@ -1,8 +1,7 @@
 -- Which network a text means over an algebra, with which changes, and which fault refuses it.
 use Rattle.std.specs.Prelude.{◌≡◌, ◌⊎◌, ℕ, ◌+◌, List, [], ◌∷◌, ◌++◌, Bool, true, false, ◌==◌, ◌||◌, nat_lt, nat_le, if◌then◌else◌, is_some, ok_or, Option, Some, None, Result, Ok, Err, length}
 use Rattle.alg_model.specs.Expressions.{PureAlg, PureLabel, PureValue}
-use Rattle.net_graph.specs.declared.limits.TheConstants.{MAX_ARCS}
-use Rattle.net_graph.specs.Limits.{max_nodes, max_dests, max_changes}
+use Rattle.net_graph.specs.Limits.{max_arcs, max_nodes, max_dests, max_changes}
 use Rattle.net_graph.specs.Nets.{PureNet, number_of, has_arc, has_origin}
 use Rattle.net_graph.specs.Lines.{empty_net, with_node, with_arc, with_origin}
 use Rattle.net_graph.specs.Changes.{PureChange, after_all}
@@ -16,7 +15,7 @@ use Rattle.topology_file.specs.declared.faults.NetKind.TheVariants.{BadLine, Unk
 use Rattle.topology_file.specs.declared.faults.NetFault.{NetFault}
 use Rattle.topology_file.specs.declared.faults.NetError.{NetError}
 use Rattle.topology_file.specs.declared.faults.NetError.TheVariants.{Bad, NoMemory}
-use Rattle.topology_file.specs.declared.network.TheConstants.{MAX_LINE_BYTES}
+use Rattle.topology_file.specs.Numbers.{max_line_bytes}
 use Rattle.topology_file.specs.Texts.{lines_of, said_of}
 use Rattle.topology_file.specs.Forms.{PureLine, silent, nodes, link, both, origin, then_link, then_drop, bad, line_of}
 
@@ -84,7 +83,7 @@ after_nodes net names =
 
 -- `link A B : LABEL`
 abbrev pub one_arc : PureNet → ℕ → ℕ → PureLabel → Result PureNet NetKind
-one_arc net tail head l = if_room (nat_le (length net.arcs + 1) MAX_ARCS) Arcs (with_arc net tail head l)
+one_arc net tail head l = if_room (nat_le (length net.arcs + 1) max_arcs) Arcs (with_arc net tail head l)
 
 abbrev pub link_between : PureNet → List ℕ → ℕ → ℕ → Result PureNet NetKind
 link_between net text tail head =
@@ -97,7 +96,7 @@ after_link net a b text = and_then (ends_in net a b) (λ ends. link_between net 
 -- `both A B : LABEL`
 abbrev pub two_arcs : PureNet → ℕ → ℕ → PureLabel → Result PureNet NetKind
 two_arcs net tail head l =
-    if_room (nat_le (length net.arcs + 2) MAX_ARCS) Arcs (with_arc (with_arc net tail head l) head tail l)
+    if_room (nat_le (length net.arcs + 2) max_arcs) Arcs (with_arc (with_arc net tail head l) head tail l)
 
 abbrev pub both_between : PureNet → List ℕ → ℕ → ℕ → Result PureNet NetKind
 both_between net text tail head =
@@ -135,7 +134,7 @@ with_change f c =
 
 -- `then link A B : LABEL`: behind the changes before it the arc is there, or there is room for it
 abbrev pub has_room_to_link : PureNetFile → ℕ → ℕ → Bool
-has_room_to_link f tail head = has_arc (changed_net f) tail head || nat_lt (length (changed_net f).arcs) MAX_ARCS
+has_room_to_link f tail head = has_arc (changed_net f) tail head || nat_lt (length (changed_net f).arcs) max_arcs
 
 abbrev pub one_link : PureNetFile → ℕ → ℕ → PureLabel → Result PureNetFile NetKind
 one_link f tail head l = if has_room_to_link f tail head then with_change f (changes.link tail head l) else Err (TooMany Arcs)
@@ -172,7 +171,7 @@ after_form f (then_drop a b) = after_then_drop f a b
 after_form f bad = Err BadLine
 
 abbrev pub after_line : PureNetFile → List ℕ → Result PureNetFile NetKind
-after_line f line = if nat_le (length line) MAX_LINE_BYTES then after_form f (line_of (said_of line)) else Err BadLine
+after_line f line = if nat_le (length line) max_line_bytes then after_form f (line_of (said_of line)) else Err BadLine
 
 -- What a text means.
 

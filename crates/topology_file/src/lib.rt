@@ -14,4 +14,4 @@ mod texts;
 
 pub use faults::{NetError, NetFault, NetKind, What};
 pub use laws::{changes_of_texts_may_be_made, networks_keep_their_algebra, one_text_one_network};
-pub use network::{MAX_LINE_BYTES, NetFile, read_net};
+pub use network::{MAX_LINE_BYTES, NetFile, numbers_are_specified, read_net};

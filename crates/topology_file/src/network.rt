@@ -1,8 +1,9 @@
-ghost use Rattle.std.specs.Prelude.{◌≤◌, length, map, IfOk, IfErr};
+ghost use Rattle.std.specs.Prelude.{◌≡◌, ◌≤◌, length, map, IfOk, IfErr};
 ghost use Rattle.meta_base.specs.declared.limits.TheConstants.{MAX_FILE_BYTES};
 ghost use Rattle.net_graph.specs.Changes.{AreChanges};
 ghost use Rattle.net_graph.specs.Views.{pure_change};
 ghost use Rattle.topology_file.specs.NetText.{NetText, IsRefusedBy};
+ghost use Rattle.topology_file.specs.Numbers.{max_line_bytes};
 ghost use Rattle.topology_file.specs.Views.{pure_file};
 
 use crate::NetError;
@@ -15,6 +16,11 @@ use std::alloc::Global;
 
 /// The most bytes of a line as it is cut, before a carriage return or a comment is dropped.
 pub const MAX_LINE_BYTES: usize = 4_096;
+
+/// The bound of lines is the number of the specification.
+pub fn numbers_are_specified()
+    ensures { MAX_LINE_BYTES ≡ max_line_bytes }
+{}
 
 /// What a network file means: a network, and the changes that come behind it.
 #[derive(Debug, Drop)]

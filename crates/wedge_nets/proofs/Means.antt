@@ -15,25 +15,25 @@ use Rattle.alg_model.specs.Laws.{images_in, images_at_most}
 use Rattle.alg_model.specs.Texts.{value_text, label_text}
 use Rattle.alg_model.specs.Verdicts.{PureInstance, holds, fails}
 use Rattle.report_text.specs.VerdictTexts.{image_text, second_text, second_image_text, instance_text}
-use Rattle.topology_file.specs.declared.network.TheConstants.{MAX_LINE_BYTES}
+use Rattle.topology_file.specs.Numbers.{max_line_bytes}
 use Rattle.topology_file.specs.LineLaws.{IsLine, is_plain, plain_is, both_true, all_pass, first_line, lines_again, comment_after}
 use Rattle.topology_file.specs.LineTexts.{ended, text_of}
 use Rattle.topology_file.specs.NetText.{empty_file, Lead, NetText}
 use Rattle.topology_file.specs.Texts.{is_not, lines_of}
 use Rattle.wedge_nets.specs.Gadgets.{wedge_file, IsGadget}
-use Rattle.wedge_nets.specs.GadgetTexts.{longest_line, wedge_lines, no_line, gadget_lines, are_short, no_file_line, gadget_text}
+use Rattle.wedge_nets.specs.GadgetTexts.{wedge_lines, no_line, gadget_lines, are_short, no_file_line, gadget_text}
 use Rattle.wedge_nets.proofs.Printed.{Plain, printable, joined, label_plain, value_plain}
 use Rattle.wedge_nets.proofs.Wedges.{AreSpelled, wedge_leads}
 
 -- The lines of a wedge are lines.
 
-short_is : (line : List ℕ) → leb (length line) longest_line ≡ true → length line ≤ MAX_LINE_BYTES
+short_is : (line : List ℕ) → leb (length line) max_line_bytes ≡ true → length line ≤ max_line_bytes
 short_is line h = grind (arith, nat_tests)
 
 are_lines : (lines : List (List ℕ)) → AllByRecursion Plain lines → are_short lines ≡ true → AllByRecursion IsLine lines
 are_lines [] p h = tt
 are_lines (line ∷ lines) p h =
-    let t = both_true (leb (length line) longest_line) (are_short lines) h in
+    let t = both_true (leb (length line) max_line_bytes) (are_short lines) h in
     (record { plain = p.0; short = short_is line t.0 }, are_lines lines p.1 t.1)
 
 wedge_plain : (a : Expression) (l : PureLabel) (v : PureValue) → Plain (label_text a l) → Plain (value_text (carrier_of a) v) → AllByRecursion Plain (wedge_lines a l v)
@@ -91,7 +91,7 @@ lines_mean alg x a g spelled short =
     let image_in = images_in e x.label x.first w a.formed f.label_in f.value_in i.image in
     let image = value_plain (n + n) (carrier_of e) w room carrier image_in (images_at_most e x.label x.first w n n f.label_in f.label_bound f.value_bound i.image) in
     let instance = instance_plain e x w g.alone i.image label value image in
-    let t = both_true (leb (length (no_line e x)) longest_line) (are_short (wedge_lines e x.label x.first)) short in
+    let t = both_true (leb (length (no_line e x)) max_line_bytes) (are_short (wedge_lines e x.label x.first)) short in
     let lines = are_lines (wedge_lines e x.label x.first) (wedge_plain e x.label x.first label value) t.1 in
     let cut : lines_of (text_of (gadget_lines e x)) ≡ gadget_lines e x =
     first_line (no_line e x) (text_of (wedge_lines e x.label x.first)) (no_feed (instance_text e x) instance)
