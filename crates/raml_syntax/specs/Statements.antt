@@ -1,6 +1,6 @@
 -- The statements of a file as they are read, one after another.
 use Rattle.std.specs.Prelude.{ℕ, List, [], ◌∷◌, ◌||◌, Bool, Result, None, codes}
-use Rattle.meta_base.specs.declared.limits.TheConstants.{MAX_NUMBER}
+use Rattle.meta_base.specs.Numbers.{max_number}
 use Rattle.raml_lex.specs.Tokens.{semicolon, equals}
 use Rattle.raml_lex.specs.Lexers.{Lexer}
 use Rattle.alg_model.specs.Expressions.{Expression}
@@ -52,7 +52,7 @@ Leads first old ds key now = (result : Result Expression AlgError) (new : Lexer)
 
 -- the reader at the start of a text
 abbrev pub start : List ℕ → Lexer
-start text = record { before = []; rest = text; greatest = MAX_NUMBER; fault = None }
+start text = record { before = []; rest = text; greatest = max_number; fault = None }
 
 -- the fault is the first of the text
 abbrev pub IsAlgError : List ℕ → AlgError → Type 0
