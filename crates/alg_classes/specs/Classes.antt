@@ -3,7 +3,7 @@
 use Rattle.std.specs.Prelude.{◌≡◌, ℕ, List, [], ◌∷◌, ◌++◌, ◌⊎◌, Bool, true, false, Option, Some, None, option_map}
 use Rattle.std.specs.List.{AllByRecursion}
 use Rattle.alg_model.specs.declared.edition.Edition.{Edition}
-use Rattle.alg_model.specs.declared.alg.TheConstants.{MAX_INSTANCE_NUMBER}
+use Rattle.alg_model.specs.Numbers.{max_instance_number}
 use Rattle.alg_model.specs.Expressions.{Expression, PureAlg, PureCarrier, PureLabel}
 use Rattle.alg_model.specs.Views.{pure_value, pure_label}
 use Rattle.alg_model.specs.Carriers.{carrier_of}
@@ -65,7 +65,7 @@ pub record ClassOf (a : PureAlg) (class : Class) : Type 0 where
   pub label : IsLabel a.expression (pure_label class.label)
   pub label_bound : LabelAtMost (greatest_number a.edition) (pure_label class.label)
   pub settled : IsSettledBy (carrier_of a.expression) (App a.expression (pure_label class.label)) class.profile (pure_examples class.examples)
-  pub bound : ExamplesAtMost MAX_INSTANCE_NUMBER (pure_examples class.examples)
+  pub bound : ExamplesAtMost max_instance_number (pure_examples class.examples)
 
 -- a class of the list has the profile
 abbrev pub HasProfile : List Class → Profile → Type 0

@@ -2,7 +2,7 @@
 -- example where it tells that it doesn't, and its examples refute.
 use Rattle.std.proofs.Common.{◌≡◌, refl, sym, subst, Bool, true, false, Option, Some, None}
 use Rattle.std.specs.Option.{option_or}
-use Rattle.alg_model.specs.declared.alg.TheConstants.{MAX_INSTANCE_NUMBER}
+use Rattle.alg_model.specs.Numbers.{max_instance_number}
 use Rattle.alg_model.specs.Expressions.{PureAlg, PureCarrier, PureValue, PureLabel}
 use Rattle.alg_model.specs.Views.{pure_label}
 use Rattle.alg_model.specs.Carriers.{carrier_of, In}
@@ -88,7 +88,7 @@ there_right (Some e) y h = (e, refl)
 pub class_from : (a : PureAlg) (class : Class) (l : PureLabel) (p : Profile) (x : PureExamples)
     → pure_label class.label ≡ l → class.profile ≡ p → ((k : Fact) → pure_examples class.examples k ≡ x k)
     → IsLabel a.expression l → LabelAtMost (greatest_number a.edition) l → IsSettledBy (carrier_of a.expression) (App a.expression l) p x
-    → ExamplesAtMost MAX_INSTANCE_NUMBER x → ClassOf a class
+    → ExamplesAtMost max_instance_number x → ClassOf a class
 class_from a class l p x label_is profile_is examples_are label label_bound settled bound = record {
   label = subst (IsLabel a.expression) (sym label_is) label;
   label_bound = subst (LabelAtMost (greatest_number a.edition)) (sym label_is) label_bound;
@@ -96,5 +96,5 @@ class_from a class l p x label_is profile_is examples_are label label_bound sett
       subst (λ o. Settles (carrier_of a.expression) (App a.expression (pure_label class.label)) k (bit class.profile k) o) (sym (examples_are k))
       (subst (λ q. Settles (carrier_of a.expression) (App a.expression (pure_label class.label)) k (bit q k) (x k)) (sym profile_is)
       (subst (λ m. Settles (carrier_of a.expression) (App a.expression m) k (bit p k) (x k)) (sym label_is) (settled k)));
-  bound = λ k. subst (ExampleAtMost MAX_INSTANCE_NUMBER) (sym (examples_are k)) (bound k);
+  bound = λ k. subst (ExampleAtMost max_instance_number) (sym (examples_are k)) (bound k);
 }

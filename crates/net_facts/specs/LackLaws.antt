@@ -4,8 +4,7 @@ use Rattle.std.proofs.Common.{◌≡◌, ◌≤◌, ℕ, zero, suc, ◌<◌, Lis
 use Rattle.std.proofs.lemmas.Bool.{cases_order}
 use Rattle.std.proofs.lemmas.Option.{same_Some, slice_get_within}
 use Rattle.std.specs.List.{AllByRecursion}
-use Rattle.alg_model.specs.declared.alg.TheConstants.{MAX_INSTANCE_NUMBER, MAX_VALUE_NUMBER}
-use Rattle.alg_model.specs.declared.edition.TheConstants.{MAX_LABEL_NUMBER}
+use Rattle.alg_model.specs.Numbers.{max_instance_number, max_value_number, max_label_number}
 use Rattle.alg_model.specs.Bounds.{greatest_number}
 use Rattle.alg_model.specs.Expressions.{Expression, PureLabel, PureValue}
 use Rattle.alg_model.specs.Instances.{InstanceAtMost, SecondAtMost}
@@ -61,12 +60,12 @@ SecondAtMost-le m n h (Some v) b = at_most_more m n v h b
 
 -- the arc is the network's, and labels may be applied to the values of the instance
 pub lack_is_small : (properties : List PureProperty) (net : PureNet) (k : ℕ) (x : PureInstance) → IsFirstLack properties net k x
-    → (k < length net.arcs) × InstanceAtMost MAX_LABEL_NUMBER MAX_VALUE_NUMBER x
+    → (k < length net.arcs) × InstanceAtMost max_label_number max_value_number x
 lack_is_small properties net k x is = (
   slice_get_within net.arcs k is.first.arc is.first.stands.at,
   record {
-    label = label_at_most_more (greatest_number net.alg.edition) MAX_LABEL_NUMBER x.label (greatest_is_bounded net.alg.edition) is.bound.label;
-    first = at_most_more MAX_INSTANCE_NUMBER MAX_VALUE_NUMBER x.first (lit≤ tt) is.bound.first;
-    second = SecondAtMost-le MAX_INSTANCE_NUMBER MAX_VALUE_NUMBER (lit≤ tt) x.second is.bound.second;
+    label = label_at_most_more (greatest_number net.alg.edition) max_label_number x.label (greatest_is_bounded net.alg.edition) is.bound.label;
+    first = at_most_more max_instance_number max_value_number x.first (lit≤ tt) is.bound.first;
+    second = SecondAtMost-le max_instance_number max_value_number (lit≤ tt) x.second is.bound.second;
   },
 )

@@ -1,7 +1,7 @@
 -- Networks that have some properties, and the first arc of one that lacks one of them.
 use Rattle.std.specs.Prelude.{◌≡◌, ℕ, ◌<◌, List, Some, slice_get}
 use Rattle.std.specs.List.{AllByRecursion}
-use Rattle.alg_model.specs.declared.alg.TheConstants.{MAX_INSTANCE_NUMBER}
+use Rattle.alg_model.specs.Numbers.{max_instance_number}
 use Rattle.alg_model.specs.Bounds.{greatest_number}
 use Rattle.alg_model.specs.Expressions.{Expression, PureAlg, PureLabel}
 use Rattle.alg_model.specs.Instances.{InstanceAtMost}
@@ -49,11 +49,11 @@ pub record IsShown (a : PureAlg) (l : PureLabel) (p : PureProperty) (x : PureIns
   pub label : x.label ≡ l
   pub property : x.property ≡ p
   pub violates : Violates a.expression x
-  pub bound : InstanceAtMost (greatest_number a.edition) MAX_INSTANCE_NUMBER x
+  pub bound : InstanceAtMost (greatest_number a.edition) max_instance_number x
 
 -- the instance shows it of the first such arc and the earliest such property
 pub record IsFirstLack (properties : List PureProperty) (net : PureNet) (k : ℕ) (x : PureInstance) : Type 0 where
   pub first : LacksFirst properties net k x.property
   pub label : x.label ≡ first.arc.label
   pub violates : Violates net.alg.expression x
-  pub bound : InstanceAtMost (greatest_number net.alg.edition) MAX_INSTANCE_NUMBER x
+  pub bound : InstanceAtMost (greatest_number net.alg.edition) max_instance_number x

@@ -1,7 +1,7 @@
 -- What the program's facts, examples and actions stand for; and what it asks of the parts of a pair, or of the two
 -- sides of a value, whose examples then answer for both together.
 use Rattle.std.specs.Prelude.{Option, Some, option_map}
-use Rattle.alg_model.specs.declared.alg.TheConstants.{MAX_INSTANCE_NUMBER}
+use Rattle.alg_model.specs.Numbers.{max_instance_number}
 use Rattle.alg_model.specs.declared.edition.Edition.{Edition}
 use Rattle.alg_model.specs.Application.{IsLabel, App}
 use Rattle.alg_model.specs.Bounds.{AtMost, LabelAtMost, greatest_number}
@@ -89,7 +89,7 @@ AnswersForSides x y = Answers (sides (carrier_under x) (carrier_under y)) (side.
 
 -- a value of the part, with small numbers
 abbrev pub IsSmallIn : Action → PureValue → Type 0
-IsSmallIn x v = In (carrier_under x) v × AtMost MAX_INSTANCE_NUMBER v
+IsSmallIn x v = In (carrier_under x) v × AtMost max_instance_number v
 
 -- whatever answers what is asked of the parts makes an answer for the pair
 abbrev pub MakesPair : Action → Action → Fact → OfPair → Type 0

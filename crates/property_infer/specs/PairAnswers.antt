@@ -1,6 +1,6 @@
 -- What examples of the parts answer of a pair.
 use Rattle.std.proofs.Common.{◌≡◌, ℕ, refl, Option, Some, None, ◌⊎◌, inl, inr, ⊎_elim}
-use Rattle.alg_model.specs.declared.alg.TheConstants.{MAX_INSTANCE_NUMBER}
+use Rattle.alg_model.specs.Numbers.{max_instance_number}
 use Rattle.alg_model.specs.Expressions.{PureCarrier, pairs, PureValue}
 use Rattle.alg_model.specs.Carriers.{In}
 use Rattle.alg_model.specs.Bounds.{AtMost}
@@ -25,7 +25,7 @@ shown : (c : PureCarrier) (f : Action) (k : Fact) (o : Option PureExample) → A
 shown c f k None a = tt
 shown c f k (Some x) a = a.0
 
-small : (c : PureCarrier) (f : Action) (k : Fact) (o : Option PureExample) → Answers c f k o → ExampleAtMost MAX_INSTANCE_NUMBER o
+small : (c : PureCarrier) (f : Action) (k : Fact) (o : Option PureExample) → Answers c f k o → ExampleAtMost max_instance_number o
 small c f k None a = tt
 small c f k (Some x) a = a.1
 
@@ -58,16 +58,16 @@ beside_none (Some (at u)) None e = inr refl
 beside_none (Some (between u v)) None e = inr refl
 beside_none None r e = inl refl
 
-answered : (c : PureCarrier) (f : Action) (k : Fact) (o : Option PureExample) → (o ≡ None → Holds c f k) → OnExample (Refutes c f k) o → ExampleAtMost MAX_INSTANCE_NUMBER o
+answered : (c : PureCarrier) (f : Action) (k : Fact) (o : Option PureExample) → (o ≡ None → Holds c f k) → OnExample (Refutes c f k) o → ExampleAtMost max_instance_number o
     → Answers c f k o
 answered c f k None h s b = h refl
 answered c f k (Some x) h s b = (s, b)
 
 answer_joined : (c d : PureCarrier) (f g : Action) (P Q : PureExample → Type 0) (k : Fact) (o r : Option PureExample)
     → (o ≡ None → Holds (pairs c d) (paired f g) k) → (r ≡ None → Holds (pairs c d) (paired f g) k) → Joins c d f g P Q k
-    → OnExample P o → OnExample Q r → ExampleAtMost MAX_INSTANCE_NUMBER o → ExampleAtMost MAX_INSTANCE_NUMBER r → Answers (pairs c d) (paired f g) k (beside o r)
+    → OnExample P o → OnExample Q r → ExampleAtMost max_instance_number o → ExampleAtMost max_instance_number r → Answers (pairs c d) (paired f g) k (beside o r)
 answer_joined c d f g P Q k o r h i rule s t a b = answered (pairs c d) (paired f g) k (beside o r)
-    (λ e. ⊎_elim h i (beside_none o r e)) (joined c d f g P Q k rule o r s t) (small_beside MAX_INSTANCE_NUMBER o r a b)
+    (λ e. ⊎_elim h i (beside_none o r e)) (joined c d f g P Q k rule o r s t) (small_beside max_instance_number o r a b)
 
 answer_by : (c d : PureCarrier) (f g : Action) (k kx ky : Fact) (o r : Option PureExample)
     → (Holds c f kx → Holds (pairs c d) (paired f g) k) → (Holds d g ky → Holds (pairs c d) (paired f g) k) → Joins c d f g (Refutes c f kx) (Refutes d g ky) k
@@ -90,12 +90,12 @@ second_fails c d f g k ky o r other holds rule a b = answer_by c d f g k dead ky
 pub pair_dead : (c d : PureCarrier) (f g : Action) (o r : Option PureExample) → Answers c f dead o → Answers d g dead r → Answers (pairs c d) (paired f g) dead (beside o r)
 pair_dead c d f g o r a b = answer_by c d f g dead dead dead o r (first_dead c d f g) (second_dead c d f g) (dead_with_dead c d f g) a b
 
-pub pair_total_first : (c d : PureCarrier) (f g : Action) (o : Option PureExample) (v : PureValue) → ¬ Holds c f total → Answers c f total o → In d v → AtMost MAX_INSTANCE_NUMBER v
+pub pair_total_first : (c d : PureCarrier) (f g : Action) (o : Option PureExample) (v : PureValue) → ¬ Holds c f total → Answers c f total o → In d v → AtMost max_instance_number v
     → Answers (pairs c d) (paired f g) total (beside o (Some (at v)))
 pair_total_first c d f g o v lacks a i b = answer_joined c d f g (Refutes c f total) (IsValue d) total o (Some (at v))
     (λ e. absurd (lacks (told c f total o a e))) (λ e. absurd (cc)) (total_with_any c d f g) (shown c f total o a) i (small c f total o a) b
 
-pub pair_total_second : (c d : PureCarrier) (f g : Action) (u : PureValue) (r : Option PureExample) → Holds c f total → In c u → AtMost MAX_INSTANCE_NUMBER u → Answers d g total r
+pub pair_total_second : (c d : PureCarrier) (f g : Action) (u : PureValue) (r : Option PureExample) → Holds c f total → In c u → AtMost max_instance_number u → Answers d g total r
     → Answers (pairs c d) (paired f g) total (beside (Some (at u)) r)
 pair_total_second c d f g u r holds i b a = answer_joined c d f g (IsValue c) (Refutes d g total) total (Some (at u)) r
     (λ e. absurd (cc)) (λ e. both_total c d f g holds (told d g total r a e)) (any_with_total c d f g) i (shown d g total r a) b (small d g total r a)
@@ -159,7 +159,7 @@ pair_iso_split c d f g o r s kept h i lacks a b t = answer_joined c d f g (Refut
     (λ e. both_iso c d f g kept h i (inl (told c f narrow o a e)))
     (λ e. dead_pair c d f g (inr (spanned_none d g r s lacks b t e)) iso (λ e. absurd (cc)))
     (narrow_with_split c d f g) (shown c f narrow o a) (splits d g r s (shown d g dead r b) (shown d g total s t))
-    (small c f narrow o a) (small_spanned MAX_INSTANCE_NUMBER r s (small d g dead r b) (small d g total s t))
+    (small c f narrow o a) (small_spanned max_instance_number r s (small d g dead r b) (small d g total s t))
 
 pub pair_iso_tied : (c d : PureCarrier) (f g : Action) (o r : Option PureExample) → Keeps c f → Holds c f iso → Holds d g iso → Holds d g total → Answers c f canc o → Answers d g cond r
     → Answers (pairs c d) (paired f g) iso (beside o r)

@@ -1,7 +1,7 @@
 -- What examples of one action beside another tell, by what those of each tell, and so of one that denies.
 use Rattle.std.proofs.Common.{Bool, true, false, ℕ, Option, Some, None, inl, inr}
 use Rattle.std.specs.Prelude.{option_map}
-use Rattle.alg_model.specs.declared.alg.TheConstants.{MAX_INSTANCE_NUMBER}
+use Rattle.alg_model.specs.Numbers.{max_instance_number}
 use Rattle.alg_model.specs.Expressions.{PureCarrier, sides}
 use Rattle.alg_classes.specs.Facts.{Action, Fact, total, dead, mono, strict, iso, canc, cond, narrow, Holds, PureExample, at, between}
 use Rattle.alg_classes.specs.Classes.{Settles, ExampleAtMost}
@@ -19,13 +19,13 @@ second_bound n (at u) b = b
 second_bound n (between u v) b = b
 
 on_second_side : (c d : PureCarrier) (f g : Action) (k : Fact) (e : PureExample) → Answers d g k (Some e) → Answers (sides c d) (beside f g) k (Some (on_second e))
-on_second_side c d f g k e a = (refuted_on_second c d f g k e a.0, second_bound MAX_INSTANCE_NUMBER e a.1)
+on_second_side c d f g k e a = (refuted_on_second c d f g k e a.0, second_bound max_instance_number e a.1)
 
 -- where the first side hasn't the fact, its example is one of both
 pub side_first : (c d : PureCarrier) (f g : Action) (k : Fact) (o : Option PureExample) → ¬ Holds c f k → Answers c f k o
     → Answers (sides c d) (beside f g) k (option_map on_first o)
 side_first c d f g k None lacks a = absurd (lacks a)
-side_first c d f g k (Some e) lacks a = (refuted_on_first c d f g k e a.0, first_bound MAX_INSTANCE_NUMBER e a.1)
+side_first c d f g k (Some e) lacks a = (refuted_on_first c d f g k e a.0, first_bound max_instance_number e a.1)
 
 -- a fact that both have where each side has it; where the first side has it, the second tells
 abbrev pub IsOfEach : Fact → Type 0
@@ -96,7 +96,7 @@ side_across c d f g narrow dead o r is h i a b = side_narrow_across c d f g o r 
 side_across c d f g _ _ o r is h i a b = absurd is
 
 -- an example that settles a fact tells of it
-pub settled_answers : (c : PureCarrier) (f : Action) (k : Fact) (b : Bool) (o : Option PureExample) → Settles c f k b o → ExampleAtMost MAX_INSTANCE_NUMBER o → Answers c f k o
+pub settled_answers : (c : PureCarrier) (f : Action) (k : Fact) (b : Bool) (o : Option PureExample) → Settles c f k b o → ExampleAtMost max_instance_number o → Answers c f k o
 settled_answers c f k true None s m = s
 settled_answers c f k true (Some e) s m = absurd s
 settled_answers c f k false None s m = absurd s

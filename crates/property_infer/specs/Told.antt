@@ -7,7 +7,7 @@ use Rattle.alg_model.specs.Instances.{InstanceAtMost}
 use Rattle.alg_model.specs.Properties.{PureProperty, monotone, strict, isotone, cancellative, total, Has}
 use Rattle.alg_model.specs.Verdicts.{PureInstance, Violates, PureVerdict, holds, fails, PureVerdicts, OnEach}
 use Rattle.alg_model.specs.Views.{pure_label}
-use Rattle.alg_model.specs.declared.alg.TheConstants.{MAX_INSTANCE_NUMBER}
+use Rattle.alg_model.specs.Numbers.{max_instance_number}
 use Rattle.alg_classes.specs.Facts as fact
 use Rattle.alg_classes.specs.Facts.{PureExample, at, between}
 use Rattle.alg_classes.specs.Profiles.{bit}
@@ -26,7 +26,7 @@ pub record IsLackOf (a : PureAlg) (p : PureProperty) (l : PureLabel) (x : PureIn
   pub property : x.property ≡ p
   pub label : x.label ≡ l
   pub violates : Violates a.expression x
-  pub bound : InstanceAtMost (greatest_number a.edition) MAX_INSTANCE_NUMBER x
+  pub bound : InstanceAtMost (greatest_number a.edition) max_instance_number x
 
 -- it shows it of one of the labels
 abbrev pub IsLackAmong : PureAlg → PureProperty → List Labelled → PureInstance → Type 0

@@ -5,7 +5,7 @@ use Rattle.alg_model.specs.Expressions.{Expression, PureAlg, PureLabel}
 use Rattle.alg_model.specs.Carriers.{carrier_of}
 use Rattle.alg_model.specs.Application.{IsLabel, App}
 use Rattle.alg_model.specs.Bounds.{greatest_number}
-use Rattle.alg_model.specs.declared.alg.TheConstants.{MAX_INSTANCE_NUMBER}
+use Rattle.alg_model.specs.Numbers.{max_instance_number}
 use Rattle.alg_model.specs.Properties.{PureProperty, monotone, strict, isotone, cancellative, total, Has}
 use Rattle.alg_model.specs.Verdicts.{PureInstance, IsExact, ExactFor, PureVerdict, holds, fails, PureVerdicts, verdict_on}
 use Rattle.alg_model.specs.Instances.{InstanceAtMost, VerdictAtMost, VerdictsAtMost}
@@ -63,17 +63,17 @@ told_exact a S labels v of_set covered told p = exact_of_each a S p labels (verd
 -- The numbers of what is told are small.
 
 bounded_by_lack : (a : PureAlg) (p : PureProperty) (labels : List Labelled) (x : PureInstance) → IsLackAmong a p labels x
-    → InstanceAtMost (greatest_number a.edition) MAX_INSTANCE_NUMBER x
+    → InstanceAtMost (greatest_number a.edition) max_instance_number x
 bounded_by_lack a p [] x lack = absurd lack
 bounded_by_lack a p (y ∷ ys) x lack = ⊎_elim (λ l. l.bound) (λ l. bounded_by_lack a p ys x l) lack
 
 bounded_of_each : (a : PureAlg) (p : PureProperty) (labels : List Labelled) (v : PureVerdict) → IsTold a labels p v
-    → VerdictAtMost (greatest_number a.edition) MAX_INSTANCE_NUMBER v
+    → VerdictAtMost (greatest_number a.edition) max_instance_number v
 bounded_of_each a p labels holds told = tt
 bounded_of_each a p labels (fails x) told = bounded_by_lack a p labels x told
 
 pub told_bounded : (a : PureAlg) (labels : List Labelled) (v : PureVerdicts) → AreTold a labels v
-    → VerdictsAtMost (greatest_number a.edition) MAX_INSTANCE_NUMBER v
+    → VerdictsAtMost (greatest_number a.edition) max_instance_number v
 told_bounded a labels v told p = bounded_of_each a p labels (verdict_on v p) (told p)
 
 -- For all labels of an algebra that the labels cover.

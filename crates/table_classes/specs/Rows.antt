@@ -3,7 +3,7 @@ use Rattle.std.specs.Prelude.{◌≡◌, ℕ, ◌<◌, ◌≤◌, List, length, 
 use Rattle.alg_model.specs.Expressions.{Expression, table, PureCarrier, named, name, PureLabel}
 use Rattle.alg_model.specs.Carriers.{carrier_of}
 use Rattle.alg_model.specs.Application.{App}
-use Rattle.alg_model.specs.declared.alg.TheConstants.{MAX_TABLE_NAMES}
+use Rattle.alg_model.specs.Numbers.{max_table_names}
 use Rattle.alg_classes.specs.Facts.{Action, Fact, total, dead, mono, strict, iso, canc, cond, narrow}
 use Rattle.table_classes.specs.declared.fact.ValueFact.{ValueFact}
 use Rattle.table_classes.specs.declared.fact.ValueFact.TheVariants.{Total, Dead, Mono, Strict}
@@ -27,7 +27,7 @@ image_at images k = option_and_then (λ image. image) (slice_get images k)
 
 -- the values are few, and each image is one of them
 pub record IsRow (row : PureRow) : Type 0 where
-  pub few : length row.names ≤ MAX_TABLE_NAMES
+  pub few : length row.names ≤ max_table_names
   pub within : (k place : ℕ) → image_at row.images k ≡ Some place → place < length row.names
 
 -- the values that the row acts on

@@ -1,7 +1,7 @@
 -- What the program makes: examples that are given ones, classes of composed labels, profiles of constant ones,
 -- and a value that the classes of an algebra show.
 use Rattle.std.specs.Prelude.{◌≡◌, List, [], ◌∷◌, Option, Some, None, option_map}
-use Rattle.alg_model.specs.declared.alg.TheConstants.{MAX_INSTANCE_NUMBER}
+use Rattle.alg_model.specs.Numbers.{max_instance_number}
 use Rattle.alg_model.specs.declared.tree.Value.{Value}
 use Rattle.alg_model.specs.Expressions.{PureAlg, PureCarrier, PureValue, both_label, first_label, second_label}
 use Rattle.alg_model.specs.Views.{pure_label}
@@ -49,7 +49,7 @@ OfConstants c p = (v : PureValue) × In c v × (p ≡ constant_profile c v)
 
 -- a value of the algebra's carrier whose numbers may stand in an instance
 abbrev pub IsValueOf : PureAlg → PureValue → Type 0
-IsValueOf a v = In (carrier_of a.expression) v × AtMost MAX_INSTANCE_NUMBER v
+IsValueOf a v = In (carrier_of a.expression) v × AtMost max_instance_number v
 
 abbrev pub SomeValueOf : PureAlg → Option PureValue → Type 0
 SomeValueOf a None = ⊥
