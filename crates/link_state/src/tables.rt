@@ -1,4 +1,5 @@
 ghost use Rattle.std.specs.Prelude.{◌≡◌, ◌<◌, ◌≤◌, ℕ, Option, Some, None, map, length, vec_len, replicate, slice_index_or, IfOk, IfSome};
+ghost use Rattle.meta_base.specs.Numbers.{max_workers};
 ghost use Rattle.net_graph.specs.Nets.{CanBeNumbered};
 ghost use Rattle.net_graph.specs.declared.route.DestTable.{DestTable};
 ghost use Rattle.best_first.specs.Labels.{AreLabelsOf};
@@ -14,6 +15,11 @@ use std::thread::Threads;
 
 /// The most workers that [`all_tables`] may be given.
 pub const MAX_WORKERS: u32 = 16;
+
+/// The bound of workers is the number of the specification.
+pub fn numbers_are_specified()
+    ensures { MAX_WORKERS ≡ max_workers }
+{}
 
 // Places for so many tables, with none in them yet.
 fn no_tables(alloc: Global, count: usize) -> Result<Vec<Option<DestTable>>, NoMemory>

@@ -1,7 +1,7 @@
 -- What the checks of a table look at, walk by walk, node by node and arc by arc.
 use Rattle.std.specs.Prelude.{◌≡◌, ◌*◌, ℕ, ◌<◌, ◌==◌, Bool, List, [], ◌∷◌, Option, Some, None, true, false, option_map, option_and_then, length, slice_get, if◌then◌else◌, IfSome, IsSomeAnd}
 use Rattle.std.specs.Borrow.{Bor}
-use Rattle.alg_model.specs.declared.edition.TheConstants.{MAX_LABEL_NUMBER}
+use Rattle.alg_model.specs.Numbers.{max_label_number}
 use Rattle.alg_model.specs.declared.tree.Value.{Value}
 use Rattle.alg_model.specs.Bounds.{AtMost}
 use Rattle.alg_model.specs.Carriers.{In, IsPreferred}
@@ -36,7 +36,7 @@ pub record AreOwnValues (net : PureNet) (dest : ℕ) (values : List (Option (Bor
 -- a value of the network that so many labels may have made, one after the other
 pub record IsSmall (net : PureNet) (steps : ℕ) (v : PureValue) : Type 0 where
   pub value_in : In (carrier net) v
-  pub bound : AtMost (steps * MAX_LABEL_NUMBER) v
+  pub bound : AtMost (steps * max_label_number) v
 
 -- the path begins with the node
 abbrev pub begins_with : List ℕ → ℕ → Bool

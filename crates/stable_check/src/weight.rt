@@ -11,6 +11,7 @@ ghost use Rattle.net_graph.specs.Tables.{carrier};
 ghost use Rattle.net_graph.specs.Walks.{Walk, Weight, along};
 ghost use Rattle.stable_check.specs.declared.weight.TheConstants.{MAX_WALK_NODES};
 ghost use Rattle.stable_check.specs.Checks.{carried, IsSmall};
+ghost use Rattle.stable_check.specs.Numbers.{max_walk_nodes};
 
 use crate::lookup::{label_between, origin_value};
 use alg_model::{Value, apply};
@@ -21,6 +22,11 @@ use std::alloc::Global;
 /// How many nodes a walk may have whose weight is asked for: so many labels may be applied to a value of a
 /// network one after the other.
 pub const MAX_WALK_NODES: usize = 1 << 29;
+
+/// The bound of walks is the number of the specification.
+pub fn numbers_are_specified()
+    ensures { MAX_WALK_NODES ≡ max_walk_nodes }
+{}
 
 // What the arc from the tail to the head makes of the value; none where there is no arc or no value.
 fn along(
