@@ -3,7 +3,7 @@
 use Rattle.std.specs.Prelude.{◌≡◌, ℕ, ◌≤◌, ◌⊎◌, List, Some, None, Result, Ok, Err, IsTrue, length}
 use Rattle.meta_base.specs.Count.{HasRisen}
 use Rattle.meta_base.specs.Shelf.{Moment}
-use Rattle.meta_base.specs.declared.limits.TheConstants.{MAX_FILE_BYTES}
+use Rattle.meta_base.specs.Numbers.{max_file_bytes}
 use Rattle.alg_model.specs.Expressions.{PureAlg}
 use Rattle.alg_model.specs.Properties.{PureProperty}
 use Rattle.raml_syntax.specs.ExprText.{ExprText, IsExprFault}
@@ -29,7 +29,7 @@ IsUnlessMemory o answer = (answer_in o ≡ answer) ⊎ (answer_in o ≡ refused 
 pub record IsTold (m : Moment) (name bytes : List ℕ) : Type 0 where
   pub tells : IsTrue m.tells
   pub file : m.file name ≡ Some bytes
-  pub short : length bytes ≤ MAX_FILE_BYTES
+  pub short : length bytes ≤ max_file_bytes
 
 -- bytes that mean no algebra are refused with their fault; of an algebra, this follows
 pub record IsJudged (bytes : List ℕ) (Follows : PureAlg → Type 0) (o : PureOutcome) : Type 0 where

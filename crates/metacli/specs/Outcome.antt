@@ -3,7 +3,7 @@ use Rattle.std.specs.Prelude.{◌≡◌, ◌≤◌, ◌↔◌, ℕ, Bool, true, 
 use Rattle.std.specs.List.{Contains}
 use Rattle.meta_base.specs.Shelf.{Moment}
 use Rattle.meta_base.specs.declared.ids.Delivery.{Delivery}
-use Rattle.alg_model.specs.declared.alg.TheConstants.{MAX_INSTANCE_NUMBER}
+use Rattle.alg_model.specs.Numbers.{max_instance_number}
 use Rattle.alg_model.specs.Expressions.{PureAlg, PureLabel}
 use Rattle.alg_model.specs.Application.{IsLabel}
 use Rattle.alg_model.specs.Bounds.{greatest_number}
@@ -167,7 +167,7 @@ pub record Shows (e : Ended) (asked : Option Command) (o : PureOutcome) : Type 0
 -- the verdicts are exact for the labels of the set, and the numbers of instances are small
 pub record AreVerdictsOn (a : PureAlg) (S : PureLabel → Type 0) (v : PureVerdicts) : Type 0 where
   pub exact : ExactFor a.expression S v
-  pub bound : VerdictsAtMost (greatest_number a.edition) MAX_INSTANCE_NUMBER v
+  pub bound : VerdictsAtMost (greatest_number a.edition) max_instance_number v
 
 -- the property is required
 abbrev pub asks : Required → PureProperty → Bool
