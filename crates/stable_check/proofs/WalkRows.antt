@@ -9,16 +9,9 @@ use Rattle.net_graph.specs.Routes.{PureRoute}
 use Rattle.net_graph.specs.RowTexts.{AreNodesOf}
 use Rattle.net_graph.specs.Tables.{PureRow, TableOf, Relaxed, HasWalks, IsRouteOf, route_at, value_at, carrier}
 use Rattle.net_graph.specs.Walks.{Walk, Weight, along}
-use Rattle.net_graph.specs.ArcLaws.{walk_within}
 use Rattle.net_graph.specs.RouteLaws.{no_route_past}
 use Rattle.stable_check.specs.Checks.{begins_with, IsWalkOf, IsRelaxedAt}
-use Rattle.stable_check.proofs.WalkWeights.{weighs_walk}
-
--- the nodes of a walk are the network's
-walk_nodes : (net : PureNet) → IsNet net → (dest : ℕ) (p : List ℕ) → Walk net dest p → AreNodesOf net p
-walk_nodes net n dest [] w = absurd w
-walk_nodes net n dest (i ∷ []) w = (walk_within net n dest i [] w, tt)
-walk_nodes net n dest (i ∷ j ∷ p) w = (walk_within net n dest i (j ∷ p) w, walk_nodes net n dest (j ∷ p) w.1)
+use Rattle.stable_check.proofs.WalkWeights.{weighs_walk, walk_nodes}
 
 begins : (p : List ℕ) (i : ℕ) → begins_with p i ≡ true → (q : List ℕ) × (p ≡ i ∷ q)
 begins [] i e = absurd (cc)

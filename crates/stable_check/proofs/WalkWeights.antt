@@ -5,7 +5,7 @@ use Rattle.meta_base.specs.NodePaths.{numbers}
 use Rattle.alg_model.specs.Expressions.{PureValue}
 use Rattle.net_graph.specs.Nets.{PureNet, IsNet, has_arc, has_origin, origin_value}
 use Rattle.net_graph.specs.Walks.{Walk, Weight, along}
-use Rattle.net_graph.specs.ArcLaws.{of_some, IsOrigin, origins_are, along_has, along_none, along_in, along_at_most}
+use Rattle.net_graph.specs.ArcLaws.{of_some, IsOrigin, origins_are, along_has, along_none, along_in, along_at_most, walk_within}
 use Rattle.std.specs.Option.{option_copied}
 use Rattle.std.proofs.lemmas.Bool.Decides.{nat_tests}
 use Rattle.alg_model.specs.Bounds.{AtMost}
@@ -32,6 +32,16 @@ no_walk_no_weight net n dest p h = by (Weight net dest p) refl
     by : (o : Option PureValue) → Weight net dest p ≡ o → o ≡ None
     by None e = refl
     by (Some v) e = absurd (h (weighs_walk net n dest p v e))
+
+-- the nodes of a walk are the network's
+pub walk_nodes : (net : PureNet) → IsNet net → (dest : ℕ) (p : List ℕ) → Walk net dest p → AreNodesOf net p
+walk_nodes net n dest [] w = absurd w
+walk_nodes net n dest (i ∷ []) w = (walk_within net n dest i [] w, tt)
+walk_nodes net n dest (i ∷ j ∷ p) w = (walk_within net n dest i (j ∷ p) w, walk_nodes net n dest (j ∷ p) w.1)
+
+-- so a list with others weighs nothing
+pub others_no_weight : (net : PureNet) → IsNet net → (dest : ℕ) (p : List ℕ) → ¬ AreNodesOf net p → Weight net dest p ≡ None
+others_no_weight net n dest p h = no_walk_no_weight net n dest p (λ w. h (walk_nodes net n dest p w))
 
 -- the last of the nodes from i on
 abbrev pub last_from : ℕ → List ℕ → ℕ

@@ -9,9 +9,9 @@ ghost use Rattle.net_graph.specs.Tables.{carrier, route_at, Relaxed, TableOf};
 ghost use Rattle.net_graph.specs.Views.{pure_route, rows_of};
 ghost use Rattle.stable_check.specs.Checks.{begins_with, AreOwnValues, ImprovedBy, IsImproved, IsRelaxedAt, IsWalkOf};
 
-use crate::are_nodes_of;
 use crate::lookup::route_at;
 use crate::own::OwnValues;
+use crate::table::are_nodes_of;
 use crate::weight::carry;
 use alg_model::{Value, apply, order, same_value};
 use meta_base::{NoMemory, NodeId};
