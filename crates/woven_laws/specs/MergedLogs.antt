@@ -164,7 +164,7 @@ module _ (net : PureNet) where
               each_log (logs_of history n) (logs_differ history n) (logs_clocks history clocks n) journal merged i (log_of history i) there
           by i false beyond =
               let far : n ≤ i = ltb-false i n beyond in
-              no_log (logs_of history n) (logs_differ history n) (logs_clocks history clocks n) journal merged i (past_nodes history i 0 n (omega (arith, far))) ∙ ap (map entry_of) (sym (past i far))
+              no_log (logs_of history n) journal merged i (past_nodes history i 0 n (omega (arith, far))) ∙ ap (map entry_of) (sym (past i far))
 
 from_places : {X : Type 0} (f : ℕ → X) (a n : ℕ) (xs : List X) → length xs ≡ n → ((i : ℕ) → i < n → slice_get xs i ≡ Some (f (a + i))) → xs ≡ map f (range_with_len a n)
 from_places f a zero [] long each = refl
