@@ -23,7 +23,8 @@ mod telling;
 mod update;
 
 pub use laws::{
-    carried_nodes_may_begin, new_nodes_may_begin, quiet_runs_are_stable, runs_are_coherent,
+    carried_nodes_may_begin, drained_machines_are_stable, new_nodes_may_begin,
+    quiet_runs_are_stable, runs_are_coherent,
 };
 pub use node::PvNode;
 pub use rows::rows_of;
