@@ -4,29 +4,10 @@ use Rattle.std.specs.Prelude.{◌==◌, min}
 use Rattle.std.proofs.lemmas.Bool.{eqb-true}
 use Rattle.net_graph.specs.Nets.{PureNet}
 use Rattle.net_graph.specs.Routes.{PureRoute}
-use Rattle.net_graph.specs.RouteLaws.{neither_better, same_route}
+use Rattle.net_graph.specs.RouteLaws.{neither_better}
 use Rattle.net_graph.specs.Tables.{Told, carrier, IsOfferBy, Offers, IsChoice}
-use Rattle.vector_rest.specs.Levels.{ReportsOnly, ReportsOwnPaths, AreLevels}
-
--- offers of one path are one offer
-pub same_offer : (net : PureNet) (dest : ℕ) (told : Told) (i : ℕ) (r s : PureRoute) → ReportsOwnPaths told → Offers net dest told i r → Offers net dest told i s → r.path ≡ s.path → r ≡ s
-same_offer net dest told i r s h (inl a) (inl b) e =
-    let v : r.value ≡ s.value = let x = a.0 in let y = b.0 in cc in
-    same_route r s v e
-same_offer net dest told i r s h (inl a) (inr (j, b)) e =
-    let begins = h j b.next b.is_told in
-    absurd (let x = a.1 in let y = b.path in let z = begins.1 in cc)
-same_offer net dest told i r s h (inr (j, a)) (inl b) e =
-    let begins = h j a.next a.is_told in
-    absurd (let x = a.path in let y = b.1 in let z = begins.1 in cc)
-same_offer net dest told i r s h (inr (j, a)) (inr (k, b)) e =
-    let p = h j a.next a.is_told in
-    let q = h k b.next b.is_told in
-    let path : a.next.path ≡ b.next.path = let x = a.path in let y = b.path in cc in
-    let node : j ≡ k = let x = p.1 in let y = q.1 in cc in
-    let next : a.next ≡ b.next = let x = a.is_told in let y = b.is_told in cc in
-    let v : r.value ≡ s.value = let x = a.weighs in let y = b.weighs in cc in
-    same_route r s v e
+use Rattle.settled_laws.specs.Offers.{TellsOwnPaths, same_offer}
+use Rattle.vector_rest.specs.Levels.{ReportsOnly, AreLevels}
 
 -- an offer is one still, or is made of what the neighbour reported before its report changed
 moved : (net : PureNet) (dest : ℕ) (told other : Told) (i j : ℕ) → ((m : ℕ) → (m == j) ≡ false → told m ≡ other m)
@@ -45,7 +26,7 @@ module _ (net : PureNet) (Has : PureRoute → Type 0) (level : Option PureRoute 
       let below : level (Some o.next) < level (Some r) = are.extends told i j r o (reports j o.next o.is_told) has in
       subst (λ t. level t < level (Some r)) (sym o.is_told) below
 
-  module _ (dest : ℕ) (told other : Told) (i j : ℕ) (reports : ReportsOnly Has told) (reports_other : ReportsOnly Has other) (own : ReportsOwnPaths told)
+  module _ (dest : ℕ) (told other : Told) (i j : ℕ) (reports : ReportsOnly Has told) (reports_other : ReportsOnly Has other) (own : TellsOwnPaths told)
       (same : (m : ℕ) → (m == j) ≡ false → told m ≡ other m) where
     both : (r s : PureRoute) → Has r → Has s → IsChoice net dest told i (Some r) → IsChoice net dest other i (Some s) → (r ≡ s → ⊥)
         → min (level (told j)) (level (other j)) < min (level (Some r)) (level (Some s))

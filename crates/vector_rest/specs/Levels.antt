@@ -9,6 +9,7 @@ use Rattle.node_core.specs.Kinds.{listener}
 use Rattle.node_core.specs.Machine.{Machine}
 use Rattle.path_vector.specs.Items.{IsItem}
 use Rattle.path_vector.specs.Node.{PvState, PureUpdate}
+use Rattle.settled_laws.specs.Offers.{TellsOwnPaths}
 use Rattle.vector_rest.specs.Reached.{reached, start_values}
 
 -- how many of the values are preferred to this one
@@ -31,16 +32,12 @@ pub record Occurs (values : List PureValue) (n : ℕ) (r : PureRoute) : Type 0 w
 abbrev pub ReportsOnly : (PureRoute → Type 0) → Told → Type 0
 ReportsOnly Has told = (j : ℕ) (next : PureRoute) → told j ≡ Some next → Has next
 
--- the path of each route that a neighbour reports begins with the neighbour
-abbrev pub ReportsOwnPaths : Told → Type 0
-ReportsOwnPaths told = (j : ℕ) (next : PureRoute) → told j ≡ Some next → (p : List ℕ) × (next.path ≡ j ∷ p)
-
 -- What the neighbours of node i report changes for one neighbour, j, and its choice changes from r to s. All routes are
 -- of these, and begin with the node that reports them.
 pub record ChangesByOne (net : PureNet) (Has : PureRoute → Type 0) (dest i j : ℕ) (told other : Told) (r s : Option PureRoute) : Type 0 where
   pub has : ReportsOnly Has told
   pub has_other : ReportsOnly Has other
-  pub own_paths : ReportsOwnPaths told
+  pub own_paths : TellsOwnPaths told
   pub one : (m : ℕ) → (m == j) ≡ false → told m ≡ other m
   pub choice : IsChoice net dest told i r
   pub choice_other : IsChoice net dest other i s

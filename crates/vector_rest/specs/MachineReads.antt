@@ -33,7 +33,8 @@ use Rattle.vector_rest.specs.Reached.{start_values}
 use Rattle.vector_rest.specs.ReachedLaws.{reached_up, reached_in, start_in}
 use Rattle.vector_rest.specs.Reaching.{IsReached, HeardReached}
 use Rattle.vector_rest.specs.MachineReach.{heard_from, IsTaker, taker, clock, after, out, row, steps, node_is_after, here_after, row_after, rows_reached, reached_after, AreReached, replays_reach}
-use Rattle.vector_rest.specs.Levels.{Occurs, ReportsOnly, ReportsOwnPaths, AreLevels, learn, known_on, values_from, level_from, budget_from}
+use Rattle.settled_laws.specs.Offers.{TellsOwnPaths}
+use Rattle.vector_rest.specs.Levels.{Occurs, ReportsOnly, AreLevels, learn, known_on, values_from, level_from, budget_from}
 use Rattle.vector_rest.specs.LevelLaws.{levels_are}
 use Rattle.vector_rest.specs.ChoiceLaws.{levels_rise}
 
@@ -199,7 +200,7 @@ module _ (net : PureNet) (n : IsNet net) (start : Machine PvState PureUpdate) (k
         let at : c.node from.arc.tail ≡ Some s = subst (λ z. c.node z ≡ Some s) (sym from.there.tail) node in
         occurs dest from.arc.head next (heard from.arc s dest next from.there.stands at from.heard) (kc.known from.arc s dest next from.there.stands at from.heard).1
 
-    heard_begins : ReportsOwnPaths (heard_of s dest)
+    heard_begins : TellsOwnPaths (heard_of s dest)
     heard_begins j next e =
         let from = heard_from net n c kc i dest s node j next e in
         let at : c.node from.arc.tail ≡ Some s = subst (λ z. c.node z ≡ Some s) (sym from.there.tail) node in
