@@ -8,5 +8,6 @@ mod Linking
 mod Deals
 mod Parting
 mod Round
+mod OneRound
 mod Returns
 mod Ending
