@@ -11,7 +11,7 @@ ghost use Rattle.settled_laws.specs.UniqueTables.{LabelsAreMonotone, TablesAreUn
 
 /// Where all labels are monotone, a table that is made best first is stable: a route is better than what an arc makes
 /// of it, since where the value isn't worse the path is longer (after Sobrinho 2005; Griffin and Sobrinho 2005).
-#[tactic(auto, using(crate::specs::BestFirst::best_first_is_stable))]
+#[tactic(auto, using(crate::proofs::BestFirst::best_first_is_stable))]
 pub fn best_first_is_stable()
     ensures { (net : PureNet) (dest : ℕ) (t : List PureRow) → IsNet net → NetHas monotone net → BestFirst net dest t →
         Stable net dest t }
@@ -32,7 +32,7 @@ pub fn stable_rows_are_settled()
 {}
 
 /// Labels that are strictly monotone are monotone, so all of this holds of them too.
-#[tactic(auto, using(crate::specs::StrictLabels::strict_net_is_monotone))]
+#[tactic(auto, using(crate::proofs::StrictLabels::strict_net_is_monotone))]
 pub fn strict_is_monotone()
     ensures { (net : PureNet) → NetHas strict net → NetHas monotone net }
 {}
@@ -57,13 +57,13 @@ pub fn improving_pair_has_two_tables()
 
 /// In every network over an algebra any two stable tables of one destination are equal, exactly if all labels of the
 /// algebra are monotone.
-#[tactic(auto, using(crate::specs::OneTable::unique_exactly_where_monotone))]
+#[tactic(auto, using(crate::proofs::OneTable::unique_exactly_where_monotone))]
 pub fn tables_are_unique_exactly_where_labels_are_monotone()
     ensures { (alg : PureAlg) → IsAlg alg → (TablesAreUnique alg ↔ LabelsAreMonotone alg) }
 {}
 
 /// So a verdict on monotone that is exact for all labels of an algebra decides it.
-#[tactic(auto, using(crate::specs::OneTable::verdict_decides))]
+#[tactic(auto, using(crate::proofs::OneTable::verdict_decides))]
 pub fn monotone_verdict_decides_uniqueness()
     ensures { (alg : PureAlg) (verdict : PureVerdict) → IsAlg alg →
         IsExact monotone alg.expression (IsLabel alg.expression) verdict → ((verdict ≡ holds) ↔ TablesAreUnique alg) }

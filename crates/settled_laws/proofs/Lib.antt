@@ -1,0 +1,3 @@
+mod BestFirst
+mod StrictLabels
+mod OneTable
