@@ -1,9 +1,9 @@
 -- The numbers of labels of base algebras and of the examples of their facts are bounded, and so what the
 -- table tells and its witnesses make a class.
-use Rattle.std.proofs.Common.{◌≡◌, ℕ, ◌≤◌, ◌<◌, ◌==◌, sym, subst, Bool, true, false, Some, arith}
+use Rattle.std.proofs.Common.{◌≡◌, refl, Option, None, ℕ, ◌≤◌, ◌<◌, ◌==◌, sym, subst, Bool, true, false, Some, arith}
 use Rattle.std.specs.Prelude.{if◌then◌else◌}
 use Rattle.alg_model.specs.declared.alg.TheConstants.{MAX_INSTANCE_NUMBER}
-use Rattle.alg_model.specs.Expressions.{Expression, PureAlg, add, cap, worst, width, pref, orig, seq, simseq, tags, guard, gate}
+use Rattle.alg_model.specs.Expressions.{Expression, PureAlg, PureCarrier, PureValue, add, cap, worst, width, pref, orig, seq, simseq, tags, guard, gate}
 use Rattle.alg_model.specs.Expressions.{PureLabel, number_label, symbol_label, need, bar}
 use Rattle.alg_model.specs.Views.{pure_label}
 use Rattle.alg_model.specs.Carriers.{carrier_of}
@@ -15,14 +15,15 @@ use Rattle.alg_model.specs.Formation.{IsAlg, MeetsRanges}
 use Rattle.alg_classes.specs.declared.class.Class.{Class}
 use Rattle.alg_classes.specs.declared.class.Examples.{Examples}
 use Rattle.alg_classes.specs.declared.profile.Profile.{Profile}
-use Rattle.alg_classes.specs.Facts.{Fact, PureExample}
+use Rattle.alg_classes.specs.declared.fact.Fact.{Fact}
+use Rattle.alg_classes.specs.Facts.{Action, PureExample, at, between, FailsAt}
 use Rattle.alg_classes.specs.Profiles.{bit}
 use Rattle.alg_classes.specs.ClassLaws.{on_all}
 use Rattle.alg_classes.specs.Classes.{Settles, IsSettledBy, ExampleAtMost, ExamplesAtMost, ClassOf, pure_examples}
 use Rattle.base_classes.specs.declared.examples.Numbers.{Numbers}
 use Rattle.base_classes.specs.Kinds.{IsBase, number_in}
 use Rattle.base_classes.specs.Profiles.{base_profile_of}
-use Rattle.base_classes.specs.Witnesses.{Witness, AreExamples, unless, failing, base_witness_of, number_witness, set_witness, guard_witness, sequence_witness, unit_witness, other_symbol}
+use Rattle.base_classes.specs.Witnesses.{Witness, AreExamples, of_one, of_two, unless, failing, base_witness_of, number_witness, set_witness, guard_witness, sequence_witness, unit_witness, other_symbol}
 use Rattle.base_classes.specs.Witnesses.{add_numbers, cap_numbers, worst_numbers, width_numbers, pref_numbers, orig_numbers}
 use Rattle.base_classes.specs.BaseLaws.{base_settled}
 use Rattle.base_classes.specs.CandidateLaws.{label_bounded}
@@ -82,19 +83,45 @@ failing_bounded n false e h = h
 edition_bounded : (e : Edition) → greatest_number e < MAX_INSTANCE_NUMBER
 edition_bounded e = omega (arith, greatest_is_bounded e)
 
--- examples by the witnesses settle the facts as the table tells
-pub examples_settled : (a : Expression) (l : PureLabel) (p : Profile) (x : Examples) → IsBase a → MeetsRanges a → IsLabel a l
+-- an example by the witness settles its fact as the table tells
+pub example_settled : (a : Expression) (l : PureLabel) (p : Profile) (k : Fact) (o : Option PureExample) → IsBase a → MeetsRanges a → IsLabel a l
+    → p ≡ base_profile_of a l → o ≡ failing p (base_witness_of a l) k → Settles (carrier_of a) (App a l) k (bit (base_profile_of a l) k) o
+example_settled a l p k o base ranges i told e =
+    subst (Settles (carrier_of a) (App a l) k (bit (base_profile_of a l) k)) (sym e)
+    (subst (λ q. Settles (carrier_of a) (App a l) k (bit (base_profile_of a l) k) (failing q (base_witness_of a l) k)) (sym told) (base_settled a l base ranges i k))
+
+-- and no number of it is above the bound
+pub example_bounded : (e : Edition) (a : Expression) (l : PureLabel) (p : Profile) (k : Fact) (o : Option PureExample) → IsBase a
+    → ExpressionAtMost (greatest_number e) a → IsLabel a l → o ≡ failing p (base_witness_of a l) k → ExampleAtMost MAX_INSTANCE_NUMBER o
+example_bounded e a l p k o base small i is =
+    subst (ExampleAtMost MAX_INSTANCE_NUMBER) (sym is) (failing_bounded MAX_INSTANCE_NUMBER (bit p k) (base_witness_of a l k)
+    (witness_bounded (greatest_number e) a l (edition_bounded e) base small (label_bounded (greatest_number e) a l base small i) i k))
+
+-- so do examples of all facts
+examples_settled : (a : Expression) (l : PureLabel) (p : Profile) (x : Examples) → IsBase a → MeetsRanges a → IsLabel a l
     → p ≡ base_profile_of a l → AreExamples x p (base_witness_of a l) → IsSettledBy (carrier_of a) (App a l) p (pure_examples x)
 examples_settled a l p x base ranges i told e = λ k.
-    subst (λ o. Settles (carrier_of a) (App a l) k (bit p k) o) (sym (e k))
-    (subst (λ q. Settles (carrier_of a) (App a l) k (bit q k) (failing q (base_witness_of a l) k)) (sym told) (base_settled a l base ranges i k))
+    subst (λ q. Settles (carrier_of a) (App a l) k (bit q k) (pure_examples x k)) (sym told)
+    (example_settled a l p k (pure_examples x k) base ranges i told (e k))
 
--- and no number of them is above the bound
-pub examples_bounded : (e : Edition) (a : Expression) (l : PureLabel) (p : Profile) (x : Examples) → IsBase a → ExpressionAtMost (greatest_number e) a
+examples_bounded : (e : Edition) (a : Expression) (l : PureLabel) (p : Profile) (x : Examples) → IsBase a → ExpressionAtMost (greatest_number e) a
     → IsLabel a l → AreExamples x p (base_witness_of a l) → ExamplesAtMost MAX_INSTANCE_NUMBER (pure_examples x)
-examples_bounded e a l p x base small i are = λ k.
-    subst (ExampleAtMost MAX_INSTANCE_NUMBER) (sym (are k)) (failing_bounded MAX_INSTANCE_NUMBER (bit p k) (base_witness_of a l k)
-    (witness_bounded (greatest_number e) a l (edition_bounded e) base small (label_bounded (greatest_number e) a l base small i) i k))
+examples_bounded e a l p x base small i are = λ k. example_bounded e a l p k (pure_examples x k) base small i (are k)
+
+-- an example that settles a fact is one value, or two, as the fact wants
+pub one_value : (c : PureCarrier) (f : Action) (k : Fact) (b : Bool) (o : Option PureExample) → Settles c f k b o
+    → ((u v : PureValue) → ¬ FailsAt c f k (between u v)) → of_one o ≡ o
+one_value c f k b None s not_two = refl
+one_value c f k b (Some (at v)) s not_two = refl
+one_value c f k true (Some (between u v)) s not_two = absurd s
+one_value c f k false (Some (between u v)) s not_two = absurd (not_two u v s.1)
+
+pub two_values : (c : PureCarrier) (f : Action) (k : Fact) (b : Bool) (o : Option PureExample) → Settles c f k b o
+    → ((v : PureValue) → ¬ FailsAt c f k (at v)) → of_two o ≡ o
+two_values c f k b None s not_one = refl
+two_values c f k b (Some (between u v)) s not_one = refl
+two_values c f k true (Some (at v)) s not_one = absurd s
+two_values c f k false (Some (at v)) s not_one = absurd (not_one v s.1)
 
 -- a copy of the label, what the table tells of it, and the examples by its witnesses make a class of it
 pub class_is : (a : PureAlg) (class : Class) (l : PureLabel) (x y : Expression) → IsAlg a → IsBase a.expression → IsLabel a.expression l

@@ -49,25 +49,25 @@ was_sum : (b : Bool) (s : ℕ) (w : PureValue) → sum_if b s ≡ Some w → (b 
 was_sum true s w e = (refl, cc)
 was_sum false s w e = absurd (cc)
 
-sum_mono : (top : ℕ) (b : Bool) (s m : ℕ) → m ≤ s → ¬ IsPreferred (up_to top) (sum_if b s) (Some (number m))
-sum_mono top true s m h e = omega (arith, when_less s m e)
-sum_mono top false s m h e = cc
+sum_monotone : (top : ℕ) (b : Bool) (s m : ℕ) → m ≤ s → ¬ IsPreferred (up_to top) (sum_if b s) (Some (number m))
+sum_monotone top true s m h e = omega (arith, when_less s m e)
+sum_monotone top false s m h e = cc
 
 sum_strict : (top : ℕ) (b : Bool) (s m : ℕ) → m < s → IsPreferred (up_to top) (Some (number m)) (sum_if b s)
 sum_strict top true s m h = less m s h
 sum_strict top false s m h = refl
 
-sum_iso : (top : ℕ) (b c : Bool) (s t : ℕ) → (b ≡ true → c ≡ true) → t ≤ s → ¬ IsPreferred (up_to top) (sum_if b s) (sum_if c t)
-sum_iso top true true s t i h e = omega (arith, when_less s t e)
-sum_iso top true false s t i h e = let f = i refl in cc
-sum_iso top false true s t i h e = cc
-sum_iso top false false s t i h e = cc
+sum_isotone : (top : ℕ) (b c : Bool) (s t : ℕ) → (b ≡ true → c ≡ true) → t ≤ s → ¬ IsPreferred (up_to top) (sum_if b s) (sum_if c t)
+sum_isotone top true true s t i h e = omega (arith, when_less s t e)
+sum_isotone top true false s t i h e = let f = i refl in cc
+sum_isotone top false true s t i h e = cc
+sum_isotone top false false s t i h e = cc
 
-sum_canc : (top : ℕ) (b c : Bool) (s t : ℕ) → AreEquivalent (up_to top) (sum_if b s) (sum_if c t) → s ≡ t
-sum_canc top true true s t e = when_alike s t e
-sum_canc top true false s t e = absurd e
-sum_canc top false true s t e = absurd e
-sum_canc top false false s t e = absurd e
+sum_cancellative : (top : ℕ) (b c : Bool) (s t : ℕ) → AreEquivalent (up_to top) (sum_if b s) (sum_if c t) → s ≡ t
+sum_cancellative top true true s t e = when_alike s t e
+sum_cancellative top true false s t e = absurd e
+sum_cancellative top false true s t e = absurd e
+sum_cancellative top false false s t e = absurd e
 
 pub cap_told : (top low high n : ℕ) → Told (up_to top) (caps top low high n) (cap_profile top n) (number_witness (cap_numbers top n))
 cap_told top low high n = on_all (λ k. Tells (up_to top) (caps top low high n) k (bit (cap_profile top n) k) (number_witness (cap_numbers top n) k)) (
@@ -77,15 +77,15 @@ cap_told top low high n = on_all (λ k. Tells (up_to top) (caps top low high n) 
   λ e. on_up top (λ v. caps top low high n v ≡ None) (λ m i. fails top m n (omega (arith, is_less top n e))),
   λ e. (omega arith, (number (0 + n), fits top 0 n (omega (arith, at_least top n e)))),
 )
-    (always (on_up top (λ v. ¬ IsPreferred (up_to top) (caps top low high n v) (Some v)) (λ m i. sum_mono top (nat_le (m + n) top) (m + n) m (omega arith)))) (
+    (always (on_up top (λ v. ¬ IsPreferred (up_to top) (caps top low high n v) (Some v)) (λ m i. sum_monotone top (nat_le (m + n) top) (m + n) m (omega arith)))) (
       λ e. on_up top (λ v. IsPreferred (up_to top) (Some v) (caps top low high n v)) (λ m i. sum_strict top (nat_le (m + n) top) (m + n) m (omega (arith, not_zero n e))),
       λ e. let z = is_zero n e in (omega arith, (number (0 + n), fits top 0 n (omega (arith, z)), λ h. omega (arith, z, when_less 0 (0 + n) h))),
     )
     (always (on_two_up top (λ u v. ¬ IsPreferred (up_to top) (Some v) (Some u) → ¬ IsPreferred (up_to top) (caps top low high n v) (caps top low high n u))
     (λ l m i j h. let k = not_below m l h in
-    sum_iso top (nat_le (m + n) top) (nat_le (l + n) top) (m + n) (l + n) (λ e. tests_at_most (l + n) top (omega (arith, k, is_at_most (m + n) top e))) (omega (arith, k)))))
+    sum_isotone top (nat_le (m + n) top) (nat_le (l + n) top) (m + n) (l + n) (λ e. tests_at_most (l + n) top (omega (arith, k, is_at_most (m + n) top e))) (omega (arith, k)))))
     (always (on_two_up top (λ u v. AreEquivalent (up_to top) (caps top low high n u) (caps top low high n v) → AreEquivalent (up_to top) (Some u) (Some v))
-    (λ l m i j h. alike l m (omega (arith, sum_canc top (nat_le (l + n) top) (nat_le (m + n) top) (l + n) (m + n) h))))) (
+    (λ l m i j h. alike l m (omega (arith, sum_cancellative top (nat_le (l + n) top) (nat_le (m + n) top) (l + n) (m + n) h))))) (
       λ e u v w x i j g h. on_two_up top (λ u v. caps top low high n u ≡ Some w → caps top low high n v ≡ Some x → Order (up_to top) w x ≡ Equal)
           (λ l m a b g h.
           let p = was_sum (nat_le (l + n) top) (l + n) w g in

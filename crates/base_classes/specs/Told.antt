@@ -3,7 +3,8 @@ use Rattle.std.proofs.Common.{◌≡◌, ℕ, ◌≤◌, refl, Bool, true, false
 use Rattle.alg_model.specs.Expressions.{PureCarrier, PureValue, number, whole, up_to, down_from}
 use Rattle.alg_model.specs.Carriers.{In}
 use Rattle.alg_classes.specs.declared.profile.Profile.{Profile}
-use Rattle.alg_classes.specs.Facts.{Action, Fact, Holds, PureExample, Refutes}
+use Rattle.alg_classes.specs.declared.fact.Fact.{Fact}
+use Rattle.alg_classes.specs.Facts.{Action, Holds, PureExample, Refutes}
 use Rattle.alg_classes.specs.Profiles.{bit}
 use Rattle.alg_classes.specs.Classes.{Settles, IsSettledBy}
 use Rattle.base_classes.specs.Witnesses.{Witness, unless, failing}

@@ -6,10 +6,10 @@ ghost use Rattle.alg_model.specs.Formation.{MeetsRanges};
 ghost use Rattle.alg_classes.specs.Profiles.{ProfileOf};
 ghost use Rattle.base_classes.specs.Kinds.{IsBase, number_in, is_allow};
 ghost use Rattle.base_classes.specs.Profiles.{base_profile_of, add_profile, cap_profile, worst_profile, width_profile};
-ghost use Rattle.base_classes.specs.Profiles.{pref_profile, keep_profile, dead_profile, seq_profile, simseq_profile};
+ghost use Rattle.base_classes.specs.Profiles.{pref_profile, keep_profile, seq_profile, simseq_profile};
 ghost use Rattle.base_classes.specs.Profiles.{guard_profile};
 
-use alg_classes::Profile;
+use alg_classes::{Profile, denied_profile};
 use alg_model::{Alg, Label, Tree};
 
 /// Which facts the label of a base algebra has. It takes no memory.
@@ -51,7 +51,7 @@ pub(crate) fn rule(tree: &Tree, label: &Label) -> Profile
         Tree::Tags { .. } => keep_rule(true),
         Tree::Guard { .. } => guard_rule(),
         Tree::Gate if is_allow(label) => keep_rule(true),
-        Tree::Gate => dead_rule(),
+        Tree::Gate => denied_profile(),
         Tree::Table(_)
         | Tree::Lex(_, _)
         | Tree::Scoped(_, _)
@@ -176,20 +176,5 @@ fn keep_rule(flat: bool) -> Profile
         canc: true,
         cond: flat,
         narrow: flat,
-    }
-}
-
-fn dead_rule() -> Profile
-    ensures { result ≡ dead_profile }
-{
-    Profile {
-        total: false,
-        dead: true,
-        mono: true,
-        strict: true,
-        iso: true,
-        canc: true,
-        cond: true,
-        narrow: true,
     }
 }

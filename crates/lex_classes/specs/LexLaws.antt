@@ -8,7 +8,7 @@ use Rattle.alg_model.specs.Application.{IsLabel}
 use Rattle.alg_model.specs.Formation.{IsFormed}
 use Rattle.alg_classes.specs.declared.profile.Profile.{Profile}
 use Rattle.alg_classes.specs.declared.class.Class.{Class}
-use Rattle.alg_classes.specs.Facts.{Fact}
+use Rattle.alg_classes.specs.declared.fact.Fact.{Fact}
 use Rattle.alg_classes.specs.Classes.{pure_examples, alg_in, ClassOf, IsCovered, Covers}
 use Rattle.alg_classes.specs.Pairs.{pair_profile, pair_examples}
 use Rattle.alg_classes.specs.PairLaws.{lex_settled, lex_profile_is, pair_bound}

@@ -12,7 +12,7 @@ use Rattle.alg_model.specs.Laws.{formed_scoped}
 use Rattle.alg_model.specs.CarrierLaws.{carriers_are}
 use Rattle.alg_classes.specs.declared.profile.Profile.{Profile}
 use Rattle.alg_classes.specs.declared.class.Class.{Class}
-use Rattle.alg_classes.specs.Facts.{Fact}
+use Rattle.alg_classes.specs.declared.fact.Fact.{Fact}
 use Rattle.alg_classes.specs.Profiles.{IsProfile, ProfileOf}
 use Rattle.alg_classes.specs.Classes.{PureExamples, pure_examples, IsSettledBy, ExamplesAtMost, alg_in, ClassOf, IsCovered, Covers}
 use Rattle.alg_classes.specs.ClassLaws.{images_kept}
