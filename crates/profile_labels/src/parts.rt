@@ -8,7 +8,8 @@ ghost use Rattle.alg_model.specs.Expressions.{Expression, PureAlg, lex, scoped, 
 ghost use Rattle.alg_model.specs.Formation.{IsAlg, IsCarrier, IsFormed};
 ghost use Rattle.alg_model.specs.Views.{expression_of, pure_carrier, pure_value};
 ghost use Rattle.alg_model.specs.declared.edition.Edition.{Edition};
-ghost use Rattle.profile_labels.specs.Growth.{Grown, Only, Over};
+ghost use Rattle.alg_classes.specs.Growth.{Only};
+ghost use Rattle.profile_labels.specs.Growth.{Grown, Over};
 ghost use Rattle.profile_labels.specs.Labels.{CoversBy, LabelledOf};
 ghost use Rattle.scoped_classes.specs.Scoped.{OfOuters, outer_rule};
 
@@ -23,8 +24,8 @@ use meta_base::{List, NoMemory};
 use std::alloc::Global;
 use union_classes::{left_class_list, right_class_list};
 
-/// Labels of the algebra, among which each profile of its labels is, each with its profile. They are refused for
-/// want of memory alone.
+/// Labels of the algebra, each with its profile: one for each profile that a label of it has. They are refused for want of
+/// memory alone.
 pub fn covering_labels(alloc: Global, alg: &Alg) -> Result<List<Labelled>, NoMemory>
     ensures { IfOk result (CoversBy alg.now) }
 {
