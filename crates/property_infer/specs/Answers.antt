@@ -3,7 +3,8 @@
 use Rattle.std.specs.Prelude.{Option, Some, None}
 use Rattle.alg_model.specs.Numbers.{max_instance_number}
 use Rattle.alg_model.specs.Expressions.{PureCarrier}
-use Rattle.alg_classes.specs.Facts.{Action, Fact, Holds, PureExample, Refutes}
+use Rattle.alg_classes.specs.declared.fact.Fact.{Fact}
+use Rattle.alg_classes.specs.Facts.{Action, Holds, PureExample, Refutes}
 use Rattle.alg_classes.specs.Classes.{ExampleAtMost}
 
 abbrev pub Answers : PureCarrier → Action → Fact → Option PureExample → Type 0

@@ -4,22 +4,13 @@ use Rattle.std.specs.List.{AllByRecursion}
 use Rattle.alg_model.specs.Bounds.{greatest_number}
 use Rattle.alg_model.specs.Expressions.{PureAlg, PureLabel}
 use Rattle.alg_model.specs.Instances.{InstanceAtMost}
-use Rattle.alg_model.specs.Properties.{PureProperty, monotone, strict, isotone, cancellative, total, Has}
+use Rattle.alg_model.specs.Properties.{PureProperty, Has}
 use Rattle.alg_model.specs.Verdicts.{PureInstance, Violates, PureVerdict, holds, fails, PureVerdicts, OnEach}
 use Rattle.alg_model.specs.Views.{pure_label}
 use Rattle.alg_model.specs.Numbers.{max_instance_number}
-use Rattle.alg_classes.specs.Facts as fact
-use Rattle.alg_classes.specs.Facts.{PureExample, at, between}
+use Rattle.alg_classes.specs.Facts.{fact_of}
 use Rattle.alg_classes.specs.Profiles.{bit}
 use Rattle.profile_labels.specs.declared.labelled.Labelled.{Labelled}
-
--- the fact that a property is
-abbrev pub fact_of : PureProperty → fact.Fact
-fact_of monotone = fact.mono
-fact_of strict = fact.strict
-fact_of isotone = fact.iso
-fact_of cancellative = fact.canc
-fact_of total = fact.total
 
 -- the instance shows that the label lacks the property, and its numbers are small
 pub record IsLackOf (a : PureAlg) (p : PureProperty) (l : PureLabel) (x : PureInstance) : Type 0 where
@@ -40,8 +31,3 @@ IsTold a labels p (fails x) = IsLackAmong a p labels x
 
 abbrev pub AreTold : PureAlg → List Labelled → PureVerdicts → Type 0
 AreTold a labels = OnEach (IsTold a labels)
-
--- the label has the property, or the instance shows that it doesn't
-abbrev pub IsToldOf : PureAlg → PureProperty → PureLabel → PureVerdict → Type 0
-IsToldOf a p l holds = Has p a.expression l
-IsToldOf a p l (fails x) = IsLackOf a p l x

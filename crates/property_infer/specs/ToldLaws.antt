@@ -1,34 +1,24 @@
 -- What labels tell is exact: for the algebra where they cover it, and for any set of labels whose profiles they have.
 use Rattle.std.proofs.Common.{◌≡◌, sym, subst, List, [], ◌∷◌, true, ⊎_elim}
 use Rattle.std.specs.List.{AllByRecursion, Contains}
+use Rattle.std.proofs.lemmas.List.Elements.{Contains-push, Contains-push_cases}
 use Rattle.alg_model.specs.Expressions.{Expression, PureAlg, PureLabel}
 use Rattle.alg_model.specs.Carriers.{carrier_of}
 use Rattle.alg_model.specs.Application.{IsLabel, App}
 use Rattle.alg_model.specs.Bounds.{greatest_number}
 use Rattle.alg_model.specs.Numbers.{max_instance_number}
-use Rattle.alg_model.specs.Properties.{PureProperty, monotone, strict, isotone, cancellative, total, Has}
+use Rattle.alg_model.specs.Properties.{PureProperty, Has}
 use Rattle.alg_model.specs.Verdicts.{PureInstance, IsExact, ExactFor, PureVerdict, holds, fails, PureVerdicts, verdict_on}
 use Rattle.alg_model.specs.Instances.{InstanceAtMost, VerdictAtMost, VerdictsAtMost}
 use Rattle.alg_model.specs.Views.{pure_label}
 use Rattle.alg_classes.specs.declared.profile.Profile.{Profile}
-use Rattle.alg_classes.specs.Facts.{Holds}
+use Rattle.alg_classes.specs.Facts.{fact_of}
+use Rattle.alg_classes.specs.FactLaws.{has_by_profile}
 use Rattle.alg_classes.specs.Profiles.{bit, ProfileOf}
 use Rattle.profile_labels.specs.declared.labelled.Labelled.{Labelled}
 use Rattle.profile_labels.specs.Labels.{CoversBy, Has as HasProfile, IsCoveredBy, LabelledOf}
 use Rattle.property_infer.specs.Labels.{CoversLabels}
-use Rattle.property_infer.specs.Told.{fact_of, IsLackAmong, IsTold, AreTold}
-
--- a property is its fact
-fact_has : (p : PureProperty) (a : Expression) (l : PureLabel) → Holds (carrier_of a) (App a l) (fact_of p) → Has p a l
-fact_has monotone a l h = h
-fact_has strict a l h = h
-fact_has isotone a l h = h
-fact_has cancellative a l h = h
-fact_has total a l h = h
-
--- a label with the profile has the property, if that has its fact
-pub has_by_profile : (p : PureProperty) (a : Expression) (l : PureLabel) (q : Profile) → ProfileOf a l q → bit q (fact_of p) ≡ true → Has p a l
-has_by_profile p a l q is e = fact_has p a l ((is (fact_of p)).0 e)
+use Rattle.property_infer.specs.Told.{IsLackAmong, IsTold, AreTold}
 
 -- What is told of labels of a set whose profiles they have is exact for it.
 
@@ -89,3 +79,16 @@ told_of_all a labels v covers told = told_exact a (IsLabel a.expression) labels 
 pub told_of_labels : (a : PureAlg) (all : List PureLabel) (labels : List Labelled) (v : PureVerdicts) → CoversLabels a all labels → AreTold a labels v
     → ExactFor a.expression (Contains all) v
 told_of_labels a all labels v c told = told_exact a (Contains all) labels v c.among c.covered told
+
+only_one : (l m : PureLabel) → Contains (l ∷ []) m → m ≡ l
+only_one l m h = ⊎_elim (λ e. e) (λ b. absurd b) (Contains-push_cases [] l m h)
+
+only_exact : (a : PureAlg) (p : PureProperty) (l : PureLabel) (v : PureVerdict) → IsExact p a.expression (Contains (l ∷ [])) v
+    → IsExact p a.expression (λ m. m ≡ l) v
+only_exact a p l holds h = λ m e. h m (subst (Contains (l ∷ [])) (sym e) (Contains-push [] l))
+only_exact a p l (fails x) h = (h.0, only_one l x.label h.1, h.2)
+
+-- For one label.
+pub told_of_label : (a : PureAlg) (l : PureLabel) (labels : List Labelled) (v : PureVerdicts) → CoversLabels a (l ∷ []) labels → AreTold a labels v
+    → ExactFor a.expression (λ m. m ≡ l) v
+told_of_label a l labels v c told p = only_exact a p l (verdict_on v p) (told_of_labels a (l ∷ []) labels v c told p)

@@ -8,12 +8,12 @@ ghost use Rattle.alg_model.specs.Bounds.{LabelAtMost, greatest_number};
 ghost use Rattle.alg_model.specs.Formation.{IsFormed};
 ghost use Rattle.alg_model.specs.Views.{expression_of, pure_label};
 
-use alg_classes::Profile;
+use alg_classes::{Profile, has_profile};
 use alg_model::{Alg, Label, Tree};
 use base_classes::base_tree_profile;
 use lex_classes::lex_profile;
 use meta_base::{List, NoMemory};
-use profile_labels::{Labelled, has_profile};
+use profile_labels::Labelled;
 use scoped_classes::{inner_profile, outer_profile};
 use std::alloc::Global;
 use table_classes::table_tree_profile;

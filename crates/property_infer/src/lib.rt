@@ -7,7 +7,6 @@
 mod action;
 mod decided;
 mod example;
-mod fact;
 mod labels;
 mod laws;
 mod pairs;
@@ -19,5 +18,5 @@ mod verdict;
 pub use decided::{label_verdicts, verdicts};
 pub use labels::{add_label, label_profile};
 pub use laws::{verdicts_of_covered_labels_are_exact, verdicts_of_covering_labels_are_exact};
-pub use told::verdicts_of;
+pub use told::{instance_against, verdicts_of};
 pub use verdict::{Verdict, Verdicts};

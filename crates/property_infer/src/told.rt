@@ -1,49 +1,28 @@
 // What labels and their profiles tell of properties.
-ghost use Rattle.std.specs.Prelude.{◌≡◌, IfOk};
+ghost use Rattle.std.specs.Prelude.{IfOk};
 ghost use Rattle.std.specs.List.{AllByRecursion};
 ghost use Rattle.alg_classes.specs.Instances.{pure_instance, pure_property};
-ghost use Rattle.alg_classes.specs.Profiles.{bit};
 ghost use Rattle.alg_model.specs.Application.{IsLabel};
 ghost use Rattle.alg_model.specs.Bounds.{LabelAtMost, greatest_number};
 ghost use Rattle.alg_model.specs.Properties.{Has};
 ghost use Rattle.alg_model.specs.Views.{pure_label};
 ghost use Rattle.profile_labels.specs.Labels.{LabelledOf};
-ghost use Rattle.property_infer.specs.Asked.{pure_fact};
-ghost use Rattle.property_infer.specs.Told.{AreTold, IsLackOf, IsTold, fact_of};
+ghost use Rattle.property_infer.specs.Told.{AreTold, IsLackOf, IsTold};
 ghost use Rattle.property_infer.specs.Views.{pure_verdict, pure_verdicts};
 
 use crate::action::Action;
-use crate::example::{Example, example_for};
-use crate::fact::Fact;
+use crate::example::example_for;
 use crate::{Verdict, Verdicts};
-use alg_classes::{Instance, Profile, Property};
+use alg_classes::{Example, Instance, Property};
 use alg_model::{Alg, Label};
 use meta_base::NoMemory;
 use profile_labels::Labelled;
 use std::alloc::Global;
 
-// The fact that a property is.
-fn fact_of(property: Property) -> Fact
-    ensures { pure_fact result ≡ fact_of (pure_property property) }
-{
-    match property {
-        Property::Monotone => Fact::Mono,
-        Property::Strict => Fact::Strict,
-        Property::Isotone => Fact::Iso,
-        Property::Cancellative => Fact::Canc,
-        Property::Total => Fact::Total,
-    }
-}
-
-// Whether a label with this profile has the property.
-pub(crate) fn has_property(profile: &Profile, property: Property) -> bool
-    ensures { result ≡ bit profile.now (fact_of (pure_property property)) }
-{
-    fact_of(property).is_in(profile)
-}
-
-// Values at which the label lacks the property, which it does.
-pub(crate) fn instance(
+/// Values at which the label of the algebra lacks the property, which it does. No number of the label is above the
+/// greatest of the algebra's edition, and none of the values above [`alg_model::MAX_INSTANCE_NUMBER`]. They are
+/// refused for want of memory alone.
+pub fn instance_against(
     alloc: Global,
     alg: &Alg,
     label: &Label,
@@ -55,7 +34,7 @@ pub(crate) fn instance(
     ensures { IfOk result (λ x. IsLackOf alg.now (pure_property property) (pure_label label.now) (pure_instance x)) }
 {
     let action = Action::OfLabel(alg.tree(), label);
-    let (first, second) = match example_for(alloc, action, fact_of(property))? {
+    let (first, second) = match example_for(alloc, action, property.fact())? {
         Some(Example::At(first)) => (first, None),
         Some(Example::Between(first, second)) => (first, Some(second)),
         None => unreachable!(),
@@ -81,10 +60,10 @@ fn verdict_of(
     match labels {
         [] => Ok(Verdict::Yes),
         [first, rest @ ..] => {
-            if has_property(&first.profile, property) {
+            if first.profile.has(property.fact()) {
                 return verdict_of(alloc, alg, rest, property);
             }
-            Ok(Verdict::No(instance(alloc, alg, &first.label, property)?))
+            Ok(Verdict::No(instance_against(alloc, alg, &first.label, property)?))
         }
     }
 }

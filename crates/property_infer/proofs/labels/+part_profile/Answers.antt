@@ -1,6 +1,6 @@
 use Rattle.alg_model.specs.PartLaws.{formed_plus}
 use Rattle.alg_model.specs.Views.{expression_of, pure_label}
-use Rattle.property_infer.specs.PartLaws.{plus_first_profile_of, plus_second_profile_of}
+use Rattle.union_classes.specs.LabelLaws.{plus_first_profile_of, plus_second_profile_of}
 use Rattle.property_infer.proofs.labels.+part_profile.Goals as goal
 
 pub returns-in-First-label : goal.returns-in-First-label
