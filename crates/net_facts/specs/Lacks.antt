@@ -3,7 +3,7 @@ use Rattle.std.specs.Prelude.{◌≡◌, ℕ, ◌<◌, List, Some, slice_get}
 use Rattle.std.specs.List.{AllByRecursion}
 use Rattle.alg_model.specs.Numbers.{max_instance_number}
 use Rattle.alg_model.specs.Bounds.{greatest_number}
-use Rattle.alg_model.specs.Expressions.{Expression, PureAlg, PureLabel}
+use Rattle.alg_model.specs.Expressions.{Expression, PureLabel}
 use Rattle.alg_model.specs.Instances.{InstanceAtMost}
 use Rattle.alg_model.specs.Properties.{PureProperty, Has}
 use Rattle.alg_model.specs.Verdicts.{PureInstance, Violates}
@@ -44,14 +44,7 @@ pub record LacksFirst (properties : List PureProperty) (net : PureNet) (k : ℕ)
   pub stands : StandsBehind (ArcHasAll properties net) net.arcs k arc
   pub earliest : LacksEarliest properties net.alg.expression arc.label p
 
--- the instance shows that the label lacks the property, and its numbers are small
-pub record IsShown (a : PureAlg) (l : PureLabel) (p : PureProperty) (x : PureInstance) : Type 0 where
-  pub label : x.label ≡ l
-  pub property : x.property ≡ p
-  pub violates : Violates a.expression x
-  pub bound : InstanceAtMost (greatest_number a.edition) max_instance_number x
-
--- the instance shows it of the first such arc and the earliest such property
+-- the instance shows it of the first such arc and the earliest such property, and its numbers are small
 pub record IsFirstLack (properties : List PureProperty) (net : PureNet) (k : ℕ) (x : PureInstance) : Type 0 where
   pub first : LacksFirst properties net k x.property
   pub label : x.label ≡ first.arc.label

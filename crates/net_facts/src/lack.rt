@@ -1,21 +1,17 @@
 // The first arc whose label lacks one of some properties.
 ghost use Rattle.std.specs.Prelude.{◌≡◌, not, map, find, IfOk, IfSome, IfNone, MatchOption};
+ghost use Rattle.alg_classes.specs.Facts.{fact_of};
 ghost use Rattle.alg_classes.specs.Instances.{pure_instance, pure_property};
 ghost use Rattle.alg_classes.specs.Profiles.{bit};
 ghost use Rattle.alg_model.specs.Application.{IsLabel};
-ghost use Rattle.alg_model.specs.Bounds.{LabelAtMost, greatest_number};
-ghost use Rattle.alg_model.specs.Properties.{Has};
-ghost use Rattle.alg_model.specs.Verdicts.{verdict_on};
 ghost use Rattle.alg_model.specs.Views.{pure_label};
-ghost use Rattle.net_facts.specs.Lacks.{HasAll, IsFirstLack, IsShown, LacksEarliest, LacksFirst, NetHasAll};
-ghost use Rattle.property_infer.specs.Told.{fact_of};
-ghost use Rattle.property_infer.specs.Views.{pure_verdict, pure_verdicts};
+ghost use Rattle.net_facts.specs.Lacks.{HasAll, IsFirstLack, LacksEarliest, LacksFirst, NetHasAll};
 
 use alg_classes::{Instance, Profile, Property};
 use alg_model::{Alg, Label};
 use meta_base::{ArcId, NoMemory};
 use net_graph::Net;
-use property_infer::{Verdict, Verdicts, label_profile, label_verdicts};
+use property_infer::{instance_against, label_profile};
 use std::alloc::Global;
 
 /// An arc of a network whose label lacks a property, and an instance that shows it.
@@ -81,51 +77,5 @@ fn earliest_without(profile: &Profile, properties: &[Property]) -> Option<Proper
     properties
         .iter()
         .copied()
-        .find(|property| !has_property(profile, *property))
-}
-
-// Whether a label with this profile has the property.
-fn has_property(profile: &Profile, property: Property) -> bool
-    ensures { result ≡ bit profile.now (fact_of (pure_property property)) }
-{
-    match property {
-        Property::Monotone => profile.mono,
-        Property::Strict => profile.strict,
-        Property::Isotone => profile.iso,
-        Property::Cancellative => profile.canc,
-        Property::Total => profile.total,
-    }
-}
-
-// An instance that shows that the label lacks the property.
-fn instance_against(
-    alloc: Global,
-    alg: &Alg,
-    label: &Label,
-    property: Property,
-) -> Result<Instance, NoMemory>
-    requires label { IsLabel alg.now.expression (pure_label label.now) }
-    requires small { LabelAtMost (greatest_number alg.now.edition) (pure_label label.now) }
-    requires lacks { ¬ Has (pure_property property) alg.now.expression (pure_label label.now) }
-    ensures { IfOk result (λ instance.
-        IsShown alg.now (pure_label label.now) (pure_property property) (pure_instance instance)) }
-{
-    let verdicts = label_verdicts(alloc, alg, label)?;
-    match verdict_of(verdicts, property) {
-        Verdict::No(instance) => Ok(instance),
-        Verdict::Yes => unreachable!(),
-    }
-}
-
-// The verdict on the property.
-fn verdict_of(verdicts: Verdicts, property: Property) -> Verdict
-    ensures { pure_verdict result ≡ verdict_on (pure_verdicts verdicts) (pure_property property) }
-{
-    match property {
-        Property::Monotone => verdicts.monotone,
-        Property::Strict => verdicts.strict,
-        Property::Isotone => verdicts.isotone,
-        Property::Cancellative => verdicts.cancellative,
-        Property::Total => verdicts.total,
-    }
+        .find(|property| !profile.has(property.fact()))
 }

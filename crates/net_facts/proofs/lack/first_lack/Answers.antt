@@ -1,7 +1,7 @@
 use Rattle.std.proofs.Common.{map}
 use Rattle.alg_classes.specs.Instances.{pure_instance, pure_property}
 use Rattle.net_graph.specs.Views.{pure_arc}
-use Rattle.net_facts.specs.Lacks.{IsShown}
+use Rattle.property_infer.specs.Told.{IsLackOf}
 use Rattle.net_facts.proofs.Found.{first_shown}
 use Rattle.net_facts.proofs.lack.first_lack.Goals as goal
 
@@ -10,5 +10,5 @@ returns-clause-first c =
     let arc = pure_arc c.arc.result.now in
     let p = pure_property c.in-Some.property in
     let x = pure_instance c.in_ok-instance.instance in
-    let shown : IsShown c.args.net.now.alg arc.label p x = rw c.alg.ensures.alg at c.in_ok-instance.ensures in
+    let shown : IsLackOf c.args.net.now.alg p arc.label x = rw c.alg.ensures.alg at c.in_ok-instance.ensures in
     first_shown (map pure_property c.args.properties.now) c.args.net.now c.in-Some.arc.0 p arc x c.in-Some.ensures c.arc.ensures.arc shown
