@@ -1,3 +1,2 @@
 mod BestFirst
 mod StrictLabels
-mod OneTable

@@ -57,13 +57,13 @@ pub fn improving_pair_has_two_tables()
 
 /// In every network over an algebra any two stable tables of one destination are equal, exactly if all labels of the
 /// algebra are monotone.
-#[tactic(auto, using(crate::proofs::OneTable::unique_exactly_where_monotone))]
+#[tactic(auto, using(crate::specs::OneTable::unique_exactly_where_monotone))]
 pub fn tables_are_unique_exactly_where_labels_are_monotone()
     ensures { (alg : PureAlg) → IsAlg alg → (TablesAreUnique alg ↔ LabelsAreMonotone alg) }
 {}
 
 /// So a verdict on monotone that is exact for all labels of an algebra decides it.
-#[tactic(auto, using(crate::proofs::OneTable::verdict_decides))]
+#[tactic(auto, using(crate::specs::OneTable::verdict_decides))]
 pub fn monotone_verdict_decides_uniqueness()
     ensures { (alg : PureAlg) (verdict : PureVerdict) → IsAlg alg →
         IsExact monotone alg.expression (IsLabel alg.expression) verdict → ((verdict ≡ holds) ↔ TablesAreUnique alg) }
