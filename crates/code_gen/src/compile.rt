@@ -4,7 +4,7 @@ ghost use Rattle.alg_model.specs.Expressions.{tags, guard, gate, table, lex, sco
 ghost use Rattle.alg_model.specs.Views.{expression_of, pure_label};
 ghost use Rattle.code_gen.specs.Compilation.{CompileLabel, images_of};
 
-use crate::pieces::{push_either, push_keep, push_lose, push_op, push_say};
+use crate::pieces::{Passing, push_either, push_op, push_passing, push_say};
 use alg_model::{Alg, Label, TableSpec, Tree};
 use label_code::{LabelCode, Op, Word};
 use meta_base::{List, NoMemory};
@@ -62,13 +62,13 @@ fn push_label(alloc: Global, tree: &Tree, label: &Label, code: &mut Vec<Op>) -> 
         },
         Tree::Left(a) => match label {
             Label::Const(v) => {
-                push_lose(alloc, a, code)?;
+                push_passing(alloc, Passing::Lose, a, code)?;
                 push_say(alloc, v, code)
             }
             _ => Ok(()),
         },
         Tree::Right(a) => match label {
-            Label::Keep => push_keep(alloc, a, code),
+            Label::Keep => push_passing(alloc, Passing::Keep, a, code),
             _ => Ok(()),
         },
     }
@@ -108,11 +108,11 @@ fn push_scoped(
     match label {
         Label::Outer(l, v) => {
             push_label(alloc, a, l, code)?;
-            push_lose(alloc, b, code)?;
+            push_passing(alloc, Passing::Lose, b, code)?;
             push_say(alloc, v, code)
         }
         Label::Inner(m) => {
-            push_keep(alloc, a, code)?;
+            push_passing(alloc, Passing::Keep, a, code)?;
             push_label(alloc, b, m, code)
         }
         _ => Ok(()),
