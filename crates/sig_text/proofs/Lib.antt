@@ -12,3 +12,4 @@ pub mod Sets
 pub mod RoundTrips
 pub mod LabelRoundTrips
 pub mod Distinct
+pub mod LabelForms
