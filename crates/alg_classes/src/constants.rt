@@ -11,8 +11,8 @@ ghost use Rattle.alg_classes.specs.Constants.{constant, kept, denied, constant_p
 ghost use Rattle.alg_classes.specs.Profiles.{IsProfile};
 
 use crate::worse::best;
-use crate::{Examples, Profile, Shaped, apart, has_worse, is_flat, worse_than};
-use alg_model::{Carrier, Value};
+use crate::{Examples, Profile, apart, has_worse, is_flat, worse_than};
+use alg_model::{Carrier, Shaped, Value};
 use meta_base::NoMemory;
 use std::alloc::Global;
 

@@ -15,7 +15,6 @@ mod list;
 mod pairs;
 mod profile;
 mod property;
-mod shape;
 mod worse;
 
 pub use class::{Class, Examples};
@@ -30,5 +29,4 @@ pub use list::{ClassList, Profiled, has_profile};
 pub use pairs::{pair_examples, pair_profile};
 pub use profile::Profile;
 pub use property::{Instance, Property};
-pub use shape::{Form, Shaped};
 pub use worse::{apart, best, worse_than, worst};

@@ -14,32 +14,32 @@ use std::marker::Model;
 use thiserror::Error;
 
 /// The most nodes that the tree of an algebra may have.
-pub const max_tree_nodes: usize = 256;
+pub const MAX_TREE_NODES: usize = 256;
 
 /// The most values that a table may have, and the most rows.
-pub const max_table_names: usize = 16;
+pub const MAX_TABLE_NAMES: usize = 16;
 
 /// The most symbols of sequences without a repeat.
-pub const max_simple_symbols: u64 = 1024;
+pub const MAX_SIMPLE_SYMBOLS: u64 = 1024;
 
 /// The most numbers of sets: they are the bits of a word.
-pub const max_marks: u64 = 64;
+pub const MAX_MARKS: u64 = 64;
 
 /// The greatest number of a value that a label may be applied to: the numbers of images leave room
 /// above it.
-pub const max_value_number: Amount = 1 << 120;
+pub const MAX_VALUE_NUMBER: Amount = 1 << 120;
 
 /// The greatest number of the values of an instance.
-pub const max_instance_number: Amount = 1 << 66;
+pub const MAX_INSTANCE_NUMBER: Amount = 1 << 66;
 
 /// The bounds of expressions and of values are the numbers of the specification.
 pub fn numbers_are_specified()
-    ensures tree_nodes { max_tree_nodes ≡ max_tree_nodes }
-    ensures table_names { max_table_names ≡ max_table_names }
-    ensures simple_symbols { max_simple_symbols ≡ max_simple_symbols }
-    ensures marks { max_marks ≡ max_marks }
-    ensures value { max_value_number ≡ max_value_number }
-    ensures instance { max_instance_number ≡ max_instance_number }
+    ensures tree_nodes { MAX_TREE_NODES ≡ max_tree_nodes }
+    ensures table_names { MAX_TABLE_NAMES ≡ max_table_names }
+    ensures simple_symbols { MAX_SIMPLE_SYMBOLS ≡ max_simple_symbols }
+    ensures marks { MAX_MARKS ≡ max_marks }
+    ensures value { MAX_VALUE_NUMBER ≡ max_value_number }
+    ensures instance { MAX_INSTANCE_NUMBER ≡ max_instance_number }
 {}
 
 /// The first formation rule that a tree breaks, in this order.
@@ -52,7 +52,7 @@ pub enum Shape {
     /// The two sides of a `plus` have different carriers.
     #[error("the carriers of a plus differ")]
     Carriers,
-    /// The tree has more than [`max_tree_nodes`] nodes.
+    /// The tree has more than [`MAX_TREE_NODES`] nodes.
     #[error("the expression is too large")]
     Size,
     /// A table's name is `none` or no word, or is there twice among the values or among the rows.
@@ -156,7 +156,7 @@ fn first_broken(tree: &Tree) -> Option<Shape>
         Some(Shape::Range)
     } else if !meets_carriers(tree) {
         Some(Shape::Carriers)
-    } else if room_behind(tree, max_tree_nodes).is_none() {
+    } else if room_behind(tree, MAX_TREE_NODES).is_none() {
         Some(Shape::Size)
     } else if !meets_names(tree) {
         Some(Shape::Names)

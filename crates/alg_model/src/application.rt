@@ -1,7 +1,7 @@
 ghost use Rattle.std.specs.Prelude.{◌≡◌, ◌≤◌, ◌<◌, ◌==◌, ◌^◌, ◌+◌, ◌++◌, [], ◌∷◌, ℕ, Some, IfOk, IfSome, option_map};
 ghost use Rattle.std.specs.List.{list_any};
-ghost use Rattle.alg_model.specs.Numbers.{max_label_number};
-ghost use Rattle.alg_model.specs.Numbers.{max_value_number};
+ghost use Rattle.alg_model.specs.declared.edition.TheConstants.{MAX_LABEL_NUMBER};
+ghost use Rattle.alg_model.specs.declared.alg.TheConstants.{MAX_VALUE_NUMBER};
 ghost use Rattle.alg_model.specs.Expressions.{seq, simseq, tags, guard, table, lex, scoped, union, sum, number, number_label, pair, first, second};
 ghost use Rattle.alg_model.specs.Views.{expression_of, pure_value, pure_label};
 ghost use Rattle.alg_model.specs.Carriers.{carrier_of, In};
@@ -17,8 +17,8 @@ use std::alloc::Global;
 /// What the label makes of the value: a value, or `None` where it prohibits it.
 ///
 /// The label and the value are the algebra's, and so is the result. No number of the label is above
-/// [`crate::max_label_number`] and none of the value above [`crate::max_value_number`]; no number of the result
-/// is above the greatest of the value plus [`crate::max_label_number`]. It is refused for want of memory
+/// [`crate::MAX_LABEL_NUMBER`] and none of the value above [`crate::MAX_VALUE_NUMBER`]; no number of the result
+/// is above the greatest of the value plus [`crate::MAX_LABEL_NUMBER`]. It is refused for want of memory
 /// alone.
 pub fn apply(
     alloc: Global,
@@ -28,12 +28,12 @@ pub fn apply(
 ) -> Result<Option<Value>, NoMemory>
     requires label { IsLabel alg.now.expression (pure_label label.now) }
     requires value { In (carrier_of alg.now.expression) (pure_value value.now) }
-    requires small_label { LabelAtMost max_label_number (pure_label label.now) }
-    requires small_value { AtMost max_value_number (pure_value value.now) }
+    requires small_label { LabelAtMost MAX_LABEL_NUMBER (pure_label label.now) }
+    requires small_value { AtMost MAX_VALUE_NUMBER (pure_value value.now) }
     ensures image { IfOk result (IsImage alg.now.expression label.now value.now) }
     ensures value { IfOk result (λ image. IfSome image (λ v. In (carrier_of alg.now.expression) (pure_value v))) }
     ensures bound { (n : ℕ) → AtMost n (pure_value value.now) →
-        IfOk result (λ image. IfSome image (λ v. AtMost (n + max_label_number) (pure_value v))) }
+        IfOk result (λ image. IfSome image (λ v. AtMost (n + MAX_LABEL_NUMBER) (pure_value v))) }
 {
     image(alloc, alg.tree(), label, value)
 }
@@ -241,8 +241,8 @@ fn table_image(spec: &TableSpec, label: &Label, value: &Value) -> Option<Value>
 
 // What the label n makes of the number m, where numbers are values and labels.
 pub(crate) fn number_image(tree: &Tree, n: u64, m: Amount) -> Option<Amount>
-    requires label { n ≤ max_label_number }
-    requires value { m ≤ max_value_number }
+    requires label { n ≤ MAX_LABEL_NUMBER }
+    requires value { m ≤ MAX_VALUE_NUMBER }
     ensures { option_map number result ≡ App (expression_of tree.now) (number_label n) (number m) }
 {
     let n = Amount::from(n);

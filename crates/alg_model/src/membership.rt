@@ -8,10 +8,10 @@ ghost use Rattle.alg_model.specs.Carriers.{carrier_of, In, distinct};
 ghost use Rattle.alg_model.specs.Application.{IsLabel};
 ghost use Rattle.alg_model.specs.Formation.{MeetsRanges};
 ghost use Rattle.alg_model.specs.Forms.{form_expression};
-ghost use Rattle.alg_model.specs.Numbers.{max_simple_symbols};
+ghost use Rattle.alg_model.specs.declared.alg.TheConstants.{MAX_SIMPLE_SYMBOLS};
 
 use crate::{
-    Alg, Amount, Form, Label, LabelForm, MAX_MARKS, max_simple_symbols, TableSpec, Tree, Value,
+    Alg, Amount, Form, Label, LabelForm, MAX_MARKS, MAX_SIMPLE_SYMBOLS, TableSpec, Tree, Value,
 };
 
 /// Whether the value is in the algebra's carrier. It takes no memory, and time in proportion to the
@@ -161,7 +161,7 @@ fn pass_below(bound: u64, ns: &[u64]) -> bool
 
 // Whether the symbols are below the bound, and none is there twice.
 fn is_simple(bound: u64, ns: &[u64]) -> bool
-    requires { bound ≤ max_simple_symbols }
+    requires { bound ≤ MAX_SIMPLE_SYMBOLS }
     ensures { (result ≡ true) ↔ (AllByRecursion (λ n. n < bound) ns.now × (distinct ns.now ≡ true)) }
 {
     // Longer ones have a repeat or a symbol above: so the rest goes over few, however many come.
@@ -170,10 +170,10 @@ fn is_simple(bound: u64, ns: &[u64]) -> bool
 
 // Whether no symbol is there twice, in one pass: a table says which were seen.
 fn are_distinct_symbols(ns: &[u64]) -> bool
-    requires { AllByRecursion (λ n. n < max_simple_symbols) ns.now }
+    requires { AllByRecursion (λ n. n < MAX_SIMPLE_SYMBOLS) ns.now }
     ensures { result ≡ distinct ns.now }
 {
-    let mut seen = [false; max_simple_symbols as usize];
+    let mut seen = [false; MAX_SIMPLE_SYMBOLS as usize];
     for n in ns {
         let place = *n as usize;
         if seen[place] {

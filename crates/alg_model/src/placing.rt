@@ -1,6 +1,6 @@
 ghost use Rattle.std.specs.Prelude.{◌≡◌, ◌+◌, ℕ, Some, IfOk, IfSome, option_map};
-ghost use Rattle.alg_model.specs.Numbers.{max_label_number};
-ghost use Rattle.alg_model.specs.Numbers.{max_value_number};
+ghost use Rattle.alg_model.specs.declared.edition.TheConstants.{MAX_LABEL_NUMBER};
+ghost use Rattle.alg_model.specs.declared.alg.TheConstants.{MAX_VALUE_NUMBER};
 ghost use Rattle.alg_model.specs.Expressions.{lex, scoped, union, sum, number, first, second};
 ghost use Rattle.alg_model.specs.Views.{expression_of, pure_value, pure_label};
 ghost use Rattle.alg_model.specs.Carriers.{carrier_of, In};
@@ -28,13 +28,13 @@ pub fn apply_into(
 ) -> Result<bool, NoMemory>
     requires label { IsLabel alg.now.expression (pure_label label.now) }
     requires value { In (carrier_of alg.now.expression) (pure_value value.now) }
-    requires small_label { LabelAtMost max_label_number (pure_label label.now) }
-    requires small_value { AtMost max_value_number (pure_value value.now) }
+    requires small_label { LabelAtMost MAX_LABEL_NUMBER (pure_label label.now) }
+    requires small_value { AtMost MAX_VALUE_NUMBER (pure_value value.now) }
     ensures image { IfOk result (λ placed. IsImage alg.now.expression label.now value.now (held placed out.new)) }
     ensures value { IfOk result (λ placed.
         IfSome (held placed out.new) (λ v. In (carrier_of alg.now.expression) (pure_value v))) }
     ensures bound { (n : ℕ) → AtMost n (pure_value value.now) →
-        IfOk result (λ placed. IfSome (held placed out.new) (λ v. AtMost (n + max_label_number) (pure_value v))) }
+        IfOk result (λ placed. IfSome (held placed out.new) (λ v. AtMost (n + MAX_LABEL_NUMBER) (pure_value v))) }
 {
     image_into(alloc, alg.tree(), label, value, out)
 }

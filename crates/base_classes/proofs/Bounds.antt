@@ -12,6 +12,7 @@ use Rattle.alg_model.specs.Bounds.{ExpressionAtMost, LabelAtMost, greatest_numbe
 use Rattle.alg_model.specs.BoundLaws.{greatest_is_bounded}
 use Rattle.alg_model.specs.declared.edition.Edition.{Edition}
 use Rattle.alg_model.specs.Formation.{IsAlg, MeetsRanges}
+use Rattle.alg_model.specs.Forms.{IsBase}
 use Rattle.alg_classes.specs.declared.class.Class.{Class}
 use Rattle.alg_classes.specs.declared.class.Examples.{Examples}
 use Rattle.alg_classes.specs.declared.profile.Profile.{Profile}
@@ -21,7 +22,7 @@ use Rattle.alg_classes.specs.Profiles.{bit}
 use Rattle.alg_classes.specs.ClassLaws.{on_all}
 use Rattle.alg_classes.specs.Classes.{Settles, IsSettledBy, ExampleAtMost, ExamplesAtMost, ClassOf, pure_examples}
 use Rattle.base_classes.specs.declared.examples.Numbers.{Numbers}
-use Rattle.base_classes.specs.Kinds.{IsBase, number_in}
+use Rattle.base_classes.specs.Kinds.{number_in}
 use Rattle.base_classes.specs.Profiles.{base_profile_of}
 use Rattle.base_classes.specs.Witnesses.{Witness, AreExamples, of_one, of_two, unless, failing, base_witness_of, number_witness, set_witness, guard_witness, sequence_witness, unit_witness, other_symbol}
 use Rattle.base_classes.specs.Witnesses.{add_numbers, cap_numbers, worst_numbers, width_numbers, pref_numbers, orig_numbers}

@@ -5,10 +5,10 @@ use Rattle.alg_model.specs.Expressions.{PureLabel, number_label, keep, symbol_la
 use Rattle.alg_model.specs.Carriers.{carrier_of}
 use Rattle.alg_model.specs.Application.{IsLabel, App}
 use Rattle.alg_model.specs.Formation.{MeetsRanges}
+use Rattle.alg_model.specs.Forms.{IsBase}
 use Rattle.alg_classes.specs.Profiles.{ProfileOf}
 use Rattle.alg_classes.specs.Classes.{IsSettledBy}
 use Rattle.alg_classes.specs.ClassLaws.{settled_profile}
-use Rattle.base_classes.specs.Kinds.{IsBase}
 use Rattle.base_classes.specs.Profiles.{base_profile_of}
 use Rattle.base_classes.specs.Witnesses.{base_witness_of, failing}
 use Rattle.base_classes.specs.Told.{Told, told_settles}

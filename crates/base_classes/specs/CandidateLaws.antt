@@ -10,12 +10,12 @@ use Rattle.alg_model.specs.Carriers.{carrier_of}
 use Rattle.alg_model.specs.Application.{IsLabel, App}
 use Rattle.alg_model.specs.Bounds.{ExpressionAtMost, LabelAtMost}
 use Rattle.alg_model.specs.Formation.{MeetsRanges}
+use Rattle.alg_model.specs.Forms.{IsBase}
 use Rattle.alg_classes.specs.declared.profile.Profile.{Profile}
 use Rattle.alg_classes.specs.declared.fact.Fact.{Fact}
 use Rattle.alg_classes.specs.declared.fact.Fact.TheVariants.{Total, Dead, Monotone, Strict, Isotone, Cancellative, Condensed, Narrow}
 use Rattle.alg_classes.specs.Facts.{Action, Holds}
 use Rattle.alg_classes.specs.Profiles.{bit, IsProfile, ProfileOf}
-use Rattle.base_classes.specs.Kinds.{IsBase}
 use Rattle.base_classes.specs.Profiles.{base_profile_of, add_profile, cap_profile, worst_profile, width_profile, pref_profile}
 use Rattle.base_classes.specs.Lists.{candidate_number, candidate}
 use Rattle.base_classes.specs.BaseLaws.{base_is_profile}

@@ -6,9 +6,9 @@ ghost use Rattle.alg_model.specs.Carriers.{carrier_of};
 ghost use Rattle.alg_model.specs.Formation.{MeetsRanges};
 ghost use Rattle.alg_model.specs.declared.alg.TheConstants.{MAX_INSTANCE_NUMBER};
 ghost use Rattle.alg_model.specs.declared.edition.Edition.{Edition};
+ghost use Rattle.alg_model.specs.Forms.{IsBase};
 ghost use Rattle.alg_classes.specs.Classes.{ClassOf, ExampleAtMost, Settles, pure_example};
 ghost use Rattle.alg_classes.specs.Profiles.{bit};
-ghost use Rattle.base_classes.specs.Kinds.{IsBase};
 ghost use Rattle.base_classes.specs.Profiles.{base_profile_of};
 
 use crate::examples::{example, examples};

@@ -8,5 +8,5 @@ mod list;
 mod profile;
 
 pub use class::{base_class, base_example};
-pub use list::{BASE_CANDIDATES, base_candidate, base_class_list};
-pub use profile::{base_profile, base_tree_profile};
+pub use list::{BASE_CANDIDATES, base_class_list};
+pub use profile::{base_candidate, base_profile, base_tree_profile};

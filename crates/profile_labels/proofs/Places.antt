@@ -6,10 +6,10 @@ use Rattle.alg_model.specs.Expressions.{PureAlg, PureLabel, row_label}
 use Rattle.alg_model.specs.Application.{IsLabel}
 use Rattle.alg_model.specs.Bounds.{greatest_number}
 use Rattle.alg_model.specs.Formation.{IsAlg}
+use Rattle.alg_model.specs.Forms.{IsBase}
 use Rattle.alg_classes.specs.declared.profile.Profile.{Profile}
 use Rattle.alg_classes.specs.Growth.{Only}
 use Rattle.alg_classes.specs.Profiles.{ProfileOf}
-use Rattle.base_classes.specs.Kinds.{IsBase}
 use Rattle.base_classes.specs.Lists.{candidate}
 use Rattle.base_classes.specs.CandidateLaws.{has_candidate, label_bounded}
 use Rattle.table_classes.specs.Rows.{IsTable}

@@ -14,9 +14,9 @@ ghost use Rattle.alg_classes.specs.Profiles.{ProfileOf};
 ghost use Rattle.union_classes.specs.Made.{OfConstants};
 
 use alg_classes::{
-    Class, ClassList, Profile, Shaped, best, constant_examples, constant_profile, worst,
+    Class, ClassList, Profile, best, constant_examples, constant_profile, worst,
 };
-use alg_model::{Carrier, Label, Value};
+use alg_model::{Carrier, Label, Shaped, Value};
 use meta_base::NoMemory;
 use std::alloc::Global;
 
