@@ -13,10 +13,11 @@ use Rattle.alg_model.specs.Expressions.{PureLabel, number_label, keep, symbol_la
 use Rattle.alg_model.specs.Carriers.{carrier_of, In, Order}
 use Rattle.alg_model.specs.Application.{IsLabel, App}
 use Rattle.alg_model.specs.Bounds.{AtMost, LabelAtMost, ExpressionAtMost}
+use Rattle.alg_model.specs.CarrierBounds.{carrier_at_most}
 use Rattle.alg_model.specs.Formation.{MeetsCarriers}
 use Rattle.alg_model.specs.Images.{image_same, image_part, image_both}
 use Rattle.settled_laws.specs.SmallInstances.{small_beside, small_label, small_label_on, small_value_under}
-use Rattle.settled_laws.specs.SmallValues.{carrier_at_most, order_self, all_below, beside_is_small, beside_compares}
+use Rattle.settled_laws.specs.SmallValues.{order_self, all_below, beside_is_small, beside_compares}
 
 -- values of carriers of small numbers are small
 up_small : (n top : ℕ) (v : PureValue) → top ≤ n → In (up_to top) v → AtMost n v
