@@ -14,7 +14,7 @@ use crate::pairs::{OfPair, asked_of_pair, beside, spanned};
 use crate::parts::part_carrier;
 use crate::sides::{OfSides, across, asked_of_sides, on_first, on_second};
 use alg_classes::{Example, Fact, apart, best, worse_than};
-use alg_model::{Label, Tree, Value};
+use alg_model::{Label, LabelForm, Tree, Value};
 use base_classes::base_example;
 use meta_base::NoMemory;
 use std::alloc::Global;
@@ -39,7 +39,6 @@ pub(crate) fn example_for(
 }
 
 // The same of a label of the part.
-// What is neither an operator nor a table is one of the eleven base algebras.
 #[cycle(example_for)]
 fn label_example(
     alloc: Global,
@@ -50,43 +49,49 @@ fn label_example(
     requires { (e : Edition) × IsAction e (Action.OfLabel part label) }
     ensures { IfOk result (AnswersFor (Action.OfLabel part.entry label.entry) fact) }
 {
-    match part {
-        Tree::Lex(a, b) => match label {
+    match part.label_form() {
+        LabelForm::Lex(a, b) => match label {
             Label::Pair(l, m) => {
                 pair_example(alloc, Action::OfLabel(a, l), Action::OfLabel(b, m), fact)
             }
             _ => unreachable!(),
         },
-        Tree::Scoped(a, b) => match label {
+        LabelForm::Scoped(a, b) => match label {
             Label::Outer(l, v) => {
                 pair_example(alloc, Action::OfLabel(a, l), Action::Constant(b, v), fact)
             }
             Label::Inner(m) => pair_example(alloc, Action::Keep(a), Action::OfLabel(b, m), fact),
             _ => unreachable!(),
         },
-        Tree::Union(a, b) => match label {
+        LabelForm::Union(a, b) => match label {
             Label::First(l) => side_example(alloc, Action::OfLabel(a, l), Action::Deny(b), fact),
             Label::Second(m) => side_example(alloc, Action::Deny(a), Action::OfLabel(b, m), fact),
             _ => unreachable!(),
         },
-        Tree::Sum(a, b) => match label {
+        LabelForm::Sum(a, b) => match label {
             Label::Both(l, m) => {
                 side_example(alloc, Action::OfLabel(a, l), Action::OfLabel(b, m), fact)
             }
             _ => unreachable!(),
         },
-        Tree::Plus(a, b) => match label {
+        LabelForm::Plus(a, b) => match label {
             Label::First(l) => label_example(alloc, a, l, fact),
             Label::Second(m) => label_example(alloc, b, m, fact),
             _ => unreachable!(),
         },
-        Tree::Left(a) => match label {
+        LabelForm::Left(a) => match label {
             Label::Const(v) => constant_example(alloc, a, v, fact),
             _ => unreachable!(),
         },
-        Tree::Right(a) => kept_example(alloc, a, fact),
-        Tree::Table(_) => Ok(table_example(part, label, fact)),
-        base => base_example(alloc, base, label, fact),
+        LabelForm::Right(a) => kept_example(alloc, a, fact),
+        LabelForm::Table(_) => Ok(table_example(part, label, fact)),
+        LabelForm::Numbers(_, _)
+        | LabelForm::UpTo(_)
+        | LabelForm::Keep
+        | LabelForm::Symbol(_)
+        | LabelForm::Tag(_)
+        | LabelForm::Guard(_)
+        | LabelForm::Gate => base_example(alloc, part, label, fact),
     }
 }
 

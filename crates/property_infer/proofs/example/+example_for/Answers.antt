@@ -31,24 +31,22 @@ example_for-returns-in-Keep t c =
 
 pub label_example-returns-in-Const : goal.label_example-returns-in-Const
 label_example-returns-in-Const t c =
-    let a = expression_of c.in-Left.a.value in
-    let action = rw (c.in-Left.is, c.in-Const.is) at c.requires.1 in
-    let made = rw c.deref-in-Const.ensures at c.constant_example.ensures.made in
-    rw (c.in-Left.is, c.in-Const.is) (both_if_ok c.constant_example.result _ _ _
+    let a = expression_of c.in-Left.a.now in
+    let action = rw (c.in-Left.ensures.operator, c.in-Const.is) at c.requires.1 in
+    rw (c.in-Left.ensures.operator, c.in-Const.is) (both_if_ok c.constant_example.result _ _ _
     (λ o. constant_answers (carrier_of a) (pure_value c.in-Const.v) c.args.fact (option_map pure_example o)
     (carriers_are a (formed_left a action.alg.formed)) action.of_part.0)
-    made c.constant_example.ensures.small)
+    c.constant_example.ensures.made c.constant_example.ensures.small)
 
 pub label_example-returns-in-Right : goal.label_example-returns-in-Right
 label_example-returns-in-Right t c =
-    let a = expression_of c.in-Right.a.value in
+    let a = expression_of c.in-Right.a.now in
     let l = pure_label c.args.label.now in
-    let action = rw c.in-Right.is at c.requires.1 in
-    let made = rw c.deref-in-Right.ensures at c.kept_example.ensures.made in
-    rw c.in-Right.is (both_if_ok c.kept_example.result _ _ _
+    let action = rw c.in-Right.ensures.operator at c.requires.1 in
+    rw c.in-Right.ensures.operator (both_if_ok c.kept_example.result _ _ _
     (λ o e s. right_answers a l c.args.fact (option_map pure_example o) action.of_part.0
     (kept_answers (carrier_of a) c.args.fact (option_map pure_example o) (carriers_are a (formed_right a action.alg.formed)) e s))
-    made c.kept_example.ensures.small)
+    c.kept_example.ensures.made c.kept_example.ensures.small)
 
 pub label_example-returns-in-Table : goal.label_example-returns-in-Table
 label_example-returns-in-Table t c =
