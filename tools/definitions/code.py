@@ -2,7 +2,7 @@
 
 import re
 
-from .specs import NAME, USED, Definition, Scope
+from .specs import NAME, USED, Definition, Scope, said_above
 
 ITEM = re.compile(rf'(?:pub(?:\(\w+\))? )?(const fn|const|static|struct|enum|trait|type|fn) ({NAME})')
 VIEWED = re.compile(rf'impl(?:<.*>)? Model for ({NAME})')
@@ -63,7 +63,8 @@ class Code:
 
     def __init__(self, file, text):
         self.file, self.scope, self.used, self.definitions = file, Scope(), {}, {}
-        for block in blocks_of([(number, bare(line)) for number, line in enumerate(text.split('\n'), 1)]):
+        self.text = text.split('\n')
+        for block in blocks_of([(number, bare(line)) for number, line in enumerate(self.text, 1)]):
             self.take(block)
 
     def take(self, block):
@@ -80,7 +81,8 @@ class Code:
             self.show(self.definitions[viewed[1]], block)
 
     def define(self, name, block):
-        made = self.definitions[name] = Definition(self.file, name, Scope())
+        said = said_above(self.text, block[0][0], '///').split('. ')[0]
+        made = self.definitions[name] = Definition(self.file, name, Scope(), said)
         made.lines = [number for number, line in block if line]
         made.uses = USED.findall('\n'.join(line for _, line in block))
 

@@ -10,10 +10,10 @@ IMPORT = re.compile(r'(pub )?use Rattle\.([\w.]+?)(?:\.\{(.*)\}| as (\w+))$')
 
 
 class Definition:
-    """A name, where it stands, the numbers of its lines, what its text's own scope is, and what it uses."""
+    """A name, where it stands, what is said above it, the numbers of its lines, its text's own scope, and its uses."""
 
-    def __init__(self, file, name, scope):
-        self.file, self.name, self.scope = file, name, scope
+    def __init__(self, file, name, scope, said):
+        self.file, self.name, self.scope, self.said = file, name, scope, said
         self.lines, self.uses, self.user = [], [], None
 
     def key(self):
@@ -42,6 +42,18 @@ class Scope:
             self.imported[known or written] = (path, written)
             if is_handed_on:
                 self.handed_on[known or written] = (path, written)
+
+
+def said_above(lines, number, mark):
+    """What the comment lines above that line say, which begin with the mark; attributes may stand between."""
+    said = []
+    for line in reversed(lines[:number - 1]):
+        found = re.match(rf'\s*{mark}\s?(.*)', line)
+        if found:
+            said.insert(0, found[1])
+        elif said or not line.strip().startswith('#'):
+            break
+    return ' '.join(said).rstrip('.')
 
 
 def bare(line):
@@ -75,8 +87,8 @@ class Clause:
 class Stated(Definition):
     """A definition of `specs/`, by its clauses; `around` is the module of parameters that it stands in, or None."""
 
-    def __init__(self, file, name, scope, kind, around):
-        super().__init__(file, name, scope)
+    def __init__(self, file, name, scope, said, kind, around):
+        super().__init__(file, name, scope, said)
         self.kind, self.around, self.clauses, self.fields = kind, around, [], set()
 
 
@@ -85,7 +97,8 @@ class Specs:
 
     def __init__(self, file, text):
         self.file, self.scope, self.definitions, self.makers = file, Scope(), {}, {}
-        self.take([(number, bare(line)) for number, line in enumerate(text.split('\n'), 1)], None)
+        self.text = text.split('\n')
+        self.take([(number, bare(line)) for number, line in enumerate(self.text, 1)], None)
 
     def take(self, lines, around):
         """Takes the definitions of lines that begin at the margin, inside the module `around`, if there is one."""
@@ -99,13 +112,14 @@ class Specs:
             elif line.startswith('module '):
                 last, at = None, self.take_module(lines, at - 1)
             elif found and not (last and last.name == found[5]):
-                last = self.begin(found[2] or found[4] or found[5], found[1] or found[3], around)
+                last = self.begin(number, found[2] or found[4] or found[5], found[1] or found[3], around)
                 self.go_on(last, number, line, is_first=True)
             elif last and line:
                 self.go_on(last, number, line)
 
-    def begin(self, name, kind, around):
-        self.definitions[name] = Stated(self.file, name, self.scope, kind, around)
+    def begin(self, number, name, kind, around):
+        said = said_above(self.text, number, '--')
+        self.definitions[name] = Stated(self.file, name, self.scope, said, kind, around)
         return self.definitions[name]
 
     def go_on(self, definition, number, line, is_first=False):
@@ -123,7 +137,7 @@ class Specs:
 
     def take_module(self, lines, at):
         """Takes a module of parameters that its definitions share, and answers the place after it."""
-        header = self.begin(f'module at line {lines[at][0]}', 'module', None)
+        header = self.begin(lines[at][0], f'module at line {lines[at][0]}', 'module', None)
         while not header.lines or not lines[at - 1][1].endswith(' where'):
             self.go_on(header, *lines[at], is_first=True)
             at += 1

@@ -174,6 +174,13 @@ class Reached(Folder):
                 f'is_word of {words} is listed twice', 'it does not say: 11 definitions in 31 lines']
         self.assertEqual(self.say('--check'), (1, ''.join(f'docs/definitions.md: {it}\n' for it in said), ''))
 
+    def test_rows_for_the_page(self):
+        self.assertEqual(self.say('--rows'), (0, '', ''))
+        self.file('docs/definitions.md', PAGE.replace('`Runs`', '').replace('`MAX`', '').replace('`is_large`, ', ''))
+        self.assertEqual(self.say('--rows')[1].splitlines(), [
+            '| `is_large` | by its parameter | `base/specs/Words.antt` |', '| `MAX` | The most | `base/src/limits.rt` |',
+            '| `Runs` | the run | `metacli/specs/Runs.antt` |'])
+
     def test_refusals(self):
         self.assertEqual(self.say('--why', 'not_reached')[0], 2)
         os.remove(os.path.join(self.folder, 'docs/definitions.md'))
