@@ -37,7 +37,7 @@ class Scope:
         is_handed_on, path, names, alias = found.groups()
         if alias:
             self.aliases[alias] = path
-        for name in filter(None, (names or '').split(', ')):
+        for name in filter(None, (it.strip() for it in (names or '').split(','))):
             written, _, known = name.partition(' as ')
             self.imported[known or written] = (path, written)
             if is_handed_on:
@@ -108,6 +108,8 @@ class Specs:
             at += 1
             found = DECLARED.match(line)
             if line.startswith(('use ', 'pub use ', 'pub mod ')):
+                while at < len(lines) and '{' in line and '}' not in line:
+                    line, at = f'{line} {lines[at][1].strip()}', at + 1
                 self.scope.take(line)
             elif line.startswith('module '):
                 last, at = None, self.take_module(lines, at - 1)

@@ -91,7 +91,7 @@ is_word moment =
 abbrev pub moment : ℕ → ℕ
 moment n = length (codes "not_a_name") -- nor is_large
 ''',
-    'crates/base/specs/Laws.antt': 'pub use Rattle.base.specs.Outcomes.{Outcome}\n',
+    'crates/base/specs/Laws.antt': 'pub use Rattle.base.specs.Outcomes.{\n  Outcome,\n}\n',
     'crates/base/specs/Outcomes.antt': '''use Rattle.base.specs.Words.{is_large}
 
 pub record Outcome : Type 0 where
