@@ -6,6 +6,7 @@ pub mod Values
 pub mod Meant
 pub mod Labels
 pub mod MeantLabels
+pub mod Spellings
 pub mod Printed
 pub mod Digits
 pub mod Sets

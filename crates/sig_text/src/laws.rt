@@ -6,8 +6,8 @@ ghost use Rattle.alg_model.specs.Formation.{IsFormed};
 ghost use Rattle.alg_model.specs.Texts.{value_text, label_text};
 ghost use Rattle.alg_model.specs.Expressions.{Expression, PureAlg, PureLabel, PureValue};
 ghost use Rattle.alg_model.specs.declared.alg.TheConstants.{MAX_MARKS};
-ghost use Rattle.sig_text.specs.Literals.{ValueText, ValueTextTo, LabelText, LabelTextTo, IsValueFault, IsValueFaultTo, IsLabelFault, IsLabelFaultTo};
-ghost use Rattle.sig_text.specs.Spelled.{Tells, spelled_value_to, spelled_label_to};
+ghost use Rattle.sig_text.specs.Literals.{ValueText, ValueTextTo, LabelText, LabelTextTo, IsValueFault, IsValueFaultTo, IsLabelFault, IsLabelFaultTo, Spelling, IsSpelling};
+ghost use Rattle.sig_text.specs.Spelled.{Tells, spelled, spelled_value_to, spelled_label_to};
 ghost use Rattle.sig_text.specs.declared.bytes.TheConstants.{MAX_LITERAL_NUMBER};
 ghost use Rattle.sig_text.specs.declared.faults.LitFault.{LitFault};
 
@@ -103,4 +103,10 @@ pub fn values_are_told()
 pub fn labels_are_told()
     ensures { (greatest : ℕ) (a : Expression) (text : List ℕ) →
         Tells (spelled_label_to greatest a text) (LabelTextTo greatest a text) (IsLabelFaultTo greatest a text) }
+{}
+
+/// The functions `spelled` of specs say of all texts what they spell, and no others do.
+pub fn texts_have_one_spelling()
+    ensures is { IsSpelling spelled }
+    ensures only { (s : Spelling) → IsSpelling s → s ≡ spelled }
 {}
