@@ -8,6 +8,7 @@ use Rattle.std.proofs.lemmas.Fmt.{decimal_by_steps_wide}
 use Rattle.std.proofs.lemmas.List.{append-nil}
 use Rattle.meta_base.specs.Bytes.{is_blank, front, behind}
 use Rattle.net_graph.specs.Nets.{is_name_byte}
+use Rattle.sig_text.specs.Literals.{Spelling}
 use Rattle.topology_file.specs.Numbers.{max_line_bytes}
 use Rattle.topology_file.specs.Texts.{is_not, lines_of, without_return, said_of, ends_word, words_of}
 use Rattle.topology_file.specs.Forms.{line_from, plain_line, colon_line, line_of}
@@ -92,8 +93,8 @@ says_itself line h =
     ∙ front_through (is_not 35) line [] (all_pass is_plain (is_not 35) line (λ c k. (plain_is c k).2) h) ∙ append-nil line
 
 -- what such a line makes is by its form
-pub line_after : (f : PureNetFile) (line : List ℕ) → IsLine line → after_line f line ≡ after_form f (line_of line)
-line_after f line i =
+pub line_after : (s : Spelling) (f : PureNetFile) (line : List ℕ) → IsLine line → after_line s f line ≡ after_form s f (line_of line)
+line_after s f line i =
     let short = i.short in
     let fits : leb (length line) max_line_bytes ≡ true = grind (arith, nat_tests) in
     rw (fits, says_itself line i.plain) refl
@@ -108,8 +109,8 @@ silent_comment (c ∷ cs) = by (eqb (get_or (35 ∷ c ∷ cs) (length (35 ∷ c 
     by false = refl
 
 -- and adds nothing
-pub comment_after : (f : PureNetFile) (rest : List ℕ) → length (35 ∷ rest) ≤ max_line_bytes → after_line f (35 ∷ rest) ≡ Ok f
-comment_after f rest short =
+pub comment_after : (s : Spelling) (f : PureNetFile) (rest : List ℕ) → length (35 ∷ rest) ≤ max_line_bytes → after_line s f (35 ∷ rest) ≡ Ok f
+comment_after s f rest short =
     let fits : leb (length (35 ∷ rest)) max_line_bytes ≡ true = grind (arith, nat_tests) in
     rw (fits, silent_comment rest) refl
 

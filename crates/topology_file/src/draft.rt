@@ -5,6 +5,7 @@ ghost use Rattle.net_graph.specs.Nets.{IsNet, has_arc};
 ghost use Rattle.net_graph.specs.Changes.{AreChanges, MayChange, changed, link};
 ghost use Rattle.net_graph.specs.ChangeSteps.{is_there_behind, is_there_behind_all};
 ghost use Rattle.net_graph.specs.Views.{pure_change};
+ghost use Rattle.sig_text.specs.Spelled.{spelled};
 ghost use Rattle.topology_file.specs.NetText.{changed_net, empty_file, has_room_to_link, with_change, after_then_link, after_then_drop, after_form, after_line};
 ghost use Rattle.topology_file.specs.LineErrors.{IsRefusedAs, late_fault as late_fault_of};
 ghost use Rattle.topology_file.specs.Views.{NamesDest, pure_net_line, pure_file};
@@ -74,8 +75,8 @@ impl FileDraft {
 
     /// Adds what the line asks for. After an error some of it may have been added.
     pub fn add_line(&mut self, line: &[u8]) -> Result<(), LineError>
-        ensures ok { OnOk result (after_line self.old line.now ≡ Ok self.new) }
-        ensures bad { IfErr result (IsRefusedAs (after_line self.old line.now)) }
+        ensures ok { OnOk result (after_line spelled self.old line.now ≡ Ok self.new) }
+        ensures bad { IfErr result (IsRefusedAs (after_line spelled self.old line.now)) }
     {
         if line.len() > MAX_LINE_BYTES {
             return Err(LineError::Bad(NetKind::BadLine));
@@ -97,8 +98,8 @@ impl FileDraft {
     #[tactic(auto, using(crate::proofs::Steps::late, crate::proofs::Steps::early_ok, crate::proofs::Steps::early_bad))]
     fn add_to_network(&mut self, line: NetLine<'_>) -> Result<(), LineError>
         requires { NamesDest line }
-        ensures ok { OnOk result (after_form self.old (pure_net_line line.entry) ≡ Ok self.new) }
-        ensures bad { IfErr result (IsRefusedAs (after_form self.old (pure_net_line line.entry))) }
+        ensures ok { OnOk result (after_form spelled self.old (pure_net_line line.entry) ≡ Ok self.new) }
+        ensures bad { IfErr result (IsRefusedAs (after_form spelled self.old (pure_net_line line.entry))) }
     {
         if !self.changes.as_slice().is_empty() {
             return Err(late_fault(line));
@@ -117,8 +118,8 @@ impl FileDraft {
         speaker: &[u8],
         label: &[u8],
     ) -> Result<(), LineError>
-        ensures ok { OnOk result (after_then_link self.old listener.now speaker.now label.now ≡ Ok self.new) }
-        ensures bad { IfErr result (IsRefusedAs (after_then_link self.old listener.now speaker.now label.now)) }
+        ensures ok { OnOk result (after_then_link spelled self.old listener.now speaker.now label.now ≡ Ok self.new) }
+        ensures bad { IfErr result (IsRefusedAs (after_then_link spelled self.old listener.now speaker.now label.now)) }
     {
         let (tail, head) = nodes_of(&self.draft, listener, speaker)?;
         let label = label_of(self.alloc, self.draft.alg(), label)?;

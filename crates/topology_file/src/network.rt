@@ -12,6 +12,7 @@ use crate::texts::split_line;
 use alg_model::Alg;
 use meta_base::{List, MAX_FILE_BYTES};
 use net_graph::{Change, Net};
+use sig_text::texts_have_one_spelling;
 use std::alloc::Global;
 
 /// The most bytes of a line as it is cut, before a carriage return or a comment is dropped.
@@ -60,6 +61,8 @@ pub fn read_net(alloc: Global, alg: Alg, source: &[u8]) -> Result<NetFile, NetEr
     ensures changes { IfOk result (λ file. AreChanges file.net (map pure_change file.changes)) }
     ensures fault { IfErr result (IsRefusedBy source.now alg) }
 {
+    // What is read of a literal is what it spells.
+    texts_have_one_spelling();
     let mut file = FileDraft::new(alloc, alg);
     let mut number: u32 = 1;
     let mut rest = source;
