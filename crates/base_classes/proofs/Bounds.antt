@@ -1,6 +1,6 @@
 -- The numbers of labels of base algebras and of the examples of their facts are bounded, and so what the
 -- table tells and its witnesses make a class.
-use Rattle.std.proofs.Common.{◌≡◌, refl, Option, None, ℕ, ◌≤◌, ◌<◌, ◌==◌, sym, subst, Bool, true, false, Some, arith}
+use Rattle.std.proofs.Common.{◌≡◌, refl, ◌∙◌, Option, None, option_map, ℕ, ◌≤◌, ◌<◌, ◌==◌, sym, subst, Bool, true, false, Some, arith}
 use Rattle.std.specs.Prelude.{if◌then◌else◌}
 use Rattle.alg_model.specs.declared.alg.TheConstants.{MAX_INSTANCE_NUMBER}
 use Rattle.alg_model.specs.Expressions.{Expression, PureAlg, PureCarrier, PureValue, add, cap, worst, width, pref, orig, seq, simseq, tags, guard, gate}
@@ -17,10 +17,11 @@ use Rattle.alg_classes.specs.declared.class.Class.{Class}
 use Rattle.alg_classes.specs.declared.class.Examples.{Examples}
 use Rattle.alg_classes.specs.declared.profile.Profile.{Profile}
 use Rattle.alg_classes.specs.declared.fact.Fact.{Fact}
+use Rattle.alg_classes.specs.declared.fact.Fact.TheVariants.{Total, Dead, Monotone, Strict, Isotone, Cancellative, Condensed, Narrow}
 use Rattle.alg_classes.specs.Facts.{Action, PureExample, at, between, FailsAt}
 use Rattle.alg_classes.specs.Profiles.{bit}
 use Rattle.alg_classes.specs.ClassLaws.{on_all}
-use Rattle.alg_classes.specs.Classes.{Settles, IsSettledBy, ExampleAtMost, ExamplesAtMost, ClassOf, pure_examples}
+use Rattle.alg_classes.specs.Classes.{pure_at, pure_between, Settles, IsSettledBy, ExampleAtMost, ExamplesAtMost, ClassOf, pure_examples}
 use Rattle.base_classes.specs.declared.examples.Numbers.{Numbers}
 use Rattle.base_classes.specs.Kinds.{number_in}
 use Rattle.base_classes.specs.Profiles.{base_profile_of}
@@ -110,19 +111,44 @@ examples_bounded : (e : Edition) (a : Expression) (l : PureLabel) (p : Profile) 
 examples_bounded e a l p x base small i are = λ k. example_bounded e a l p k (pure_examples x k) base small i (are k)
 
 -- an example that settles a fact is one value, or two, as the fact wants
-pub one_value : (c : PureCarrier) (f : Action) (k : Fact) (b : Bool) (o : Option PureExample) → Settles c f k b o
+one_value : (c : PureCarrier) (f : Action) (k : Fact) (b : Bool) (o : Option PureExample) → Settles c f k b o
     → ((u v : PureValue) → ¬ FailsAt c f k (between u v)) → of_one o ≡ o
 one_value c f k b None s not_two = refl
 one_value c f k b (Some (at v)) s not_two = refl
 one_value c f k true (Some (between u v)) s not_two = absurd s
 one_value c f k false (Some (between u v)) s not_two = absurd (not_two u v s.1)
 
-pub two_values : (c : PureCarrier) (f : Action) (k : Fact) (b : Bool) (o : Option PureExample) → Settles c f k b o
+two_values : (c : PureCarrier) (f : Action) (k : Fact) (b : Bool) (o : Option PureExample) → Settles c f k b o
     → ((v : PureValue) → ¬ FailsAt c f k (at v)) → of_two o ≡ o
 two_values c f k b None s not_one = refl
 two_values c f k b (Some (between u v)) s not_one = refl
 two_values c f k true (Some (at v)) s not_one = absurd s
 two_values c f k false (Some (at v)) s not_one = absurd (not_one v s.1)
+
+-- so what is left of each is the whole example
+pub examples_of_witness : (a : Expression) (l : PureLabel) (p : Profile) (x : Examples) → IsBase a → MeetsRanges a → IsLabel a l
+    → p ≡ base_profile_of a l
+    → option_map pure_at x.outside ≡ of_one (failing p (base_witness_of a l) Total)
+    → option_map pure_at x.inside ≡ of_one (failing p (base_witness_of a l) Dead)
+    → option_map pure_at x.not_mono ≡ of_one (failing p (base_witness_of a l) Monotone)
+    → option_map pure_at x.not_strict ≡ of_one (failing p (base_witness_of a l) Strict)
+    → option_map pure_between x.not_iso ≡ of_two (failing p (base_witness_of a l) Isotone)
+    → option_map pure_between x.not_canc ≡ of_two (failing p (base_witness_of a l) Cancellative)
+    → option_map pure_between x.not_cond ≡ of_two (failing p (base_witness_of a l) Condensed)
+    → option_map pure_between x.not_narrow ≡ of_two (failing p (base_witness_of a l) Narrow)
+    → AreExamples x p (base_witness_of a l)
+examples_of_witness a l p x base ranges i told h1 h2 h3 h4 h5 h6 h7 h8 =
+    let c = carrier_of a in
+    let f = App a l in
+    let w = base_witness_of a l in
+    let s : IsSettledBy c f p (failing p w) = subst (λ q. IsSettledBy c f q (failing q w)) (sym told) (base_settled a l base ranges i) in
+    let one : (k : Fact) → ((u v : PureValue) → ¬ FailsAt c f k (between u v)) → of_one (failing p w k) ≡ failing p w k =
+    λ k n. one_value c f k (bit p k) (failing p w k) (s k) n in
+    let two : (k : Fact) → ((v : PureValue) → ¬ FailsAt c f k (at v)) → of_two (failing p w k) ≡ failing p w k =
+    λ k n. two_values c f k (bit p k) (failing p w k) (s k) n in
+    on_all (λ k. pure_examples x k ≡ failing p w k)
+    (h1 ∙ one Total (λ u v n. n)) (h2 ∙ one Dead (λ u v n. n)) (h3 ∙ one Monotone (λ u v n. n)) (h4 ∙ one Strict (λ u v n. n))
+    (h5 ∙ two Isotone (λ v n. n)) (h6 ∙ two Cancellative (λ v n. n)) (h7 ∙ two Condensed (λ v n. n)) (h8 ∙ two Narrow (λ v n. n))
 
 -- a copy of the label, what the table tells of it, and the examples by its witnesses make a class of it
 pub class_is : (a : PureAlg) (class : Class) (l : PureLabel) (x y : Expression) → IsAlg a → IsBase a.expression → IsLabel a.expression l
