@@ -230,10 +230,7 @@ fn sequence_witness(alloc: Global, own: u64, other: u64, fact: Fact) -> Result<E
     let none = Value::Symbols(List::new(alloc));
     match fact {
         Fact::Total => Ok(Example::At(sequence_of(alloc, own)?)),
-        Fact::Isotone => Ok(Example::Between(
-            sequence_of(alloc, own)?,
-            sequence_of(alloc, other)?,
-        )),
+        Fact::Isotone => Ok(Example::Between(sequence_of(alloc, own)?, sequence_of(alloc, other)?)),
         Fact::Condensed | Fact::Narrow => Ok(Example::Between(none, sequence_of(alloc, other)?)),
         Fact::Dead | Fact::Monotone | Fact::Strict | Fact::Cancellative => Ok(Example::At(none)),
     }

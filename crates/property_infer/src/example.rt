@@ -176,7 +176,10 @@ fn constant_example(
     match fact {
         Fact::Dead | Fact::Strict => Ok(Some(Example::At(value.copy(alloc)?))),
         Fact::Monotone => Ok(Example::at(worse_than(alloc, &part_carrier(alloc, part)?, value)?)),
-        Fact::Cancellative | Fact::Narrow => Ok(Example::between(apart(alloc, &part_carrier(alloc, part)?)?)),
+        Fact::Cancellative | Fact::Narrow => Ok(Example::between(apart(
+            alloc,
+            &part_carrier(alloc, part)?,
+        )?)),
         Fact::Total | Fact::Isotone | Fact::Condensed => Ok(None),
     }
 }
@@ -192,7 +195,10 @@ fn kept_example(alloc: Global, part: &Tree, fact: Fact) -> Result<Option<Example
         Fact::Dead | Fact::Strict => {
             Ok(Some(Example::At(best(alloc, &part_carrier(alloc, part)?)?)))
         }
-        Fact::Condensed | Fact::Narrow => Ok(Example::between(apart(alloc, &part_carrier(alloc, part)?)?)),
+        Fact::Condensed | Fact::Narrow => Ok(Example::between(apart(
+            alloc,
+            &part_carrier(alloc, part)?,
+        )?)),
         Fact::Total | Fact::Monotone | Fact::Isotone | Fact::Cancellative => Ok(None),
     }
 }
