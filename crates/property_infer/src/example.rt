@@ -9,7 +9,7 @@ ghost use Rattle.alg_model.specs.declared.edition.Edition.{Edition};
 ghost use Rattle.property_infer.specs.Asked.{AnswersFor, AnswersForPair, AnswersForSides};
 ghost use Rattle.property_infer.specs.Asked.{IsAction, IsSmallIn};
 
-use crate::action::Action;
+use crate::action::Action::{self, Constant, Deny, Keep, OfLabel};
 use crate::pairs::{OfPair, asked_of_pair, beside, spanned};
 use crate::parts::part_carrier;
 use crate::sides::{OfSides, across, asked_of_sides, on_first, on_second};
@@ -31,10 +31,10 @@ pub(crate) fn example_for(
     ensures { IfOk result (AnswersFor action.entry fact) }
 {
     match action {
-        Action::OfLabel(part, label) => label_example(alloc, part, label, fact),
-        Action::Constant(part, value) => constant_example(alloc, part, value, fact),
-        Action::Keep(part) => kept_example(alloc, part, fact),
-        Action::Deny(part) => denied_example(alloc, part, fact),
+        OfLabel(part, label) => label_example(alloc, part, label, fact),
+        Constant(part, value) => constant_example(alloc, part, value, fact),
+        Keep(part) => kept_example(alloc, part, fact),
+        Deny(part) => denied_example(alloc, part, fact),
     }
 }
 
@@ -51,27 +51,21 @@ fn label_example(
 {
     match part.label_form() {
         LabelForm::Lex(a, b) => match label {
-            Label::Pair(l, m) => {
-                pair_example(alloc, Action::OfLabel(a, l), Action::OfLabel(b, m), fact)
-            }
+            Label::Pair(l, m) => pair_example(alloc, OfLabel(a, l), OfLabel(b, m), fact),
             _ => unreachable!(),
         },
         LabelForm::Scoped(a, b) => match label {
-            Label::Outer(l, v) => {
-                pair_example(alloc, Action::OfLabel(a, l), Action::Constant(b, v), fact)
-            }
-            Label::Inner(m) => pair_example(alloc, Action::Keep(a), Action::OfLabel(b, m), fact),
+            Label::Outer(l, v) => pair_example(alloc, OfLabel(a, l), Constant(b, v), fact),
+            Label::Inner(m) => pair_example(alloc, Keep(a), OfLabel(b, m), fact),
             _ => unreachable!(),
         },
         LabelForm::Union(a, b) => match label {
-            Label::First(l) => side_example(alloc, Action::OfLabel(a, l), Action::Deny(b), fact),
-            Label::Second(m) => side_example(alloc, Action::Deny(a), Action::OfLabel(b, m), fact),
+            Label::First(l) => side_example(alloc, OfLabel(a, l), Deny(b), fact),
+            Label::Second(m) => side_example(alloc, Deny(a), OfLabel(b, m), fact),
             _ => unreachable!(),
         },
         LabelForm::Sum(a, b) => match label {
-            Label::Both(l, m) => {
-                side_example(alloc, Action::OfLabel(a, l), Action::OfLabel(b, m), fact)
-            }
+            Label::Both(l, m) => side_example(alloc, OfLabel(a, l), OfLabel(b, m), fact),
             _ => unreachable!(),
         },
         LabelForm::Plus(a, b) => match label {
@@ -209,7 +203,7 @@ fn denied_example(alloc: Global, part: &Tree, fact: Fact) -> Result<Option<Examp
     ensures { IfOk result (AnswersFor (Action.Deny part.entry) fact) }
 {
     match fact {
-        Fact::Total => Ok(Some(Example::At(any_value(alloc, Action::Deny(part))?))),
+        Fact::Total => Ok(Some(Example::At(any_value(alloc, Deny(part))?))),
         Fact::Dead
         | Fact::Monotone
         | Fact::Strict
