@@ -8,6 +8,5 @@ mod Linking
 mod Deals
 mod Parting
 mod Round
-mod OneRound
 mod Returns
 mod Ending

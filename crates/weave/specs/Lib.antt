@@ -4,7 +4,6 @@ pub mod Views
 pub mod Blocks
 pub mod Gathered
 pub mod Rounds
-pub mod Between
 pub mod Arcs
 pub mod Dealt
 pub mod Apart

@@ -3,7 +3,6 @@
 //! `woven_laws`, `journal_merge`, `link_queues` and `quiet_ledger`; it knows no route and prints nothing.
 #![tactic(auto)]
 
-mod between;
 mod block;
 mod dealing;
 mod gathering;

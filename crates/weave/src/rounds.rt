@@ -1,5 +1,5 @@
 // A round: the blocks are lent to workers, one to each, and come back.
-ghost use Rattle.std.specs.Prelude.{◌≡◌, ◌<◌, ◌≤◌, ◌*◌, ◌+◌, ◌^◌, ℕ, All, false, vec_len, length, map, IfOk, Some, slice_get, slice_index_or};
+ghost use Rattle.std.specs.Prelude.{◌≡◌, ◌<◌, ◌≤◌, ◌*◌, ◌+◌, ◌^◌, ℕ, All, false, vec_len, length, map, IfOk, OnOk, Some, slice_get, slice_index_or};
 ghost use Rattle.net_graph.specs.Nets.{IsNet};
 ghost use Rattle.net_graph.specs.declared.limits.TheConstants.{MAX_ARCS};
 ghost use Rattle.node_core.specs.declared.node.TheConstants.{MAX_CLOCK};
@@ -12,7 +12,7 @@ ghost use Rattle.weave.specs.Rounds.{AreLent, IsRound, share_of};
 
 use crate::block::Block;
 use crate::links::{link_blocks, settle_blocks};
-use crate::part::Part;
+use crate::part::{Part, turn};
 use crate::worker::work;
 use meta_base::{ArcId, Gate, List, NoMemory};
 use net_graph::Net;
@@ -33,6 +33,10 @@ pub(crate) struct Plan {
     pub(crate) turns: u64,
     /// The first arc on which a message waits.
     pub(crate) arc: ArcId,
+    /// Whether there was a round before it, so that a delivery is made on that arc first.
+    pub(crate) is_later: bool,
+    /// The number of workers that the gate is told for that delivery.
+    pub(crate) workers: u32,
 }
 
 // What a worker is lent: a block, a share of the book in which nothing is entered, and turns.
@@ -86,6 +90,31 @@ fn turns_of(turns: u64, count: u64, extra: usize, worker: usize) -> u64
 {
     let rest = if worker == extra { turns % count } else { 0 };
     turns / count + rest
+}
+
+// The delivery between two rounds, if there was one before: the first arc on which a message waits has it taken.
+fn deliver_first<N: NodeCore, G: Gate>(
+    alloc: Global,
+    net: &Net,
+    parts: &mut Vec<Part<N>>,
+    extra: usize,
+    plan: &Plan,
+    gate: &G,
+) -> Result<(), NoMemory>
+    requires net { IsNet net.now }
+    requires extra { extra < vec_len parts.old }
+    requires ready { All (IsReady N.state N.note N.kind net.now) parts.old.items }
+    requires fresh { All (λ part. part.refused ≡ false) parts.old.items }
+    ensures count { vec_len parts.new ≡ vec_len parts.old }
+    ensures worked { OnOk result ((w : ℕ) (d : _) → w < vec_len parts.old → HasWorked N.state N.note N.kind net.now
+        (slice_index_or parts.old.items w d) (slice_index_or parts.new.items w d)) }
+    ensures ready { OnOk result (All (IsReady N.state N.note N.kind net.now) parts.new.items) }
+    ensures fresh { OnOk result (All (λ part. part.refused ≡ false) parts.new.items) }
+{
+    if plan.is_later {
+        turn(alloc, &mut parts[extra], net, plan.arc, plan.workers, gate)?;
+    }
+    Ok(())
 }
 
 // Lends each part to a worker on a thread of its own, and waits for all.
@@ -172,6 +201,7 @@ where
     link_blocks(alloc, net, &mut blocks)?;
     let extra = block_with(net, plan.arc, count);
     let mut parts = lent(alloc, blocks, shares, plan.turns, extra)?;
+    deliver_first(alloc, net, &mut parts, extra, &plan, gate)?;
     run_workers(rt, alloc, net, &book, &mut parts, gate);
     let (mut blocks, shares) = returned(alloc, parts)?;
     let totals = Book::gather(book, shares);
