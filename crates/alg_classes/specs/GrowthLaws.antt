@@ -30,8 +30,8 @@ grown_by_new {A} {of} P p old new x profile is none e = subst (GrownBy of P (Onl
 pub grown_by_one : (P : Class → Type 0) (p : Profile) (old new : List Class) (class : Class) → class.profile ≡ p → P class
     → IsGrownBy old class new → Grown P (Only p) old new
 grown_by_one P p old new class profile is grown = ⊎_elim
-    (λ g. subst (Grown P (Only p) old) (sym g.1) (grown_already {_} {of_class} P p old (subst (HasProfile old) profile g.0)))
-    (λ g. grown_by_new {_} {of_class} P p old new class profile is (λ h. g.0 (subst (HasProfile old) (sym profile) h)) g.1)
+    (λ g. subst (Grown P (Only p) old) (sym g.1) (grown_already {of = of_class} P p old (subst (HasProfile old) profile g.0)))
+    (λ g. grown_by_new {of = of_class} P p old new class profile is (λ h. g.0 (subst (HasProfile old) (sym profile) h)) g.1)
     grown
 
 -- no item of the other list is done yet
