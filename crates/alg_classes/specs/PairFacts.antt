@@ -93,7 +93,7 @@ not_behind c (Some x) (Some z) w e n = (z, refl, λ h. n (let f : w ≡ x = cc i
 not_behind c (Some x) None w e n = absurd (n refl)
 not_behind c None p w e n = absurd (cc)
 
--- the images of two pairs, of which that of (x,y) has come before that of (a,b), where x comes behind a
+-- the images of two pairs, of which that of (x,y) has come before that of (a,b), where x comes after a
 pub tied : (c d : PureCarrier) (f g : Action) (a b x y w t z : PureValue) → IsTied c d f g → In c a → In c x → In d b → In d y
     → f x ≡ Some w → g y ≡ Some t → f a ≡ Some z → ¬ (Order c w z ≡ Less) → Order c z w ≡ ordering_reverse (Order c w z) → Order c a x ≡ Less
     → ¬ IsPreferred (pairs c d) (both (Some w) (Some t)) (both (Some z) (g b))

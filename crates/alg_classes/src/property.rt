@@ -44,7 +44,7 @@ impl Property {
     }
 }
 
-/// Values at which a label lacks a property.
+/// Values at which a label doesn't have a property.
 #[derive(Debug, Drop)]
 pub struct Instance {
     pub property: Property,

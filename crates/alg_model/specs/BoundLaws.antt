@@ -55,7 +55,7 @@ pub greatest_is_bounded : (e : Edition) → greatest_number e ≤ max_label_numb
 greatest_is_bounded One = omega arith
 greatest_is_bounded Two = omega arith
 
--- what holds of each number of a list and of one more holds of each of the list with it behind
+-- what holds of each number of a list and of one more holds of each of the list with it after
 pub all_and_one : (P : ℕ → Type 0) (ks : List ℕ) (n : ℕ) → AllByRecursion P ks → P n → AllByRecursion P (ks ++ n ∷ [])
 all_and_one P [] n h i = (i, tt)
 all_and_one P (k ∷ ks) n h i = (h.0, all_and_one P ks n h.1 i)

@@ -8,7 +8,7 @@ use Rattle.alg_model.specs.Expressions.{PureLabel, number_label, keep, symbol_la
 use Rattle.alg_model.specs.Carriers.{carrier_of}
 use Rattle.alg_model.specs.Application.{has_mark}
 
--- numbers behind others, each behind a comma
+-- numbers after others, each after a comma
 abbrev pub more_numbers : List ℕ → List ℕ
 more_numbers [] = []
 more_numbers (n ∷ ns) = codes "," ++ decimal n ++ more_numbers ns

@@ -5,14 +5,14 @@ use Rattle.alg_model.specs.Carriers.{carrier_of, In, IsPreferred, AreEquivalent}
 use Rattle.alg_model.specs.Application.{IsLabel, App}
 use Rattle.alg_model.specs.Properties.{PureProperty, monotone, strict, isotone, cancellative, total, Has}
 
--- a label with values at which it is said to lack a property
+-- a label with values at which it is said not to have a property
 pub record PureInstance : Type 0 where
   pub property : PureProperty
   pub label : PureLabel
   pub first : PureValue
   pub second : Option PureValue
 
--- at these values the label lacks the property
+-- at these values the label doesn't have the property
 abbrev pub Shows : PureProperty → Expression → PureLabel → PureValue → Option PureValue → Type 0
 Shows monotone a l u None = IsPreferred (carrier_of a) (App a l u) (Some u)
 Shows strict a l u None = (w : PureValue) × (App a l u ≡ Some w) × ¬ IsPreferred (carrier_of a) (Some u) (Some w)
@@ -32,7 +32,7 @@ pub record IsInstanceOf (a : Expression) (x : PureInstance) : Type 0 where
   pub first : In (carrier_of a) x.first
   pub second : SecondIn a x.second
 
--- the instance is the algebra's, and shows that its label lacks its property
+-- the instance is the algebra's, and shows that its label doesn't have its property
 pub record Violates (a : Expression) (x : PureInstance) : Type 0 where
   pub is_of : IsInstanceOf a x
   pub shows : Shows x.property a x.label x.first x.second

@@ -11,8 +11,8 @@ use crate::{Alg, Carrier, Form, Tree, Value};
 use meta_base::{List, NoMemory, Text};
 use std::alloc::Global;
 
-/// Whether two algebras have the same carrier: the same values in the same order of preference. It
-/// takes no memory.
+/// For whoever composes algebras; the program compares the carriers of trees. Whether two algebras have the same
+/// carrier: the same values in the same order of preference. It takes no memory.
 pub fn same_carrier(a: &Alg, b: &Alg) -> bool
     ensures { (result ≡ true) ↔ (carrier_of a.now.expression ≡ carrier_of b.now.expression) }
 {

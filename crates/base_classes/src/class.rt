@@ -18,8 +18,8 @@ use alg_model::{Alg, Label, Tree};
 use meta_base::NoMemory;
 use std::alloc::Global;
 
-/// The class of the label of a base algebra: that label, which facts it has, and an example for each that
-/// fails. It is refused for want of memory alone.
+/// For whoever wants classes with their examples; the program needs none. The class of the label of a base algebra:
+/// that label, which facts it has, and an example for each that fails. It is refused for want of memory alone.
 ///
 /// The algebra's root is a base algebra other than a table, and the label is the algebra's.
 pub fn base_class(alloc: Global, alg: &Alg, label: &Label) -> Result<Class, NoMemory>

@@ -15,8 +15,8 @@ use std::alloc::Global;
 /// How many labels of a base algebra are tried: the facts depend on how a number compares with 0 and the top alone.
 pub const BASE_CANDIDATES: usize = 4;
 
-/// The classes of the labels of a base algebra, one for each profile that a label has. It is refused for
-/// want of memory alone.
+/// For whoever wants all classes of an algebra; the program takes labels by their profiles. The classes of the labels
+/// of a base algebra, one for each profile that a label has. It is refused for want of memory alone.
 ///
 /// The algebra's root is a base algebra other than a table.
 pub fn base_class_list(alloc: Global, alg: &Alg) -> Result<ClassList, NoMemory>

@@ -22,7 +22,7 @@ use Rattle.best_first.specs.State.{IsState, CanSpeak, relaxed, spoken}
 use Rattle.best_first.proofs.Places.{found-none, found_within, none_count-map, none_count-none, all-none}
 use Rattle.best_first.proofs.Steps.{first_state, next_state, can_speak, no_loop}
 
--- without rows nothing is told
+-- without rows nothing is reported
 pub told-none : {S : Type 0} (value : S → PureValue) (paths : List (List NodeId)) (n : ℕ) → told_by value paths (replicate n None) ≡ no_route
 told-none value paths n = fun_ext (λ k. found-map (fixed_route value paths) (replicate n None) k ∙ ap (option_map (fixed_route value paths)) (found-none n k))
 

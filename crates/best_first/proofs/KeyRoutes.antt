@@ -18,7 +18,7 @@ nodes_same : (p : List ℕ) → compare_nodes p p ≡ Equal
 nodes_same [] = refl
 nodes_same (i ∷ p) = rw (cmp_same i) (nodes_same p)
 
--- what is behind plays no part where the first nodes differ, and is the same where they don't
+-- what is after plays no part where the first nodes differ, and is the same where they don't
 fronts : (n m : ℕ) (p q : List ℕ) → (n ≡ m → p ≡ q) → nat_cmp n m ≡ compare_nodes (n ∷ p) (m ∷ q)
 fronts n m p q same = by (nat_cmp n m) refl
   where
@@ -44,7 +44,7 @@ origins Less = refl
 origins Equal = refl
 origins Greater = refl
 
--- the path of so many nodes goes from node i over the next node n along what is behind
+-- the path of so many nodes goes from node i over the next node n along what is after
 abbrev IsPathOf : (ℕ → List ℕ) → List ℕ → ℕ → ℕ → ℕ → Type 0
 IsPathOf behind path size i n = ((path ≡ i ∷ []) × (n ≡ i) × (length path ≡ size)) ⊎ ((rest : List ℕ) × (path ≡ i ∷ n ∷ rest) × (behind n ≡ n ∷ rest) × (length path ≡ size))
 

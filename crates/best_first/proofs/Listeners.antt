@@ -109,7 +109,7 @@ heard_id net n i ids e m id f = by (slice_get (arcs_to net i) m) refl
 abbrev pub heard_so_far : PureNet → ℕ → PureRoute → ℕ → ℕ → Option PureRoute
 heard_so_far net i r m k = if list_any (λ (a : PureArc). a.tail == k) (take m (arcs_to net i)) then arc_offer net k i r else None
 
--- the same of a route that is told
+-- the same of a route that is reported
 abbrev pub spoken_so_far : PureNet → ℕ → Option PureRoute → ℕ → ℕ → Option PureRoute
 spoken_so_far net i o m k = option_and_then (λ (r : PureRoute). heard_so_far net i r m k) o
 

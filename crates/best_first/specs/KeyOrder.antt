@@ -25,7 +25,7 @@ asymmetric c a b i j =
         → is_less (ordering_then o (ordering_then s (ordering_then m x))) ≡ true → is_less (ordering_then p (ordering_then t (ordering_then n y))) ≡ false
     by o p s t m n x y e f g h = grind arith
 
--- what doesn't come before, by one number and then by what is behind
+-- what doesn't come before, by one number and then by what is after
 numbers_trans : (i j k : ℕ) (x y z : Ordering) → (is_less x ≡ false → is_less y ≡ false → is_less z ≡ false)
     → is_less (ordering_then (nat_cmp j i) x) ≡ false → is_less (ordering_then (nat_cmp k j) y) ≡ false → is_less (ordering_then (nat_cmp k i) z) ≡ false
 numbers_trans i j k x y z h f g = grind (arith, nat_tests)
@@ -46,7 +46,7 @@ transitive c x y z i j k =
     (p.trans x.value y.value z.value i j k) (p.congr x.value y.value z.value i j k) (p.congr z.value y.value x.value k j i)
     (numbers_trans x.size y.size z.size _ _ _ (numbers_trans x.node y.node z.node _ _ _ (last_trans x.next y.next z.next)))
 
--- the same of keys of which some may lack
+-- the same of keys of which some may be missing
 ahead_asymmetric : (c : PureCarrier) (o p : Option RouteKey) → IfSome o (λ k. In c k.value) → IfSome p (λ k. In c k.value) → is_ahead c o p ≡ true → is_ahead c p o ≡ false
 ahead_asymmetric c (Some k) (Some l) i j e = asymmetric c k l i j e
 ahead_asymmetric c (Some k) None i j e = refl

@@ -10,7 +10,7 @@ use Rattle.best_first.specs.declared.route.OpenRoute.{OpenRoute}
 use Rattle.best_first.specs.declared.route.Place.{Place}
 use Rattle.best_first.specs.Found.{found_at}
 
--- an open route: its value, how many nodes its path has, its node, and the node behind it
+-- an open route: its value, how many nodes its path has, its node, and the node after it
 pub record RouteKey : Type 0 where
   pub value : PureValue
   pub size : ℕ

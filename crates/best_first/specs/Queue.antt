@@ -50,7 +50,7 @@ IsOfferedOf c place (Some v) best new_best = IsOffered c (key_at place v) best n
 abbrev pub no_route : Told
 no_route k = None
 
--- the routes that are told, with this one of node i
+-- the routes that are reported, with this one of node i
 abbrev pub with_told : Told → ℕ → PureRoute → Told
 with_told told i r k = if k == i then Some r else told k
 

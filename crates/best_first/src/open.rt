@@ -170,7 +170,7 @@ impl<A: Algebra, L: Ledger> Open<A, L> {
 }
 
 // Whether the route there with the value is better than the best, or there is no best. Routes compare by
-// value and then by place, which is their order by value and path, since what lies behind one next is one path.
+// value and then by place, which is their order by value and path, since what lies after one next is one path.
 #[inline(always)]
 fn beats<A: Algebra>(
     algebra: &A,

@@ -18,7 +18,7 @@ pub(crate) struct OpenRoute<S> {
     pub place: Place,
 }
 
-// Where an open route goes: how many nodes its path has, its node, and the node behind it, which is fixed.
+// Where an open route goes: how many nodes its path has, its node, and the node after it, which is fixed.
 // The route of the node's own origin has its node for the next.
 #[derive(Clone, Copy)]
 pub(crate) struct Place {

@@ -68,9 +68,9 @@ fn into_table<A: Algebra>(
     })
 }
 
-/// The table of the destination that is made best first: of all offers that own origins and fixed
-/// nodes make, the best is fixed next. It is the only such table, and is optimal where all labels of
-/// the network are monotone and isotone (Sobrinho 2002).
+/// For one destination alone; the program compiles the labels once for all of them. The table of the destination that
+/// is made best first: of all offers that own origins and fixed nodes make, the best is fixed next. It is the only such
+/// table, and is optimal where all labels of the network are monotone and isotone (Sobrinho 2002).
 ///
 /// The algebra is the network's, in whatever form its values have, and the destination is one of the
 /// network's.

@@ -29,7 +29,7 @@ use Rattle.code_gen.specs.Meaning.{outcome_of, CodeMeansApplication}
 use Rattle.code_gen.proofs.Running.{same_run, fork_first, fork_second, skipped, said, kept, lost}
 use Rattle.code_gen.proofs.Sets.{below_word, cleared}
 
--- what comes of a value's words, and of a row behind them, where this comes of the value and more code follows
+-- what comes of a value's words, and of a row after them, where this comes of the value and more code follows
 abbrev after : Option PureValue → List Op → List ℕ → Outcome
 after (Some w) code row = behind (Enc w) (RunCode code row)
 after None code row = prohibited
@@ -179,14 +179,14 @@ table_means t (row_label r) (name k) code rest h = found (slice_get t.rows r) re
 table_means t (row_label r) _ code row h = absurd h.value
 table_means t _ v code row h = absurd h.label
 
--- a part's code runs on the part's words, and the rest of the code on what is behind them
+-- a part's code runs on the part's words, and the rest of the code on what is after them
 both_after : (o p : Option PureValue) (next code : List Op) (words row : List ℕ)
     → RunCode next words ≡ after p code row → after o next words ≡ after (both o p) code row
 both_after (Some u) (Some v) next code words row e = ap (behind (Enc u)) e ∙ behind_both (Enc u) (Enc v) (RunCode code row)
 both_after (Some u) None next code words row e = ap (behind (Enc u)) e
 both_after None p next code words row e = refl
 
--- a side's code runs behind the side
+-- a side's code runs after the side
 first_after : (o : Option PureValue) (code : List Op) (row : List ℕ) → behind (0 ∷ []) (after o code row) ≡ after (option_map first o) code row
 first_after (Some u) code row = behind_both (0 ∷ []) (Enc u) (RunCode code row)
 first_after None code row = refl
@@ -195,7 +195,7 @@ second_after : (o : Option PureValue) (code : List Op) (row : List ℕ) → behi
 second_after (Some v) code row = behind_both (1 ∷ []) (Enc v) (RunCode code row)
 second_after None code row = refl
 
--- the second side's code is passed behind the first side's
+-- the second side's code is passed after the first side's
 skipped_after : (o : Option PureValue) (d code : List Op) (row : List ℕ) → after o (op.Skip (length d) ∷ (d ++ code)) row ≡ after o code row
 skipped_after (Some u) d code row = ap (behind (Enc u)) (skipped d code row)
 skipped_after None d code row = refl
@@ -225,7 +225,7 @@ outer_of a b l w u v h = record { ranges = h.ranges.0; carriers = h.carriers.0; 
 inner_of : (a b : Expression) (m : PureLabel) (u v : PureValue) → MayAct (scoped a b) (inner m) (pair u v) → MayAct b m v
 inner_of a b m u v h = record { ranges = h.ranges.1; carriers = h.carriers.1; label = h.label; value = h.value.1; small_label = h.small_label; small_value = h.small_value.1 }
 
--- three pieces of code, and more behind them
+-- three pieces of code, and more after them
 three : (c d e code : List Op) → ((c ++ d) ++ e) ++ code ≡ c ++ (d ++ (e ++ code))
 three c d e code = append_assoc (c ++ d) e code ∙ append_assoc c d (e ++ code)
 

@@ -28,7 +28,7 @@ either_then choose c d code = ap (λ k. choose (length c + 1) ∷ k) (append_ass
 pub same_run : (c d : List Op) (v w : List ℕ) → c ≡ d → v ≡ w → RunCode c v ≡ RunCode d w
 same_run c d v w e f = ap (λ k. RunCode k v) e ∙ ap (RunCode d) f
 
--- behind a fork that reads the second side, the first side's code and its jump are passed
+-- after a fork that reads the second side, the first side's code and its jump are passed
 pub fork_second : (c d code : List Op) (row : List ℕ) → RunCode (either op.Fork c d ++ code) (1 ∷ row) ≡ behind (1 ∷ []) (RunCode (d ++ code) row)
 fork_second c d code row =
     same_run _ _ (1 ∷ row) _ (either_then op.Fork c d code) refl
@@ -40,7 +40,7 @@ test_second c d code row =
     ∙ behind_none _
     ∙ jump_past c (op.Skip (length d) ∷ (d ++ code)) 1 row
 
--- behind a fork that reads the first side, the first side's code runs, and the second side's is passed: `made_of` is
+-- after a fork that reads the first side, the first side's code runs, and the second side's is passed: `made_of` is
 -- what the first side's code makes of the row, for whatever code follows
 pub fork_first : (c d code : List Op) (row : List ℕ) → RunCode (either op.Fork c d ++ code) (0 ∷ row) ≡ behind (0 ∷ []) (RunCode (c ++ (op.Skip (length d) ∷ (d ++ code))) row)
 fork_first c d code row = same_run _ _ (0 ∷ row) _ (either_then op.Fork c d code) refl

@@ -5,8 +5,8 @@ use Rattle.alg_model.specs.Expressions.{PureCarrier, whole, up_to, down_from, se
 use Rattle.alg_model.specs.Expressions.{PureValue, number, symbols, marks, unit, name, pair, first, second}
 use Rattle.alg_model.specs.Carriers.{In}
 
--- a number, a set by its bits and the place of a name are one word, a sequence is its length and its symbols, a pair one
--- part behind the other, and a side 0 or 1 and the value
+-- a number, a set by its bits and the place of a name are one word, a sequence is its length and its symbols, a pair
+-- one part after the other, and a side 0 or 1 and the value
 abbrev pub Enc : PureValue → List ℕ
 Enc (number n) = n ∷ []
 Enc (symbols ns) = length ns ∷ ns
@@ -17,7 +17,7 @@ Enc (pair u v) = Enc u ++ Enc v
 Enc (first u) = 0 ∷ Enc u
 Enc (second v) = 1 ∷ Enc v
 
--- what stands in front of a row, and the row behind it
+-- what stands in front of a row, and the row after it
 abbrev pub Front : Type 0
 Front = Option (PureValue × List ℕ)
 
@@ -31,7 +31,7 @@ abbrev pub small_front : ℕ → (ℕ → PureValue) → List ℕ → Front
 small_front count make [] = None
 small_front count make (w ∷ row) = if nat_lt w count then Some (make w, row) else None
 
--- a length in front of a row, and so many symbols below this number behind it
+-- a length in front of a row, and so many symbols below this number after it
 abbrev pub symbols_front : ℕ → List ℕ → Front
 symbols_front count [] = None
 symbols_front count (n ∷ row) = if nat_le n (length row) && list_all (λ m. nat_lt m count) (take n row) then Some (symbols (take n row), drop n row) else None
@@ -40,11 +40,11 @@ symbols_front count (n ∷ row) = if nat_le n (length row) && list_all (λ m. na
 abbrev pub made_front : (PureValue → PureValue) → Front → Front
 made_front make f = option_map (λ r. (make r.0, r.1)) f
 
--- a value in front of a row, and one more behind it, where `next` tells what stands in front of a row
+-- a value in front of a row, and one more after it, where `next` tells what stands in front of a row
 abbrev pub pair_front : Front → (List ℕ → Front) → Front
 pair_front f next = option_and_then (λ r. made_front (pair r.0) (next r.1)) f
 
--- a side in front of a row, and a value of the side behind it
+-- a side in front of a row, and a value of the side after it
 abbrev pub side_front : (List ℕ → Front) → (List ℕ → Front) → List ℕ → Front
 side_front left right [] = None
 side_front left right (zero ∷ row) = made_front first (left row)

@@ -11,7 +11,7 @@ few (Some m) (Some n) = if nat_le (m + n) HERE then Some (m + n) else None
 few (Some m) None = None
 few None o = None
 
--- how many words each value of the carrier has, where all have the same few; not told of sides
+-- how many words each value of the carrier has, where all have the same few; nothing is said of sides
 abbrev pub width_of : PureCarrier → Option ℕ
 width_of whole = Some 1
 width_of (up_to top) = Some 1

@@ -20,7 +20,7 @@ pub fn compile_label(alloc: Global, alg: &Alg, label: &Label) -> Result<LabelCod
     Ok(List::from_vec(code))
 }
 
-// Writes the code of the label behind what stands there.
+// Writes the code of the label after what stands there.
 #[cycle(push_label)]
 fn push_label(alloc: Global, tree: &Tree, label: &Label, code: &mut Vec<Op>) -> Result<(), NoMemory>
     ensures { OnOk result (code.new.items ≡

@@ -12,7 +12,8 @@ use label_code::{Row, Word};
 use meta_base::{List, NoMemory, Text};
 use std::alloc::Global;
 
-/// The value of the algebra whose words the row is. It is refused for want of memory alone.
+/// For a row alone; the program's rows are decoded by their algebra. The value of the algebra whose words the row is.
+/// It is refused for want of memory alone.
 pub fn decode(alloc: Global, alg: &Alg, row: &Row) -> Result<Value, NoMemory>
     requires { IsEncoded (carrier_of alg.now.expression) row.now }
     ensures { (v : PureValue) → In (carrier_of alg.now.expression) v → Enc v ≡ row.now →

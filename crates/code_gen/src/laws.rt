@@ -6,7 +6,7 @@ ghost use Rattle.code_gen.specs.Meaning.{CodeMeansApplication, CodeMeansOrder};
 ghost use Rattle.code_gen.specs.Widths.{width_of, HoldValues};
 
 /// The code of a label makes of a value's words those of what the label makes of the value, and prohibits exactly what
-/// the label prohibits; so it fits every value's words: it lacks no word and passes no bound.
+/// the label prohibits; so it fits every value's words: no word is missing and no bound is passed.
 #[tactic(auto, using(crate::proofs::Labels::code_means_application))]
 pub fn code_means_application()
     ensures { (a : Expression) → CodeMeansApplication a }

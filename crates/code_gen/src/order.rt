@@ -18,7 +18,7 @@ pub fn compile_order(alloc: Global, alg: &Alg) -> Result<OrderCode, NoMemory>
     Ok(List::from_vec(code))
 }
 
-// Writes the code of the preference behind what stands there.
+// Writes the code of the preference after what stands there.
 #[cycle(push_order)]
 fn push_order(alloc: Global, tree: &Tree, code: &mut Vec<OrdOp>) -> Result<(), NoMemory>
     ensures { OnOk result (code.new.items ≡ code.old.items ++ CompileOrder (carrier_of (expression_of tree.now))) }

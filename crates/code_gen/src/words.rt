@@ -7,7 +7,8 @@ use label_code::{Output, Row, Word};
 use meta_base::{List, NoMemory};
 use std::alloc::Global;
 
-/// The words of a value. It is refused for want of memory alone.
+/// For a value alone; the program writes values into rows that it has. The words of a value. It is refused for want of
+/// memory alone.
 pub fn encode(alloc: Global, value: &Value) -> Result<Row, NoMemory>
     ensures { IfOk result (λ row. row ≡ Enc (pure_value value.now)) }
 {
@@ -16,7 +17,7 @@ pub fn encode(alloc: Global, value: &Value) -> Result<Row, NoMemory>
     Ok(List::from_vec(words))
 }
 
-/// Writes the words of the value behind those that stand there.
+/// Writes the words of the value after those that stand there.
 pub fn write_value<W: Output>(alloc: Global, value: &Value, out: &mut W) -> Result<(), NoMemory>
     ensures { OnOk result (W.written out.new ≡ W.written out.old ++ Enc (pure_value value.now)) }
 {

@@ -179,7 +179,7 @@ fn agree(
     )
 }
 
-// Whether two algebras told the same.
+// Whether two algebras answered the same.
 fn tells_alike(one: &Told, other: &Told) -> bool {
     same_value(&one.again, &other.again)
         && one.order == other.order

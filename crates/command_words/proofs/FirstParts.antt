@@ -7,7 +7,7 @@ pub first_argument : (place : ℕ) (word : List ℕ) (rest : List (List ℕ)) �
 first_argument place word [] e = rw e refl
 first_argument place word (next ∷ rest) e = rw e refl
 
--- behind a flag its value is taken, if there is one
+-- after a flag its value is taken, if there is one
 pub first_flag : (place between after : ℕ) (word : List ℕ) (words rest behind : List (List ℕ)) (value : Option (Bor (List ℕ))) → words ≡ word ∷ rest → is_flag word ≡ true → between ≡ place + 1
     → MatchOption value ((rest ≡ []) × (behind ≡ [])) (λ v. rest ≡ v.now ∷ behind) → OnSome value (after ≡ between + 1)
     → parts_from place words ≡ flag word (option_map (λ v. v.now) value) ∷ parts_from after behind

@@ -1,4 +1,4 @@
--- The words behind the command, taken apart into arguments and flags.
+-- The words after the command, taken apart into arguments and flags.
 use Rattle.std.specs.Prelude.{ℕ, ◌+◌, List, [], ◌∷◌, Bool, true, false, not, ◌&&◌, nat_eq, Option, Some, None, option_map, is_none, if◌then◌else◌, codes}
 use Rattle.std.specs.List.{starts_with, filter_map, list_any}
 use Rattle.std.specs.Str.{bytes_eq}
@@ -6,8 +6,8 @@ use Rattle.command_words.specs.declared.parts.Part as part
 use Rattle.command_words.specs.declared.usage.Flag.{Flag}
 use Rattle.command_words.specs.Usages.{flag_word}
 
--- An argument, by its place among all words and as it stands there; or a flag with its value, the word behind it. Only a flag that is
--- the last word has none.
+-- An argument, by its place among all words and as it stands there; or a flag with its value, the word after it. Only a
+-- flag that is the last word has none.
 pub data PurePart : Type 0 where
   argument : ℕ → List ℕ → PurePart
   flag : List ℕ → Option (List ℕ) → PurePart

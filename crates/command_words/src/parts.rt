@@ -1,11 +1,11 @@
-//! The words behind the command, taken apart into arguments and flags.
+//! The words after the command, taken apart into arguments and flags.
 ghost use Rattle.std.specs.Prelude.{◌≡◌, ◌+◌, ◌^◌, ◌<◌, length, OnSome};
 ghost use Rattle.command_words.specs.Parts.{is_flag};
 
 use crate::usage::Flag;
 use meta_base::Text;
 
-/// A part of the words behind the command.
+/// A part of the words after the command.
 #[derive(Clone, Copy)]
 pub enum Part<'a> {
     /// An argument, and its place among all words.
@@ -13,7 +13,7 @@ pub enum Part<'a> {
         place: usize,
         word: &'a str,
     },
-    /// A flag and its value, the word behind it; a flag that is the last word has none.
+    /// A flag and its value, the word after it; a flag that is the last word has none.
     Flag {
         word: &'a str,
         value: Option<&'a str>,
@@ -107,7 +107,7 @@ impl<'a> Parts<'a> {
     ghost use Rattle.command_words.specs.Parts.{parts_from};
     ghost use Rattle.command_words.specs.PartsLeft.{parts_left};
 
-    /// The parts of the words behind the command.
+    /// The parts of the words after the command.
     #[tactic(auto, using(crate::proofs::FirstParts::parts_within))]
     pub fn behind_command(words: &'a [Text]) -> Parts<'a>
         ensures parts { parts_left result ≡ parts_from 1 words.now }

@@ -9,7 +9,7 @@ jump_within zero code v w fits = omega arith
 jump_within (suc n) [] v w fits = absurd (fits refl)
 jump_within (suc n) (op ∷ code) v w fits = let i = jump_within n code v w fits in omega arith
 
--- a jump leaves the operations behind it
+-- a jump leaves the operations after it
 pub jumped : (n : ℕ) (code : List OrdOp) (v w : List ℕ) → n ≤ length code → compare_over n code v w ≡ RunOrder (drop n code) v w
 jumped zero code v w i = refl
 jumped (suc n) [] v w i = absurd (omega arith)

@@ -12,13 +12,13 @@ jump_within zero code row fits = omega arith
 jump_within (suc n) [] row fits = absurd (fits refl)
 jump_within (suc n) (op ∷ code) row fits = let i = jump_within n code row fits in omega arith
 
--- a jump leaves the operations behind it
+-- a jump leaves the operations after it
 pub jumped : (n : ℕ) (code : List Op) (row : List ℕ) → n ≤ length code → run_over n code row ≡ RunCode (drop n code) row
 jumped zero code row i = refl
 jumped (suc n) [] row i = absurd (omega arith)
 jumped (suc n) (op ∷ code) row i = jumped n code row (omega arith)
 
--- what is stuck is stuck behind words
+-- what is stuck is stuck after words
 pub not_stuck : (w : List ℕ) (o : Outcome) → behind w o ≢ stuck → o ≢ stuck
 not_stuck w (made row) fits = λ e. absurd (cc)
 not_stuck w prohibited fits = λ e. absurd (cc)

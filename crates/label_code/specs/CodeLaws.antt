@@ -6,7 +6,7 @@ use Rattle.label_code.specs.declared.operations.OrdOp.{OrdOp}
 use Rattle.label_code.specs.Machine.{Outcome, made, prohibited, stuck, behind, run_over}
 use Rattle.label_code.specs.Orders.{compare_over}
 
--- words behind words
+-- words after words
 pub behind_both : (v w : List ℕ) (o : Outcome) → behind v (behind w o) ≡ behind (v ++ w) o
 behind_both v w (made row) = ap made (sym (append_assoc v w row))
 behind_both v w prohibited = refl

@@ -35,7 +35,7 @@ looks None row = lacks
 looks (Some None) row = denies
 looks (Some (Some w)) row = writes w row
 
--- what a side does: the words that are written, and the jump behind the second side
+-- what a side does: the words that are written, and the jump after the second side
 abbrev pub turns : ℕ → List ℕ → List ℕ → ℕ → Effect
 turns zero written row jump = goes_on written row 0
 turns (suc zero) written row jump = goes_on written row jump

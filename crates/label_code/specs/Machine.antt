@@ -34,7 +34,7 @@ run_over (suc n) (op ∷ code) row = run_over n code row
 abbrev pub RunCode : List Op → List ℕ → Outcome
 RunCode code row = run_over 0 code row
 
--- the code fits the row: it never lacks a word or an entry, each side is one of two, each bit one of a set's word, each
--- sum a word, and no jump passes the end
+-- the code fits the row: no word and no entry is ever missing, each side is one of two, each bit one of a set's word,
+-- each sum a word, and no jump passes the end
 abbrev pub Fits : List Op → List ℕ → Type 0
 Fits code row = RunCode code row ≢ stuck

@@ -61,6 +61,6 @@ compare_over (suc n) (op ∷ code) v w = compare_over n code v w
 abbrev pub RunOrder : List OrdOp → List ℕ → List ℕ → Option Ordering
 RunOrder code v w = compare_over 0 code v w
 
--- the code fits the rows: it never lacks a word or a rank, each side is one of two, and no jump passes the end
+-- the code fits the rows: no word and no rank is ever missing, each side is one of two, and no jump passes the end
 abbrev pub FitsBoth : List OrdOp → List ℕ → List ℕ → Type 0
 FitsBoth code v w = RunOrder code v w ≢ None

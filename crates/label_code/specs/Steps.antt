@@ -36,19 +36,19 @@ writes_in_place (op.Skip n) = false
 abbrev pub effect_in_place : Op → List ℕ → Option Effect
 effect_in_place o row = if writes_in_place o then Some (effect o row) else None
 
--- the effect that is told, if one is
+-- the effect, if one is defined
 abbrev pub effect_of : InPlace → Option Effect
 effect_of (Writes word rest) = Some (writes word rest.now)
 effect_of Prohibits = Some denies
 effect_of Other = None
 
--- what an effect leaves behind words that stood there before: the words, the row, and the jump
+-- what an effect leaves after words that stood there before: the words, the row, and the jump
 abbrev pub left_by : List ℕ → Effect → Option (List ℕ × (List ℕ × ℕ))
 left_by old (goes_on written row jump) = Some (old ++ written, (row, jump))
 left_by old denies = None
 left_by old lacks = None
 
--- the step left what the effect leaves, or prohibited where that is nothing; nothing is said of one that lacked memory
+-- the step left what the effect leaves, or prohibited where that is nothing; nothing is said of one that got no memory
 abbrev pub Does : Result Next Halt → List ℕ → List ℕ → Effect → Type 0
 Does (Ok next) old new e = Some (new, (next.row.now, next.jump)) ≡ left_by old e
 Does (Err Prohibited) old new e = left_by old e ≡ None

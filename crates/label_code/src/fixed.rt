@@ -42,8 +42,8 @@ impl<const N: usize> HeldRow for FixedRow<N> {
 }
 
 impl<const N: usize> FixedRow<N> {
-    // Writes what the code makes of the row, as [`HeldRow::rewrite`] tells it. Most codes write a word in place of each,
-    // `N` in all; what does something else is left to the machine, with all behind it.
+    // Writes what the code makes of the row, as [`HeldRow::rewrite`] tells it. Most codes write a word in place of
+    // each, `N` in all; what does something else is left to the machine, with all after it.
     #[inline(never)]
     fn write_all(&mut self, alloc: Global, code: &[Op], row: &[Word]) -> Result<Run, NoMemory>
         requires fits { Fits code.now row.now }
@@ -75,7 +75,7 @@ impl<const N: usize> FixedRow<N> {
         self.write_left(alloc, N, code, row)
     }
 
-    // Writes what is left of the code and the row behind so many words, which stand.
+    // Writes what is left of the code and the row after so many words, which stand.
     #[inline(never)]
     fn write_left(
         &mut self,
@@ -100,7 +100,7 @@ impl<const N: usize> FixedRow<N> {
     }
 }
 
-// The words that the machine has written: the first `N` stand here, and those behind them in memory, though a row that
+// The words that the machine has written: the first `N` stand here, and those after them in memory, though a row that
 // is written to its end has none.
 #[derive(Drop)]
 struct Written<const N: usize> {

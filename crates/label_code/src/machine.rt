@@ -31,7 +31,7 @@ pub fn run(alloc: Global, code: &LabelCode, row: &Row, out: &mut Row) -> Result<
     Ok(run)
 }
 
-/// What the code makes of the row, which it fits: `Made` where the new row stands in `out`, behind what stood there
+/// What the code makes of the row, which it fits: `Made` where the new row stands in `out`, after what stood there
 /// before, and `Prohibited` where the label prohibits the value. Nothing is said of `out` where it isn't `Made`. It is
 /// refused for want of memory alone.
 pub fn execute<W: Output>(
@@ -164,7 +164,7 @@ fn write<'a, W: Output>(
     Ok(Next::behind(row))
 }
 
-// Writes the side and leaves the row, with this jump behind the second side.
+// Writes the side and leaves the row, with this jump after the second side.
 fn fork<'a, W: Output>(
     alloc: Global,
     side: Word,
@@ -179,7 +179,7 @@ fn fork<'a, W: Output>(
     Ok(Next::behind_side(side, row, jump))
 }
 
-// Writes the length and so many words from the front of the row, and leaves what is behind them.
+// Writes the length and so many words from the front of the row, and leaves what is after them.
 fn copy_sequence<'a, W: Output>(
     alloc: Global,
     count: Word,
@@ -196,7 +196,7 @@ fn copy_sequence<'a, W: Output>(
     Ok(Next::behind(rest))
 }
 
-// Writes the length and one, so many words from the front of the row, and the symbol, and leaves what is behind them.
+// Writes the length and one, so many words from the front of the row, and the symbol, and leaves what is after them.
 fn append<'a, W: Output>(
     alloc: Global,
     count: Word,
@@ -243,7 +243,7 @@ impl<'a> Next<'a> {
         Next { row, jump: 0 }
     }
 
-    // This row, with this jump behind the second side.
+    // This row, with this jump after the second side.
     fn behind_side(side: Word, row: &'a [Word], jump: usize) -> Next<'a>
         requires { side < 2 }
         ensures row { result.row.now ≡ row.now }

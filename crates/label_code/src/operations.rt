@@ -49,9 +49,9 @@ pub enum Op {
     Look(List<Option<Word>>),
     /// Prohibits.
     Deny,
-    /// Reads a side and writes it; behind the second side it jumps over so many operations.
+    /// Reads a side and writes it; after the second side it jumps over so many operations.
     Fork(usize),
-    /// Reads a side; behind the second side it jumps over so many operations.
+    /// Reads a side; after the second side it jumps over so many operations.
     Test(usize),
     /// Jumps over so many operations.
     Skip(usize),
@@ -70,7 +70,7 @@ pub enum OrdOp {
     Pass,
     /// Reads a word of each: the one whose rank is smaller is preferred, and equal ranks go on.
     Rank(List<Word>),
-    /// Reads a side of each: the first is preferred to the second, two firsts go on, and behind two seconds it jumps
+    /// Reads a side of each: the first is preferred to the second, two firsts go on, and after two seconds it jumps
     /// over so many operations.
     Sides(usize),
     /// Jumps over so many operations.

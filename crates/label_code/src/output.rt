@@ -4,7 +4,7 @@ use crate::Word;
 use meta_base::NoMemory;
 use std::alloc::Global;
 
-/// What takes the words that the machine writes, one behind the other. After a refusal for want of memory nothing is
+/// What takes the words that the machine writes, one after the other. After a refusal for want of memory nothing is
 /// said of the words that it has.
 pub trait Output {
     /// The words that it has taken.

@@ -11,7 +11,7 @@ pub(crate) fn item<T: Copy>(items: &[T], place: Word) -> T
     items[place as usize]
 }
 
-// So many words from the front of the row, and those behind them.
+// So many words from the front of the row, and those after them.
 pub(crate) fn sequence(count: Word, row: &[Word]) -> (&[Word], &[Word])
     requires { count ≤ length row.now }
     ensures front { result.0.now ≡ take count row.now }
@@ -20,7 +20,7 @@ pub(crate) fn sequence(count: Word, row: &[Word]) -> (&[Word], &[Word])
     row.split_at(count as usize)
 }
 
-// The items behind so many from the front.
+// The items after so many from the front.
 pub(crate) fn behind<T>(items: &[T], count: usize) -> &[T]
     requires { count ≤ length items.now }
     ensures { result.now ≡ drop count items.now }

@@ -81,7 +81,7 @@ fn refused_files(rt: HostRuntime) {
         (b"main plus(add(1..2), seq(3));", CarriersDiffer, 28),
         (b"main table { a < a; Z: none };", BadTable, 18),
         (b"main gate; gate", TrailingText, 12),
-        // Behind `raml 2;` this is a number, and else it is too large.
+        // After `raml 2;` this is a number, and else it is too large.
         (b"raml 2; main gate; 4294967296", TrailingText, 20),
         (b"raml 1; main gate; 4294967296", NumberTooLarge, 20),
         (b"raml 3; main gate;", UnknownProfile, 6),
@@ -115,7 +115,7 @@ main a8;
     );
 }
 
-// The word that passes the greatest number of nodes is refused before anything behind it is read.
+// The word that passes the greatest number of nodes is refused before anything after it is read.
 #[test]
 fn deep_trees(rt: HostRuntime) -> Result<(), Fail> {
     let mut text = vec![in rt.alloc()]?;

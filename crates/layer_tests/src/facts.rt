@@ -1,4 +1,4 @@
-// Tests of `net_facts`: which arc of a network is the first that lacks a property.
+// Tests of `net_facts`: which arc of a network is the first that doesn't have a property.
 use alg_classes::Property;
 use alg_model::Label;
 use meta_base::ArcId;
@@ -12,7 +12,7 @@ const ROUTED: &[Property] = &[Property::Monotone, Property::Isotone];
 
 const SETTLED: &[Property] = &[Property::Strict];
 
-// The worst of three names that were met, and behind it a count of hops.
+// The worst of three names that were met, and after it a count of hops.
 const NAMES_AND_HOPS: &str =
     "lex(table { c < r < p; C: c -> c; R: c -> r; P: c -> p, r -> p, p -> p }, add(1..1))";
 
@@ -20,7 +20,7 @@ const BAD_GADGET: &str = "table { o < a < d; D: o -> d; N: d -> a }";
 
 const HOPS: &str = "add(0..10)";
 
-// An expression, the lines of a network over it, and the properties that are asked for; then the arc that lacks
+// An expression, the lines of a network over it, and the properties that are asked for; then the arc that doesn't have
 // one first, and that property, or none.
 type Case = (
     &'static str,
@@ -77,7 +77,7 @@ const CASES: &[Case] = &[
         None,
     ),
     (HOPS, b"node a\n", SETTLED, None),
-    // N lacks all of these: the one that is listed first is told.
+    // N has none of these: the one that is listed first is reported.
     (
         BAD_GADGET,
         b"node a b\nlink a b : N\n",
@@ -93,7 +93,7 @@ const CASES: &[Case] = &[
     (BAD_GADGET, b"node a b\nlink a b : N\n", &[], None),
 ];
 
-// The arc and the property of the lack.
+// The arc, and the property that it doesn't have.
 fn told(lack: &Option<Lack>) -> Option<(u32, Property)> {
     lack.as_ref()
         .map(|lack| (lack.arc.0, lack.instance.property))

@@ -205,7 +205,7 @@ fn nodes(alloc: Global, count: usize) -> Result<Vec<u8>, Fail> {
     Ok(net)
 }
 
-// So many nodes, and behind them so many arcs, a line each.
+// So many nodes, and after them so many arcs, a line each.
 fn arcs(alloc: Global, nodes_of: usize, count: usize) -> Result<Vec<u8>, Fail> {
     let mut net = nodes(alloc, nodes_of)?;
     let mut left = count;
@@ -221,7 +221,7 @@ fn arcs(alloc: Global, nodes_of: usize, count: usize) -> Result<Vec<u8>, Fail> {
     Ok(net)
 }
 
-// One node, so many destinations, and behind them so many changes, a line each.
+// One node, so many destinations, and after them so many changes, a line each.
 fn dests(alloc: Global, count: usize) -> Result<Vec<u8>, Fail> {
     let mut net = nodes(alloc, 1)?;
     for dest in 0..count {
@@ -239,7 +239,7 @@ fn changes(alloc: Global, count: usize) -> Result<Vec<u8>, Fail> {
     Ok(net)
 }
 
-// The first fault of the network file with these lines behind it.
+// The first fault of the network file with these lines after it.
 fn fault_with(
     alloc: Global,
     file: &[u8],
@@ -270,7 +270,7 @@ fn nodes_have_a_limit(rt: HostRuntime) -> Result<(), Fail> {
         let full = nodes(alloc, most)?;
         let fault = fault_with(alloc, file, full, b"node x y\n")?;
         assert_eq!(rt; fault, too_many(line, What::Nodes));
-        // A name that stands twice is told first, also where there is no room for it.
+        // A name that stands twice is reported first, also where there is no room for it.
         let full = nodes(alloc, most)?;
         let fault = fault_with(alloc, file, full, b"node x y x\n")?;
         assert_eq!(rt;
@@ -343,7 +343,7 @@ fn destinations_are_numbered(rt: HostRuntime) -> Result<(), Fail> {
     Ok(())
 }
 
-// The network behind the changes, one after another.
+// The network after the changes, one after another.
 fn behind(alloc: Global, net: Net, changes: &[Change]) -> Result<Net, NoMemory>
     requires { AreChanges net (map pure_change changes.now) }
 {
@@ -382,7 +382,7 @@ fn are_arcs(net: &Net, lines: &[Line]) -> bool {
     net.arc_count() == lines.len()
 }
 
-// Whether the arcs of the file's network are these, behind all its changes.
+// Whether the arcs of the file's network are these, after all its changes.
 fn are_arcs_behind(alloc: Global, text: &[u8], lines: &[Line]) -> Result<bool, Fail> {
     let alg = algebra(alloc, "add(1..9)")?;
     if text.len() > MAX_FILE_BYTES {

@@ -84,7 +84,7 @@ fn reads_fail(rt: HostRuntime) -> Result<(), Fail> {
     Ok(())
 }
 
-// Call 0 begins the file, and the longest one is read and found to end by the 1,025 calls behind it, as
+// Call 0 begins the file, and the longest one is read and found to end by the 1,025 calls after it, as
 // long as each takes 4,096 bytes at least.
 #[test]
 fn reads_are_large(rt: HostRuntime) -> Result<(), Fail> {

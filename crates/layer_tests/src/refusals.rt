@@ -14,7 +14,7 @@ fn panic_at_refusal<T: Drop>(rt: &impl Abort, answer: Result<T, Fail>) {
     }
 }
 
-// The text behind so many empty lines that it ends past the limit of a file.
+// The text after so many empty lines that it ends past the limit of a file.
 fn too_long(alloc: Global, text: &[u8]) -> Result<Vec<u8>, NoMemory> {
     let mut file = vec![in alloc; b'\n'; MAX_FILE_BYTES]?;
     file.extend_from_slice(text)?;

@@ -22,7 +22,8 @@ pub fn lex_profile(l: &Profile, m: &Profile) -> Profile
     pair_profile(l, m)
 }
 
-/// The class of a lexical label from those of its two labels. It is refused for want of memory alone.
+/// For whoever wants classes with their examples; the program needs none. The class of a lexical label from those of
+/// its two labels. It is refused for want of memory alone.
 pub fn lex_class(alloc: Global, x: &Class, y: &Class) -> Result<Class, NoMemory>
     ensures profile { IfOk result (λ z. z.profile ≡ rule.pair_profile x.now.profile y.now.profile) }
     ensures label { IfOk result (λ z.

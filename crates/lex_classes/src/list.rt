@@ -13,8 +13,9 @@ use alg_classes::{Class, ClassList};
 use meta_base::NoMemory;
 use std::alloc::Global;
 
-/// The classes of a lexical product from those of its two algebras: one for each profile that a pair of
-/// their labels has. It is refused for want of memory alone.
+/// For whoever wants all classes of an algebra; the program takes labels by their profiles. The classes of a lexical
+/// product from those of its two algebras: one for each profile that a pair of their labels has. It is refused for want
+/// of memory alone.
 pub fn lex_class_list(alloc: Global, a: &ClassList, b: &ClassList) -> Result<ClassList, NoMemory>
     ensures { (c d : Expression) (e : Edition) → IsFormed (lex c d) →
         Covers (alg_in c e) a.now → Covers (alg_in d e) b.now → IfOk result (Covers (alg_in (lex c d) e)) }

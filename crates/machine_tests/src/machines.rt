@@ -64,7 +64,7 @@ fn steps_of(alloc: Global, text: &str) -> Result<Vec<Step>, Fail> {
     Ok(steps)
 }
 
-// Makes the delivery, behind so many others. Whether it is as the step says.
+// Makes the delivery, after so many others. Whether it is as the step says.
 fn makes_step<N: NodeCore>(config: &mut Config<'_, N>, step: &Step, made: u64) -> Result<bool, Fail>
     requires running { IsRunning N.kind (net_of config.old) (machine_of N.state N.note config.old) }
     requires begun { AreUpTo N.kind (machine_of N.state N.note config.old) made }
@@ -95,7 +95,7 @@ fn makes_steps<N: NodeCore>(config: &mut Config<'_, N>, steps: &[Step]) -> Resul
     Ok(true)
 }
 
-// Whether the new nodes send so many messages when they begin, the deliveries are as told, and the rows are these in
+// Whether the new nodes send so many messages when they begin, the deliveries are as stated, and the rows are these in
 // the end.
 fn delivers<A: Algebra>(
     alloc: Global,

@@ -49,7 +49,7 @@ fn told_of(alloc: Global, route: Option<Route>) -> Result<Option<Shared<SharedRo
     Ok(Some(Shared::new(alloc, SharedRoute { value, path })?))
 }
 
-// The route that was told.
+// The route that was reported.
 fn heard_of(alloc: Global, told: &Option<Shared<SharedRoute>>) -> Result<Option<Route>, Fail> {
     let Some(told) = told else {
         return Ok(None);
@@ -63,7 +63,7 @@ fn heard_of(alloc: Global, told: &Option<Shared<SharedRoute>>) -> Result<Option<
 }
 
 // An update that was sent at the start, and the arc that it comes on: the text has the number of that, the destination,
-// and the row that is told.
+// and the row that is reported.
 fn update_of(alloc: Global, net: &Net, text: &str) -> Result<(ArcId, Update), Fail> {
     let (arc, rest) = text.split_once(' ').ok_or("no destination")?;
     let (dest, row) = rest.split_once(' ').ok_or("no row")?;
@@ -263,7 +263,7 @@ a | 0 x 0 b | 1 a b | 1
 a | 0 x 1 b | 2 a | -
 a | 0 x 0 b, 0 x 2 b | 2 a | 1",
     ),
-    // A label may prohibit what is told.
+    // A label may prohibit what is reported.
     ("gate", DENIED, "a | 0 x unit b | none | -"),
     (
         "cap(3; 1..1)",
@@ -297,7 +297,7 @@ a | 0 x 1 b d, 0 x 4294967297 b | 2 a b d | -
 a | 0 x 1 b d, 0 x 8589934592 b d | 8589934593 a b d | 4
 a | 0 x 1 b d, 0 x 8589934593 b d | 2 a b d | -",
     ),
-    // What was heard before is still known behind such an update.
+    // What was heard before is still known after such an update.
     (
         HOPS,
         HUB,
@@ -319,7 +319,7 @@ fn nodes_answer(rt: HostRuntime) -> Result<(), Fail> {
     Ok(())
 }
 
-// Another row, an arc too few, one too many, arcs in another order, and a row that is told or not.
+// Another row, an arc too few, one too many, arcs in another order, and a row that is reported or not.
 const OTHER_CASES: &str = "d | - | 1 d | 2 3
 d | - | 0 d | 2
 d | - | 0 d | 2 3 4

@@ -81,7 +81,7 @@ const ROW_TEXTS: &[((usize, usize), &str, bool)] = &[
         "none / 1 b c / 0 c / none / none / 5 c / none",
         false,
     ),
-    // Rows in another order, in the text or in what is told.
+    // Rows in another order, in the text or in what is reported.
     ((0, 0), "1 b c / none / 0 c / none / none / 5 c", false),
     ((1, 2), "none / 1 b c / 0 c / none / none / 5 c", false),
     ((1, 2), "none / 0 c / 1 b c / none / none / 5 c", false),

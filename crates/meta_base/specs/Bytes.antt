@@ -31,12 +31,12 @@ abbrev pub front : (ℕ → Bool) → List ℕ → List ℕ
 front p [] = []
 front p (c ∷ cs) = if p c then c ∷ front p cs else []
 
--- what comes behind that front
+-- what comes after that front
 abbrev pub behind : (ℕ → Bool) → List ℕ → List ℕ
 behind p [] = []
 behind p (c ∷ cs) = if p c then behind p cs else c ∷ cs
 
--- the number that these digits spell in base ten, behind digits that spell n
+-- the number that these digits spell in base ten, after digits that spell n
 abbrev pub number_from : ℕ → List ℕ → ℕ
 number_from n [] = n
 number_from n (c ∷ cs) = number_from (10 * n + (c - 48)) cs

@@ -23,7 +23,7 @@ calls_of s = s.calls.made
 abbrev pub fails_now : MemShelf → Bool
 fails_now s = list_any (λ n. n == s.calls.made) s.calls.failing
 
--- the count of faults behind the next call
+-- the count of faults after the next call
 abbrev pub faults_next : MemShelf → ℕ
 faults_next s = if fails_now s then raised s.calls.faults 1 else s.calls.faults
 

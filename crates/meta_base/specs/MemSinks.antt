@@ -29,7 +29,7 @@ taken_by s = take s.len s.buffer.items
 abbrev pub refuses_now : MemSink → Bool
 refuses_now s = vec_len s.buffer - s.len == 0 || list_any (λ n. n == s.calls.made) s.calls.failing
 
--- how many faults, and how many writes, there are behind the next write of so many bytes; an empty piece is no
+-- how many faults, and how many writes, there are after the next write of so many bytes; an empty piece is no
 -- write
 abbrev pub faults_next : ℕ → MemSink → ℕ
 faults_next n s = if n == 0 then s.calls.faults else (if refuses_now s then raised s.calls.faults 1 else s.calls.faults)

@@ -23,7 +23,7 @@ pub record Moment : Type 0 where
 abbrev pub IsAbsent : Moment → List ℕ → Type 0
 IsAbsent m name = IsTrue m.tells × (m.file name ≡ None)
 
--- no call changes the files or whether they are told, and the counts never fall
+-- no call changes the files or whether they are shown, and the counts never fall
 pub record Keeps (old new : Moment) : Type 0 where
   pub tells : new.tells ≡ old.tells
   pub file : (name : List ℕ) → new.file name ≡ old.file name

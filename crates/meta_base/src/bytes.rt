@@ -17,7 +17,7 @@ pub fn is_blank(byte: u8) -> bool
     matches!(byte, b' ' | b'\t')
 }
 
-/// What comes behind the blanks at the front.
+/// What comes after the blanks at the front.
 pub fn behind_blanks(text: &[u8]) -> &[u8]
     ensures { result.now ≡ behind is_blank text.now }
 {

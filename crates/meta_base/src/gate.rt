@@ -1,6 +1,6 @@
 use crate::Delivery;
 
-/// Who is told of each delivery as it happens. It answers nothing and so changes no answer; a test
+/// What gets a report of each delivery as it happens. It answers nothing and so changes no answer; a test
 /// uses it to watch the workers.
 pub trait Gate: Sync {
     /// Worker `worker`, numbered from 0, has made this delivery: its node's log has it already, and

@@ -1,5 +1,5 @@
 //! What every crate stands on: lists and texts that contracts see as lists, the ids of a network's
-//! parts, and the outside, which is read through a [`Shelf`], written through a [`Sink`] and told of
+//! parts, and the outside, which is read through a [`Shelf`], written through a [`Sink`] and reported
 //! deliveries through a [`Gate`]. It knows no algebra and no format. Beside std it stands
 //! on `thiserror` for its errors and on `itoa` for its numbers.
 #![tactic(auto)]

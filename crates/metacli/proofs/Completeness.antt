@@ -42,7 +42,7 @@ told m new name bytes P h t =
     let e : h.0 ≡ bytes = cc (h.2.told t.tells) in
     subst P e h.1
 
--- a file that is told is taken, unless memory is refused
+-- a file whose bytes are shown is taken, unless memory is refused
 untaken : (which : Which) (name bytes : List ℕ) (old new : Moment) (r : PureRefusal) → IsUntaken which name old new r → IsTold old name bytes
     → ¬ HasRisen old.faults new.faults → r ≡ memory
 untaken which name bytes old new (read w) h t quiet = absurd (⊎_elim quiet (λ absent. let n = absent.1 in let f = t.file in cc) h.2)
@@ -61,7 +61,7 @@ untaken which name bytes old new (lacks arc x) h t quiet = absurd h
 risen_later : (a b c : ℕ) → a ≤ b → HasRisen b c → HasRisen a c
 risen_later a b c h r = ⊎_elim (λ e. inl (omega (arith, e))) inr r
 
--- what is told stays told
+-- what is shown stays shown
 told_later : (old between : Moment) (name bytes : List ℕ) → Keeps old between → IsTold old name bytes → IsTold between name bytes
 told_later old between name bytes k t = record { tells = rw k.tells t.tells; file = k.file name ∙ t.file; short = t.short }
 
@@ -192,7 +192,7 @@ coded_done a file labels (wedged b v) h = absurd h
 coded_done a file labels (ran b f t past last quiet) h = absurd h
 coded_done a file labels (shown b f last) h = absurd h
 
--- a network whose labels are fit has no arc that lacks what is asked
+-- a network whose labels are fit has no arc that doesn't have what is asked
 routed_done : (solution : Solution) (a : PureAlg) (file : PureNetFile) (o : PureOutcome) → IsRoutedAs solution a file o → IsFit solution (changed_net file) → IsUnlessMemory o done
 routed_done solution a file (routed s b f rows) h fit = inl refl
 routed_done solution a file (stopped b f (lacks arc x)) h fit = absurd (first_refutes (asked_of solution) (changed_net file) arc x.property h.2.first fit)

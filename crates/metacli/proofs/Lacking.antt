@@ -1,4 +1,4 @@
--- The first arc of a network whose label lacks what is asked can be told of.
+-- The first arc of a network whose label doesn't have what is asked can be reported.
 use Rattle.std.proofs.Common.{ℕ, List, Some}
 use Rattle.alg_model.specs.Properties.{PureProperty}
 use Rattle.alg_model.specs.Verdicts.{PureInstance}

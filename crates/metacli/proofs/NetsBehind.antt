@@ -1,4 +1,4 @@
--- The networks behind changes, one after another.
+-- The networks after changes, one after another.
 use Rattle.std.proofs.Common.{◌≡◌, ◌≤◌, ◌-◌, List, [], ◌∷◌, length, map, take, drop, get_or, refl, ap, ◌∙◌, arith}
 use Rattle.std.proofs.lemmas.List.{take_all}
 use Rattle.std.specs.List.{AllByRecursion}
@@ -22,7 +22,7 @@ pub nets_are_later : (net : PureNet) (changes : List PureChange) → AreLater ne
 nets_are_later net [] = tt
 nets_are_later net (c ∷ changes) = (refl, nets_are_later (changed net c) changes)
 
--- the first of them, and those behind the others
+-- the first of them, and those after the others
 pub nets_first : (net next : PureNet) (change : Change) (changes : List Change) → 1 ≤ length changes → change ≡ get_or changes 0 change → next ≡ changed net (pure_change change)
     → next ∷ nets_after next (map pure_change (take (length changes - 1) (drop 1 changes))) ≡ nets_after net (map pure_change changes)
 nets_first net next change [] some first is = absurd (omega arith)

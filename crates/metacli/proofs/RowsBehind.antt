@@ -19,7 +19,7 @@ rows_behind net c [] h = tt
 rows_behind net c (row ∷ rows) h =
     (record { node_in = h.0.node_in; dest_in = h.0.dest_in; route_in = route_behind net c row.route h.0.route_in }, rows_behind net c rows h.1)
 
--- and so behind all changes
+-- and so after all changes
 pub rows_behind_all : (net : PureNet) (changes : List PureChange) (rows : List PureRow) → AllByRecursion (IsRowOf (after_all net changes)) rows → AllByRecursion (IsRowOf net) rows
 rows_behind_all net [] rows h = h
 rows_behind_all net (c ∷ changes) rows h = rows_behind net c rows (rows_behind_all (changed net c) changes rows h)

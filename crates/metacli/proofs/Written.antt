@@ -88,7 +88,7 @@ cut_within old now new text line rest cut.Memory h p =
     let split : line ++ rest ≡ p.1.front ++ (p.0 ++ rest) = ap (λ l. l ++ rest) p.1.split ∙ append_assoc p.1.front p.0 rest in
     (p.0 ++ rest, lines_more old now new text p.1.front (p.0 ++ rest) (subst (λ l. HasLines old text l now) split h) p.1.appended)
 
--- and one that is put whole behind others ends the text
+-- and one that is put whole after others ends the text
 pub put_last : (old now new : Held) (text line : List ℕ) (r : Result (Unit {0}) Cut) → HasLines old text line now → PutsText now line r new → PutsText old text r new
 put_last old now new text line (Ok x) h p = lines_end old new text (lines_more old now new text line [] (subst (λ l. HasLines old text l now) (sym (append-nil line)) h) p)
 put_last old now new text line (Err c) h p = cut_within old now new text line [] c (subst (λ l. HasLines old text l now) (sym (append-nil line)) h) p

@@ -225,8 +225,8 @@ AreRoutesOn Unbeaten net rows =
 AreRoutesOn Settled net rows = AreRowsOfTables net (BestFirst net) rows × AreSettledRows net rows
 AreRoutesOn AllStable net rows = AreRowsOfTables net (BestFirst net) rows × AreSettledRows net rows
 
--- What route, settle and stable come to where all was read, on the network behind its changes: the routes, where its labels
--- are fit for them; else the first arc whose label isn't; unless memory is refused.
+-- What route, settle and stable come to where all was read, on the network after its changes: the routes, where its
+-- labels are fit for them; else the first arc whose label isn't; unless memory is refused.
 abbrev pub IsRoutedAs : Solution → PureAlg → PureNetFile → PureOutcome → Type 0
 IsRoutedAs solution a file (routed s b f rows) = (s ≡ solution) × (b ≡ a) × (f ≡ file) × IsFit solution (changed_net file) × AreRoutesOn solution (changed_net file) rows
 IsRoutedAs solution a file (stopped b f (lacks arc x)) = (b ≡ Some a) × (f ≡ Some file) × IsFirstLack (asked_of solution) (changed_net file) arc x

@@ -48,7 +48,7 @@ abbrev pub unmet_text : Option PureProperty → List ℕ
 unmet_text None = []
 unmet_text (Some p) = required_text p
 
--- the network of a file behind its changes, if there is one: the arc of a refusal is one of its arcs
+-- the network of a file after its changes, if there is one: the arc of a refusal is one of its arcs
 abbrev pub last_net : Option PureNetFile → Option PureNet
 last_net = option_map changed_net
 
@@ -94,7 +94,7 @@ IsPrintable (wedged a v) = HasGadget a v
 IsPrintable (ran a f traced past last quiet) = AreOfNetworks f.net (nets_after f.net f.changes) past last
 IsPrintable (shown a f last) = AreSummed last.rows
 
--- a front of the text was appended, and this is what comes behind it
+-- a front of the text was appended, and this is what comes after it
 pub record HasLines (old : Held) (text rest : List ℕ) (new : Held) : Type 0 where
   pub front : List ℕ
   pub split : text ≡ front ++ rest

@@ -37,13 +37,13 @@ pub record IsMadeIn (made : Made) (o : PureOutcome) : Type 0 where
   pub journal : made.journal ≡ journal_in o
   pub past : map pure_phase made.past ≡ past_in o
 
--- the network whose labels were compiled, if there is one, is that of the file behind its changes
+-- the network whose labels were compiled, if there is one, is that of the file after its changes
 abbrev pub IsListedOn : Option NetFile → Option PureNet → Type 0
 IsListedOn None behind = Unit {0}
 IsListedOn (Some f) behind = last_of behind f.net ≡ changed_net (pure_file f)
 
--- the network of an arc that lacks a property is that of the file behind its changes; those of the phases behind the
--- first are those behind the first change, the first two, and so on
+-- the network of an arc that doesn't have a property is that of the file after its changes; those of the phases after
+-- the first are those after the first change, the first two, and so on
 abbrev pub IsBehind : Outcome → Type 0
 IsBehind (outcome.Lacking it) = last_of it.behind it.file.net ≡ changed_net (pure_file it.file)
 IsBehind (outcome.Coded it) = IsListedOn it.file it.behind

@@ -1,4 +1,4 @@
-// The networks behind changes.
+// The networks after changes.
 ghost use Rattle.std.specs.Prelude.{◌≡◌, ◌∷◌, IfOk, map};
 ghost use Rattle.net_graph.specs.Changes.{AreChanges, after_all};
 ghost use Rattle.net_graph.specs.Views.{pure_change};
@@ -8,7 +8,7 @@ use meta_base::NoMemory;
 use net_graph::{Change, Net};
 use std::alloc::Global;
 
-/// The network behind these changes, or `None` where there are none.
+/// The network after these changes, or `None` where there are none.
 pub fn net_behind(alloc: Global, net: &Net, changes: &[Change]) -> Result<Option<Net>, NoMemory>
     requires { AreChanges net.now (map pure_change changes.now) }
     ensures { IfOk result (λ behind. last_of behind net.now ≡ after_all net.now (map pure_change changes.now)) }
@@ -19,7 +19,7 @@ pub fn net_behind(alloc: Global, net: &Net, changes: &[Change]) -> Result<Option
     }
 }
 
-// The network behind these changes, one of which is made at a time, so that no more than two networks are there.
+// The network after these changes, one of which is made at a time, so that no more than two networks are there.
 fn carried(alloc: Global, net: Net, changes: &[Change]) -> Result<Net, NoMemory>
     requires { AreChanges net (map pure_change changes.now) }
     ensures { IfOk result (λ last. last ≡ after_all net (map pure_change changes.now)) }
@@ -34,7 +34,7 @@ fn carried(alloc: Global, net: Net, changes: &[Change]) -> Result<Net, NoMemory>
     }
 }
 
-/// The networks behind the first of these changes, the first two, and so on.
+/// The networks after the first of these changes, the first two, and so on.
 pub fn nets_behind(alloc: Global, net: &Net, changes: &[Change]) -> Result<Vec<Net>, NoMemory>
     requires { AreChanges net.now (map pure_change changes.now) }
     ensures { IfOk result (λ nets. nets.items ≡ nets_after net.now (map pure_change changes.now)) }

@@ -121,7 +121,7 @@ fn is_failed(verdict: &Verdict) -> bool
     matches!(verdict, Verdict::No(_))
 }
 
-// The verdicts on the labels of the network behind all its changes.
+// The verdicts on the labels of the network after all its changes.
 fn verdicts_behind(alloc: Global, file: &NetFile) -> Result<Verdicts, NoMemory>
     requires { AreChanges file.now.net (map pure_change file.now.changes) }
     ensures { IfOk result (λ verdicts. AreVerdictsOn file.now.net.alg

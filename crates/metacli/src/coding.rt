@@ -38,7 +38,7 @@ pub fn code(alloc: Global, alg: Alg) -> Outcome
     }
 }
 
-/// What `code` comes to on a network over the algebra, behind all its changes.
+/// What `code` comes to on a network over the algebra, after all its changes.
 pub fn code_network(alloc: Global, alg: Alg, file: NetFile) -> Outcome
     requires over { file.net.alg ≡ alg }
     requires changes { AreChanges file.net (map pure_change file.changes) }
@@ -61,7 +61,7 @@ pub fn code_network(alloc: Global, alg: Alg, file: NetFile) -> Outcome
     }
 }
 
-// The network behind all changes of the file, where there are any, and the code of its labels and its algebra's order.
+// The network after all changes of the file, where there are any, and the code of its labels and its algebra's order.
 fn listing_behind(alloc: Global, file: &NetFile) -> Result<(Option<Net>, Listing), NoMemory>
     requires { AreChanges file.now.net (map pure_change file.now.changes) }
     ensures behind { IfOk result (λ made. last_of made.0 file.now.net ≡ changed_net (pure_file file.now)) }

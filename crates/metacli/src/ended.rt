@@ -27,7 +27,7 @@ pub enum Answer {
     BadExpr(ExprFault),
     /// The bytes of the network file mean no network over the algebra.
     BadNet(NetFault),
-    /// The label of this arc, which is one of the network behind its changes, lacks a property that the command
+    /// The label of this arc, which is one of the network after its changes, doesn't have a property that the command
     /// needs of all labels; it is the first such arc, and the instance shows it.
     Lacks { arc: ArcId, instance: Instance },
     /// The file could not be begun or read to its end.
@@ -49,12 +49,12 @@ pub struct Ended {
     pub alg: Option<Alg>,
     /// The network of the network file, before its changes, where that was read and means one.
     pub net: Option<Net>,
-    /// The changes of the network file, each one that the network behind those before it may have.
+    /// The changes of the network file, each one that the network after those before it may have.
     pub changes: List<Change>,
     /// The verdicts, where `check` was carried out.
     pub verdicts: Option<Verdicts>,
     /// The code of the algebra's order and, where there is a network, of the label on each arc in file order of the
-    /// network behind all changes, where `code` was carried out.
+    /// network after all changes, where `code` was carried out.
     pub listing: Option<Listing>,
     /// The verdict on monotone, where `gadget` was carried out: no number of its instance is above those of a network
     /// file.
@@ -72,8 +72,8 @@ pub struct Ended {
     pub answer: Answer,
 }
 
-/// The status that the program ends with: 0 done, 1 bad words, 2 a bad expression or network, 3 a property that a
-/// label lacks or that was required and fails, 4 turns that were used up, 5 a read fault, 6 a write fault, 7 out of
+/// The status that the program ends with: 0 done, 1 bad words, 2 a bad expression or network, 3 a property that a label
+/// doesn't have or that was required and fails, 4 turns that were used up, 5 a read fault, 6 a write fault, 7 out of
 /// memory, 8 a file that is too long.
 pub fn status(answer: &Answer) -> u8
     ensures { result ≡ status_of answer.now }

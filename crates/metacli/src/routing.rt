@@ -82,7 +82,7 @@ pub fn route<R: AllocGlobal + Threads + Sync>(
     }
 }
 
-// The outcome of what was found on the network behind the file's changes.
+// The outcome of what was found on the network after the file's changes.
 fn outcome_of(
     alg: Alg,
     file: NetFile,
@@ -115,7 +115,7 @@ fn outcome_of(
     }
 }
 
-// The network behind all changes, where there are any, and what is found on it.
+// The network after all changes, where there are any, and what is found on it.
 fn found_behind<R: AllocGlobal + Threads + Sync>(
     rt: &R,
     file: &NetFile,
@@ -221,7 +221,7 @@ fn joined(alloc: Global, tables: List<DestTable>, room: usize) -> Result<List<Ro
     Ok(List::from_vec(rows))
 }
 
-// Moves the rows of a table behind these.
+// Moves the rows of a table after these.
 fn append_rows(rows: &mut Vec<RouteRow>, table: DestTable) -> Result<(), NoMemory>
     ensures { OnOk result (rows.new.items ≡ rows.old.items ++ table.rows) }
 {

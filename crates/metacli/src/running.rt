@@ -63,7 +63,7 @@ pub fn run<R: AllocGlobal + Threads + Wait + Sync, G: Gate>(
     }
 }
 
-/// The networks behind the file's changes, and a run through them by so many workers.
+/// The networks after the file's changes, and a run through them by so many workers.
 pub(crate) fn run_through<R: AllocGlobal + Threads + Wait + Sync, G: Gate>(
     rt: &R,
     file: &NetFile,

@@ -104,7 +104,7 @@ fn put_shown<K: Sink>(alloc: Global, out: &mut K, shown: &Shown) -> Result<(), C
     put_summary(alloc, out, &shown.file.net, shown.last.rows.as_slice())
 }
 
-// The network whose labels were compiled: that of the file, or the one behind its changes.
+// The network whose labels were compiled: that of the file, or the one after its changes.
 fn listed_net<'a>(file: &'a Option<NetFile>, behind: &'a Option<Net>) -> Option<&'a Net>
     requires { IsListedOn file.now behind.now }
     ensures { option_map (λ net. net.now) result ≡ last_net (option_map pure_file file.now) }
@@ -136,7 +136,7 @@ fn stop_line(alloc: Global, stop: Stop) -> Result<Text, NoMemory>
     refusal_line(alloc, stop.refusal())
 }
 
-// Writes the line of an arc whose label lacks a property. Memory for the answer is taken before.
+// Writes the line of an arc whose label doesn't have a property. Memory for the answer is taken before.
 fn write_lack<K: Sink>(alloc: Global, out: &mut K, net: &Net, lack: &Lack) -> Answer
     requires { CanLack lack.now.arc.0 (pure_instance lack.now.instance) (Some net.now) }
     ensures { Written (K.holds out.old) (lacks_text lack.now.arc.0 (pure_instance lack.now.instance) (Some net.now))

@@ -1,4 +1,4 @@
--- The earliest of some properties that a label lacks, and the arcs before it that have all of them.
+-- The earliest of some properties that a label doesn't have, and the arcs before it that have all of them.
 use Rattle.std.proofs.Common.{◌≡◌, ℕ, zero, suc, ◌+◌, ◌≤◌, List, [], ◌∷◌, Option, Some, None, Bool, true, false, not, cond, map, length, slice_get, refl, ap, sym, ◌∙◌, subst, arith, ◌-◌, below_more}
 use Rattle.std.proofs.lemmas.Option.{same_Some}
 use Rattle.std.specs.List.{AllByRecursion, find}

@@ -1,5 +1,5 @@
--- The first lack of a network is one alone and refutes that the network has all of the properties, and its
--- instance is small. Lemmas, so that proofs of other crates may cite them.
+-- The first arc of a network whose label doesn't have a property is one alone and refutes that the network has all of
+-- the properties, and its instance is small. Lemmas, so that proofs of other crates may cite them.
 use Rattle.std.proofs.Common.{◌≡◌, ◌≤◌, ℕ, zero, suc, ◌<◌, List, [], ◌∷◌, Option, Some, None, ⊎_elim, slice_get, length, ap, subst, sym, lit≤}
 use Rattle.std.proofs.lemmas.Bool.{cases_order}
 use Rattle.std.proofs.lemmas.Option.{same_Some, slice_get_within}
@@ -21,7 +21,7 @@ all_got P [] n x all e = absurd (cc)
 all_got P (y ∷ xs) zero x all e = subst P (same_Some y x e) all.0
 all_got P (y ∷ xs) (suc n) x all e = all_got P xs n x all.1 e
 
--- one item alone is not as P says behind items that are
+-- one item alone is not as P says after items that are
 stands_once : {X : Type 0} (P : X → Type 0) (xs : List X) (m n : ℕ) (x y : X)
     → StandsBehind P xs m x → ¬ P x → StandsBehind P xs n y → ¬ P y → (m ≡ n) × (x ≡ y)
 stands_once {X} P xs m n x y s f t g = ⊎_elim

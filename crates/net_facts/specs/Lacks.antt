@@ -1,4 +1,4 @@
--- Networks that have some properties, and the first arc of one that lacks one of them.
+-- Networks that have some properties, and the first arc of one that doesn't have one of them.
 use Rattle.std.specs.Prelude.{◌≡◌, ℕ, ◌<◌, List, Some, slice_get}
 use Rattle.std.specs.List.{AllByRecursion}
 use Rattle.alg_model.specs.Numbers.{max_instance_number}
@@ -31,14 +31,14 @@ pub record StandsBehind {X : Type 0} (P : X → Type 0) (xs : List X) (n : ℕ) 
   pub at : slice_get xs n ≡ Some x
   pub before : AllBefore P xs n
 
--- p is the earliest of the properties that the label lacks: it has those that are listed before p
+-- p is the earliest of the properties that the label doesn't have: it has those that are listed before p
 pub record LacksEarliest (properties : List PureProperty) (a : Expression) (l : PureLabel) (p : PureProperty) : Type 0 where
   pub place : ℕ
   pub stands : StandsBehind (λ q. Has q a l) properties place p
   pub lacks : ¬ Has p a l
 
--- Arc k is the first one whose label lacks one of the properties, and p is the earliest that it lacks: the labels
--- of the arcs before it have all of them.
+-- Arc k is the first one whose label doesn't have one of the properties, and p is the earliest that it doesn't have:
+-- the labels of the arcs before it have all of them.
 pub record LacksFirst (properties : List PureProperty) (net : PureNet) (k : ℕ) (p : PureProperty) : Type 0 where
   pub arc : PureArc
   pub stands : StandsBehind (ArcHasAll properties net) net.arcs k arc

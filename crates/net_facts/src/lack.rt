@@ -1,4 +1,4 @@
-// The first arc whose label lacks one of some properties.
+// The first arc whose label doesn't have one of some properties.
 ghost use Rattle.std.specs.Prelude.{◌≡◌, not, map, find, IfOk, IfSome, IfNone, MatchOption};
 ghost use Rattle.alg_classes.specs.Facts.{fact_of};
 ghost use Rattle.alg_classes.specs.Instances.{pure_instance, pure_property};
@@ -14,15 +14,15 @@ use net_graph::Net;
 use property_infer::{instance_against, label_profile};
 use std::alloc::Global;
 
-/// An arc of a network whose label lacks a property, and an instance that shows it.
+/// An arc of a network whose label doesn't have a property, and an instance that shows it.
 #[derive(Debug, Drop)]
 pub struct Lack {
     pub arc: ArcId,
     pub instance: Instance,
 }
 
-/// The first arc in file order whose label lacks one of the properties, with an instance of the earliest listed
-/// one that it lacks; or `None`, exactly where the network has all of them. No number of the instance's label is
+/// The first arc in file order whose label doesn't have one of the properties, with an instance of the earliest listed
+/// one that it doesn't have; or `None`, exactly where the network has all of them. No number of the instance's label is
 /// above the greatest of the algebra's edition, and none of its values above
 /// [`alg_model::MAX_INSTANCE_NUMBER`]. Memory is taken for the instance alone, so a network that has all of the
 /// properties is never refused.
@@ -43,7 +43,7 @@ pub fn first_lack(
     Ok(Some(Lack { arc, instance }))
 }
 
-// The first arc whose label lacks one of the properties, and the earliest of them that it lacks.
+// The first arc whose label doesn't have one of the properties, and the earliest of them that it doesn't have.
 fn first_lacked(net: &Net, properties: &[Property]) -> Option<(ArcId, Property)>
     ensures { MatchOption result
         (NetHasAll (map pure_property properties.now) net.now)
@@ -58,7 +58,7 @@ fn first_lacked(net: &Net, properties: &[Property]) -> Option<(ArcId, Property)>
     None
 }
 
-// The earliest of the properties that the label lacks.
+// The earliest of the properties that the label doesn't have.
 fn earliest_lacked(alg: &Alg, label: &Label, properties: &[Property]) -> Option<Property>
     requires { IsLabel alg.now.expression (pure_label label.now) }
     ensures { MatchOption result
@@ -70,7 +70,7 @@ fn earliest_lacked(alg: &Alg, label: &Label, properties: &[Property]) -> Option<
     earliest_without(&profile, properties)
 }
 
-// The earliest of the properties that a label with this profile lacks.
+// The earliest of the properties that a label with this profile doesn't have.
 fn earliest_without(profile: &Profile, properties: &[Property]) -> Option<Property>
     ensures { result ≡ find (λ p. not (bit profile.now (fact_of (pure_property p)))) properties.now }
 {

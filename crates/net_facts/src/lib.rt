@@ -1,4 +1,4 @@
-//! What holds of the labels on a network's arcs: which properties a network has, and the first arc that lacks
+//! What holds of the labels on a network's arcs: which properties a network has, and the first arc that doesn't have
 //! one. It stands on `property_infer`, which decides on one label, and on `net_graph`.
 #![tactic(auto)]
 

@@ -54,7 +54,7 @@ two_lead n before l m h i j = (
   ),
 )
 
--- a link of the node k, behind links of the nodes before it, none of which is between the same nodes
+-- a link of the node k, after links of the nodes before it, none of which is between the same nodes
 new_link : (n k : ℕ) (links : List Link) (l : Link) → n ≤ MAX_DEMO_NODES → k < n → IsLinkOf k l → length links ≤ 2 * k → AllByRecursion (Misses l.listener l.speaker) links → IsNewLink n links l
 new_link n k links l h in_net i few absent =
     let is = i.listener_is in

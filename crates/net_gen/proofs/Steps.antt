@@ -35,7 +35,7 @@ node_added k h =
     let room : leb (length (node_names k) + 1) (max_nodes One) ≡ true = grind (arith, nat_tests) in
     rw (unnumbered k (omega arith), room) refl
 
--- the line of the node k, behind those of the nodes before it
+-- the line of the node k, after those of the nodes before it
 pub node_step : (k : ℕ) → k < MAX_DEMO_NODES → after_line spelled (file_with (node_names k) []) (node_line k) ≡ Ok (file_with (node_names (k + 1)) [])
 node_step k h =
     line_after spelled (file_with (node_names k) []) (node_line k) (node_is_line k (omega arith))
@@ -82,7 +82,7 @@ unfolding Misses
 none_between tail head id [] a = refl
 none_between tail head id (l ∷ links) a = rw (a.0, none_between tail head (id + 1) links a.1) refl
 
--- a link that may come behind others in a network of n nodes
+-- a link that may come after others in a network of n nodes
 pub record IsNewLink (n : ℕ) (links : List Link) (l : Link) : Type 0 where
   pub listener_in : l.listener < n
   pub before : l.speaker < l.listener

@@ -33,7 +33,7 @@ pub state_more : (seed k : ℕ) → 1 ≤ k → (links_to seed k).state ≡ (lin
 state_more seed zero h = absurd (omega arith)
 state_more seed (suc k) h = let e : suc k - 1 ≡ k = omega arith in rw e (state_suc seed k)
 
--- what is behind the start, and more behind that
+-- what is after the start, and more after that
 pub gains_more : (start old new a b ab : List ℕ) → new ≡ old ++ b → old ≡ start ++ a → ab ≡ a ++ b → new ≡ start ++ ab
 gains_more start old new a b ab e f g = rw (e, f, g) (append_assoc start a b)
 

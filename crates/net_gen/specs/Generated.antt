@@ -18,7 +18,7 @@ pub record AreDemoNodes (n : ℕ) : Type 0 where
   pub least : min_demo_nodes ≤ n
   pub most : n ≤ max_demo_nodes
 
--- Links. One behind the state x takes its first draw from there.
+-- Links. One after the state x takes its first draw from there.
 
 -- the group of the node k: what the numbers of its speakers leave by the number of groups
 abbrev pub group : ℕ → ℕ
@@ -43,7 +43,7 @@ link k x = record { listener = k; speaker = speaker k x; weight = weight (next x
 abbrev pub apart_from : Link → Link → List Link
 apart_from first second = if second.speaker == first.speaker then [] else second ∷ []
 
--- links, and the state behind their draws
+-- links, and the state after their draws
 pub record Drawn : Type 0 where
   pub links : List Link
   pub state : ℕ

@@ -123,7 +123,7 @@ pub after_all_is_net : (net : PureNet) (cs : List PureChange) → IsNet net → 
 after_all_is_net net [] n m = n
 after_all_is_net net (c ∷ cs) n m = after_all_is_net (changed net c) cs (changed_is_net net c n m.0) m.1
 
--- and behind the first k of them
+-- and after the first k of them
 pub after_is_net : (net : PureNet) (cs : List PureChange) (k : ℕ) → IsNet net → AreChanges net cs → IsNet (After net cs k)
 after_is_net net [] zero n m = n
 after_is_net net [] (suc k) n m = n
@@ -138,7 +138,7 @@ after_all_keeps net (c ∷ cs) = after_all_keeps (changed net c) cs
 pub after_keeps : (net : PureNet) (cs : List PureChange) (k : ℕ) → After net cs k ≡ record net { arcs = (After net cs k).arcs }
 after_keeps net cs k = after_all_keeps net (take k cs)
 
--- a change more, behind the others
+-- a change more, after the others
 pub after_all_more : (net : PureNet) (cs : List PureChange) (c : PureChange) → after_all net (cs ++ c ∷ []) ≡ changed (after_all net cs) c
 after_all_more net [] c = refl
 after_all_more net (d ∷ cs) c = after_all_more (changed net d) cs c
@@ -147,7 +147,7 @@ pub are_changes_more : (net : PureNet) (cs : List PureChange) (c : PureChange) �
 are_changes_more net [] c a m = (m, tt)
 are_changes_more net (d ∷ cs) c a m = (a.0, are_changes_more (changed net d) cs c a.1 m)
 
--- the next change is one that the network behind those before it may have, and makes the next network of it
+-- the next change is one that the network after those before it may have, and makes the next network of it
 pub may_change_next : (net : PureNet) (cs : List PureChange) (k : ℕ) (c : PureChange) → AreChanges net cs → slice_get cs k ≡ Some c → MayChange (After net cs k) c
 may_change_next net [] k c a e = absurd (cc)
 may_change_next net (d ∷ cs) zero c a e = subst (MayChange net) (same_Some d c e) a.0

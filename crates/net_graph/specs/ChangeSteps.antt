@@ -1,4 +1,4 @@
--- What one change more does: which arcs are there behind it, and how many. Lemmas, so that proofs of other
+-- What one change more does: which arcs are there after it, and how many. Lemmas, so that proofs of other
 -- crates may cite them.
 use Rattle.std.proofs.Common.{◌≡◌, ◌+◌, ℕ, List, [], ◌∷◌, ◌++◌, Bool, true, false, not, ◌||◌, ◌&&◌, eqb, length, filter, cond, refl, ap, ◌∙◌, arith}
 use Rattle.std.proofs.lemmas.List.{length-map, length_push}
@@ -14,12 +14,12 @@ use Rattle.net_graph.specs.ChangeLaws.{length-numbered_from}
 abbrev pub is_pair : ℕ → ℕ → ℕ → ℕ → Bool
 is_pair t h tail head = eqb t tail && eqb h head
 
--- the arc is there behind a change, where it was there before it or not
+-- the arc is there after a change, where it was there before it or not
 abbrev pub is_there_behind : ℕ → ℕ → PureChange → Bool → Bool
 is_there_behind tail head (link t h l) there = cond (is_pair t h tail head) true there
 is_there_behind tail head (drop t h) there = cond (is_pair t h tail head) false there
 
--- and behind changes, one after another
+-- and after changes, one after another
 abbrev pub is_there_behind_all : ℕ → ℕ → List PureChange → Bool → Bool
 is_there_behind_all tail head [] there = there
 is_there_behind_all tail head (c ∷ cs) there = is_there_behind_all tail head cs (is_there_behind tail head c there)
@@ -90,7 +90,7 @@ left_has t h tail head (a ∷ arcs) = by (is_arc_between t h a) refl (left_has t
     by false e more = rw more (kept (is_pair t h tail head) (is_arc_between tail head a) (list_any (is_arc_between tail head) arcs)
         (λ same. let s : (t ≡ tail) × (h ≡ head) = grind (arith, nat_tests) in rw (← s.0, ← s.1) e))
 
--- an arc is there behind a change where the change says so, or says nothing and it was there
+-- an arc is there after a change where the change says so, or says nothing and it was there
 pub changed_has_arc : (net : PureNet) (c : PureChange) (tail head : ℕ) → has_arc (changed net c) tail head ≡ is_there_behind tail head c (has_arc net tail head)
 changed_has_arc net (drop t h) tail head = renumbered_has tail head 0 (filter (λ (a : PureArc). not (is_arc_between t h a)) net.arcs) ∙ left_has t h tail head net.arcs
 changed_has_arc net (link t h l) tail head = by (has_arc net t h) refl

@@ -27,7 +27,7 @@ abbrev pub numbered_from : ℕ → List PureArc → List PureArc
 numbered_from n [] = []
 numbered_from n (a ∷ arcs) = record a { id = n } ∷ numbered_from (n + 1) arcs
 
--- the arcs but the one from the tail to the head; those behind it move up by one
+-- the arcs but the one from the tail to the head; those after it move up by one
 abbrev pub without_arc : ℕ → ℕ → List PureArc → List PureArc
 without_arc tail head arcs = numbered_from 0 (filter (λ (a : PureArc). not (is_arc_between tail head a)) arcs)
 
@@ -40,12 +40,12 @@ changed_arcs (drop tail head) arcs = without_arc tail head arcs
 abbrev pub changed : PureNet → PureChange → PureNet
 changed net c = record net { arcs = changed_arcs c net.arcs }
 
--- the network behind these changes, one after another
+-- the network after these changes, one after another
 abbrev pub after_all : PureNet → List PureChange → PureNet
 after_all net [] = net
 after_all net (c ∷ cs) = after_all (changed net c) cs
 
--- the network behind the first k of the changes
+-- the network after the first k of the changes
 abbrev pub After : PureNet → List PureChange → ℕ → PureNet
 After net changes k = after_all net (take k changes)
 
@@ -63,7 +63,7 @@ abbrev pub MayChange : PureNet → PureChange → Type 0
 MayChange net (link tail head l) = MayLink net tail head l
 MayChange net (drop tail head) = has_arc net tail head ≡ true
 
--- each change is one that the network behind those before it may have
+-- each change is one that the network after those before it may have
 abbrev pub AreChanges : PureNet → List PureChange → Type 0
 AreChanges net [] = Unit {0}
 AreChanges net (c ∷ cs) = MayChange net c × AreChanges (changed net c) cs

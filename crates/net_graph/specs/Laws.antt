@@ -8,7 +8,7 @@ pub use Rattle.net_graph.specs.NetLaws.{with_node_is_net, with_arc_is_net, with_
 pub use Rattle.net_graph.specs.ChangeLaws.{changed_is_net, after_all_is_net, after_is_net}
 -- changes leave all but the arcs as it is
 pub use Rattle.net_graph.specs.ChangeLaws.{after_all_keeps, after_keeps}
--- changes one by one: behind the others, and from the first on
+-- changes one by one: after the others, and from the first on
 pub use Rattle.net_graph.specs.ChangeLaws.{after_all_more, are_changes_more, may_change_next, after_next}
 -- what one change more does to the arcs
 pub use Rattle.net_graph.specs.ChangeSteps.{after_all_has_arc, linked_count, added_count, dropped_count}

@@ -98,7 +98,7 @@ found_at_place p xs i e = by (prefix_len (λ x. not (p x)) xs) refl e
 pub nothing_at_place : {X : Type 0} (p : X → Bool) (xs : List X) → position p xs ≡ None → find p xs ≡ None
 nothing_at_place p xs e = find_at p xs ∙ slice_get_past xs (prefix_len (λ x. not (p x)) xs) (past_end (prefix_len (λ x. not (p x)) xs) (length xs) e)
 
--- a new name is told apart from the others
+-- a new name differs from the others
 name_apart : (names : List (List ℕ)) (name : List ℕ) → AreDistinct (λ m n. bytes_eq m n) names → number_of names name ≡ None → AreDistinct (λ m n. bytes_eq m n) (names ++ name ∷ [])
 name_apart names name d e = distinct_push (λ m n. bytes_eq m n) names name d (sym (turned_any names name) ∙ none_passes (λ n. bytes_eq name n) names e)
 

@@ -110,7 +110,7 @@ joins_same a b = a.tail == b.tail && a.head == b.head
 abbrev pub stands_same : PureOrigin → PureOrigin → Bool
 stands_same o q = o.dest == q.dest && o.node == q.node
 
--- the rules of a network: names are told apart, no two arcs join one ordered pair of nodes and none a
+-- the rules of a network: names are distinct, no two arcs join one ordered pair of nodes and none a
 -- node to itself, no node has two origins of a destination, and all is within its bounds
 pub record IsNet (net : PureNet) : Type 0 where
   pub is_alg : IsAlg net.alg

@@ -14,7 +14,7 @@ node_text net node = slice_index_or net.nodes node []
 abbrev pub dest_text : PureNet → ℕ → List ℕ
 dest_text net dest = slice_index_or net.dests dest []
 
--- the names of the nodes of a path, each behind a space
+-- the names of the nodes of a path, each after a space
 abbrev pub path_text : PureNet → List ℕ → List ℕ
 path_text net [] = []
 path_text net (node ∷ path) = codes " " ++ node_text net node ++ path_text net path

@@ -75,11 +75,11 @@ is_among nodes i = list_any (λ j. j == i) nodes
 abbrev pub IsOwnOffer : PureNet → ℕ → ℕ → PureRoute → Type 0
 IsOwnOffer net dest i r = (origin_value net dest i ≡ Some r.value) × (r.path ≡ i ∷ [])
 
--- what was told of a node's route, if it has one: a table's rows tell it, and so does what a node heard
+-- what was reported of a node's route, if it has one: a table's rows tell it, and so does what a node heard
 abbrev pub Told : Type 0
 Told = ℕ → Option PureRoute
 
--- what an arc to j makes of the route that is told of j, where that is a value and the path of j
+-- what an arc to j makes of the route that is reported of j, where that is a value and the path of j
 -- doesn't pass i
 pub record IsOfferBy (net : PureNet) (told : Told) (i j : ℕ) (r : PureRoute) : Type 0 where
   pub next : PureRoute
@@ -106,7 +106,7 @@ pub record Stable (net : PureNet) (dest : ℕ) (table : List PureRow) : Type 0 w
   pub table_of : TableOf net dest table
   pub choices : (i : ℕ) → i < length net.nodes → IsChoice net dest (route_at table) i (route_at table i)
 
--- The nodes with a route, in the order in which they are fixed behind those before: each one's row is
+-- The nodes with a route, in the order in which they are fixed after those before: each one's row is
 -- an offer made by its own origin or by nodes before it, and no such offer to a node that isn't before
 -- it is better. The nodes that are left have no route and no offer.
 abbrev pub AreFixed : PureNet → ℕ → List PureRow → List ℕ → List ℕ → Type 0

@@ -8,7 +8,7 @@ pub fn changed_networks_are_networks()
     ensures { (net : PureNet) (c : PureChange) → IsNet net → MayChange net c → IsNet (changed net c) }
 {}
 
-/// A network behind any number of its changes is a network.
+/// A network after any number of its changes is a network.
 #[tactic(auto, using(crate::specs::Laws::after_is_net))]
 pub fn networks_behind_changes_are_networks()
     ensures { (net : PureNet) (cs : List PureChange) (k : ℕ) → IsNet net → AreChanges net cs → IsNet (After net cs k) }

@@ -150,7 +150,7 @@ module _ {S M : Type 0} (k : Kind S M) where
       by None front made = absurd (cc)
       by (Some t) front made = clocked t front (t == e.clock) refl made
 
-  -- a journal and another behind it
+  -- a journal and another after it
   pub replay_join : (net : PureNet) (c : Machine S M) (journal more : List Delivery) → replay_from k net c (journal ++ more) ≡ option_and_then (λ d. replay_from k net d more) (replay_from k net c journal)
   replay_join net c [] more = refl
   replay_join net c (e ∷ journal) more = by (deliver_at k net c e) (λ d. replay_join net d journal more)
@@ -163,7 +163,7 @@ module _ {S M : Type 0} (k : Kind S M) where
   pub replay_more : (net : PureNet) (c d f : Machine S M) (journal : List Delivery) (e : Delivery) → replay_from k net c journal ≡ Some d → deliver_at k net d e ≡ Some f → replay_from k net c (journal ++ e ∷ []) ≡ Some f
   replay_more net c d f journal e first last = rw (replay_join net c journal (e ∷ []), first, last) refl
 
-  -- what each delivery keeps holds behind every journal
+  -- what each delivery keeps holds after every journal
   pub replay_keeps : (net : PureNet) (P : Machine S M → Type 0) → ((c d : Machine S M) (a : ℕ) → P c → Deliver k net c a ≡ Some d → P d) → (journal : List Delivery) (c d : Machine S M) → P c → replay_from k net c journal ≡ Some d → P d
   replay_keeps net P kept [] c d p e = subst P (same_Some _ _ e) p
   replay_keeps net P kept (x ∷ journal) c d p e =

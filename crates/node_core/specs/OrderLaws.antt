@@ -23,7 +23,7 @@ before_then net e f g (inr x) (inr y) =
     let second = y.1.4 in
     inr (x.0 ∙ y.0, (x.1.0, y.1.1, x.1.2, y.1.3, omega (arith, meet, first, second)))
 
--- a delivery behind all others of a journal in order
+-- a delivery after all others of a journal in order
 pub ordered_more : (net : PureNet) (journal : List Delivery) (e : Delivery) → Ordered net journal → AllByRecursion (λ d. ComesBefore net d e) journal → Ordered net (journal ++ e ∷ [])
 ordered_more net [] e o a = (tt, tt)
 ordered_more net (d ∷ journal) e o a = (all_join (ComesBefore net d) journal (e ∷ []) o.0 (a.0, tt), ordered_more net journal e o.1 a.1)
@@ -68,7 +68,7 @@ module _ {S M : Type 0} (k : Kind S M) (lawful : IsLawful k) where
       let w = delivery_of k net c a d e in
       subst (λ x. AreUpTo k x (n + 1)) (sym w.makes) (stepped_up_to c n a w.number w.node w.message w.rest up w.front)
 
-  -- behind so many deliveries
+  -- after so many deliveries
   pub replay_up_to : (net : PureNet) (journal : List Delivery) (c d : Machine S M) (n : ℕ) → AreUpTo k c n → replay_from k net c journal ≡ Some d → AreUpTo k d (n + length journal)
   replay_up_to net [] c d n up e = subst (λ x. AreUpTo k x (n + 0)) (same_Some _ _ e) (subst (AreUpTo k c) (omega arith) up)
   replay_up_to net (x ∷ journal) c d n up e =
@@ -89,7 +89,7 @@ module _ {S M : Type 0} (k : Kind S M) (lawful : IsLawful k) where
       let is = f.clock_is in
       omega (arith, stamp, clock, is)
 
-  -- behind the least delivery come all that the machine can make next
+  -- after the least delivery come all that the machine can make next
   module _ (net : PureNet) (c : Machine S M) (e : Delivery) (least : IsLeast k net c e) (w : IsFront k net c e.arc.0 e.clock) (s : S) where
     abbrev next : Machine S M
     next = stepped k c e.arc.0 w.number s w.message w.rest

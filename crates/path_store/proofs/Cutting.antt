@@ -24,12 +24,12 @@ range_kept row more start end ordered within =
     let fits : end - start ≤ length (drop start row) = omega (arith, length-drop start row) in
     rw (drop-append-le start row more inside, take-append-le (end - start) (drop start row) more fits) refl
 
--- what stands behind the row is a piece
+-- what stands after the row is a piece
 range_added : {X : Type 0} → (row more : List X) → slice_range (row ++ more) (length row) (length (row ++ more)) ≡ more
 range_added row more =
     rw (drop_at row more (length row) refl) (take_all (length (row ++ more) - length row) more (omega (arith, length-append row more)))
 
--- a row that grew has its pieces, and then what was put behind it
+-- a row that grew has its pieces, and then what was put after it
 pub pieces-append : {X : Type 0} → (start : ℕ) (ends : List ℕ) (row more : List X) → Cuts start ends (length row)
     → pieces start (ends ++ length (row ++ more) ∷ []) (row ++ more) ≡ pieces start ends row ++ more ∷ []
 pieces-append start [] row more cuts = rw (cuts, range_added row more) refl

@@ -17,7 +17,7 @@ pub struct PathId(pub u32);
 /// removed.
 #[derive(Debug, Drop)]
 pub struct Paths {
-    // The nodes of all paths, one path behind the other.
+    // The nodes of all paths, one path after the other.
     nodes: Vec<NodeId>,
     // For each path, how many nodes stand in the row up to its end.
     ends: Vec<usize>,
@@ -125,7 +125,7 @@ fn range_at(ends: &[usize], index: usize) -> Range<usize>
     start..ends[index]
 }
 
-// Appends the node, and behind it a copy of the nodes in the range.
+// Appends the node, and after it a copy of the nodes in the range.
 fn append_before(nodes: &mut Vec<NodeId>, node: NodeId, range: Range<usize>) -> Result<(), NoMemory>
     requires order { range.start ≤ range.end }
     requires inside { range.end ≤ vec_len nodes.old }

@@ -39,7 +39,7 @@ begun_one s dest = nothing_more (begun_updates s dest)
     nothing_more (x ∷ xs) = ap (λ z. x ∷ z) (nothing_more xs)
 
 module _ (net : PureNet) (before : Option PureNet) (number : ℕ) (heard : ℕ → ℕ → Option PureRoute) (rows : ℕ → Option PureRoute) (s : PvState) (is : IsUnbegun net before number heard rows s) where
-  -- what is told of one row
+  -- what is reported of one row
   abbrev pub told_of : ℕ → Option PureRoute → Bool → List (ℕ × PureUpdate)
   told_of dest row is_other = told_on (filter (λ (a : PureArc). cond (spoken_in before a.tail a.head) is_other (is_some row)) (arcs_to net number)) (record { dest = dest; route = row; stamp = 0 })
 

@@ -88,7 +88,7 @@ module _ {L S : Type 0} (stands_for : L → PureLabel → Type 0) (is_sig : S �
   module _ (before net : PureNet) (old_net : IsNet before) (new_net : IsNet net) (same : net ≡ record before { arcs = net.arcs }) (i : ℕ) (old : List (Listened L S)) (k : ℕ) (x : Listened L S)
       (are : AreNeighbours stands_for is_sig value before (arcs_from before i) old) (there : slice_get old k ≡ Some x)
     where
-      -- those that are done, and those that are left behind the next
+      -- those that are done, and those that are left after the next
       abbrev pub done : List (Listened L S)
       done = take k old
 

@@ -245,7 +245,7 @@ pub on_refusal : {T E : Type 0} (P : Type 0) (r : Result T E) → P → OnErr r 
 on_refusal P (Ok x) p = tt
 on_refusal P (Err e) p = p
 
--- of a row that stayed nothing is told
+-- of a row that stayed nothing is reported
 pub nothing_told : (row before : Option PureRoute) (all : List (ℕ × PureUpdate)) → row ≡ before → [] ≡ cond (same_row row before) [] all
 nothing_told row before all e = rw (e, same_row_self before) refl
 

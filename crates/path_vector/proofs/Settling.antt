@@ -17,7 +17,7 @@ use Rattle.path_vector.specs.Settling.{is_next, goes_by, is_worse, settled, Sett
 
 -- ---- routes by a neighbour
 
--- what is told of each node begins with it
+-- what is reported of each node begins with it
 abbrev BeginWithThem : Told → Type 0
 BeginWithThem told = (k : ℕ) (r : PureRoute) → told k ≡ Some r → begins_with k r.path ≡ true
 
@@ -82,7 +82,7 @@ same_choice net dest i told begin value_in (Some r) None c d = absurd (d r c.0)
 same_choice net dest i told begin value_in (Some r) (Some s) c d =
     ap (λ z. Some z) (same_offer net dest i told r s begin c.0 d.0 (neither_better (carrier net) r s (value_in r c.0) (value_in s d.0) (d.1 r c.0) (c.1 s d.0)))
 
--- ---- what is told of one node was replaced
+-- ---- what is reported of one node was replaced
 
 module _ (net : PureNet) (dest i j : ℕ) (told later : Told) (begin : BeginWithThem told) (begin_later : BeginWithThem later)
     (same : (k : ℕ) → (k == j) ≡ false → told k ≡ later k)

@@ -27,7 +27,7 @@ listener_at net i ids k d n e l =
     let item = (item_passed (λ (a : PureArc). a.head == i) net.arcs there.0 (item_at (arcs_to net i) k there.0 there.1)).0 in
     (there.0, there.1, there.2, ap (slice_get net.arcs) (sym there.2) ∙ arc_stands net there.0 n item)
 
--- one more listener is told, if it is news there
+-- it is reported to one more listener, if it is news there
 pub told_next : (p : PureArc → Bool) (arcs : List PureArc) (u : PureUpdate) (k : ℕ) (a : PureArc) → slice_get arcs k ≡ Some a
     → told_on (filter p (take (suc k) arcs)) u ≡ told_on (filter p (take k arcs)) u ++ cond (p a) ((a.id, u) ∷ []) []
 told_next p arcs u k a e =
@@ -40,7 +40,7 @@ told_next p arcs u k a e =
     last true = refl
     last false = refl
 
--- what is put on the arcs of these numbers is told on them
+-- what is put on the arcs of these numbers is reported on them
 pub told_ids : (ids : List ArcId) (arcs : List PureArc) (u : PureUpdate) → map (λ (id : ArcId). id.0) ids ≡ map (λ (a : PureArc). a.id) arcs → map {B = ℕ × PureUpdate} (λ (id : ArcId). (id.0, u)) ids ≡ told_on arcs u
 told_ids [] [] u e = refl
 told_ids [] (a ∷ arcs) u e = absurd (cc)
@@ -50,7 +50,7 @@ told_ids (id ∷ ids) (a ∷ arcs) u e =
     let rest : map (λ (id : ArcId). id.0) ids ≡ map (λ (a : PureArc). a.id) arcs = cc in
     rw (first, told_ids ids arcs u rest) refl
 
--- what is told once one more listener was told, if it is news there
+-- what is reported in all where it is reported to one more listener, if it is news there
 pub one_told : (p : PureArc → Bool) (arcs : List PureArc) (u : PureUpdate) (k id : ℕ) (a : PureArc) (news : Bool) (before now after : List (ℕ × PureUpdate)) → slice_get arcs k ≡ Some a → a.id ≡ id → news ≡ p a
     → now ≡ before ++ told_on (filter p (take k arcs)) u → after ≡ now ++ cond news ((id, u) ∷ []) [] → after ≡ before ++ told_on (filter p (take (k + 1) arcs)) u
 one_told p arcs u k id a news before now after at number is so next =

@@ -12,7 +12,7 @@ use Rattle.path_vector.specs.Updates.{noted}
 abbrev pub HasSigs : {S : Type 0} → (S → Type 0) → Option (Change S) → Type 0
 HasSigs is_sig change = IfSome change (λ c. IfSome c.row (λ k. is_sig k.sig))
 
--- the row stayed as it was, or it is another, which all listeners of the node are told
+-- the row stayed as it was, or it is another, which is reported to all listeners of the node
 abbrev pub IsChange : {S : Type 0} → (S → PureValue) → PureNet → ℕ → ℕ → ℕ → Option PureRoute → Option PureRoute → Option (Change S) → Type 0
 IsChange value net node dest clock before row None = row ≡ before
 IsChange value net node dest clock before row (Some change) = (option_map (known_route value) change.row ≡ row) × (same_row row before ≡ false)

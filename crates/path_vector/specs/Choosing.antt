@@ -212,7 +212,7 @@ offer_from net a next r m = rw (m.loopless, m.weighs) (ap (λ s. Some s) (route_
 more_on : (k g : ℕ) → k * (g + 1) + g ≤ suc k * (g + 1)
 more_on k g = grind arith
 
--- what a node that heard these routes on its arcs is told of its neighbours
+-- what is reported of its neighbours to a node that heard these routes on its arcs
 abbrev pub told_by : PureNet → ℕ → (ℕ → Option PureRoute) → Told
 told_by net i heard j = option_and_then (λ (a : PureArc). heard a.id) (find (is_arc_between i j) net.arcs)
 

@@ -1,4 +1,4 @@
--- A store of rows, one behind another, each with an entry at so many places, seen place by place.
+-- A store of rows, one after another, each with an entry at so many places, seen place by place.
 use Rattle.std.specs.Prelude.{◌≡◌, ℕ, zero, suc, ◌<◌, List, [], ◌∷◌, Option, Some, None, length, slice_get}
 use Rattle.std.proofs.Math.ListN.{drop}
 use Rattle.path_vector.specs.declared.known.Known.{Known}

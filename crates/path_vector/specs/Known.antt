@@ -17,7 +17,7 @@ module _ {S : Type 0} (value : S → PureValue) where
   abbrev pub known_route : Known S → PureRoute
   known_route k = record { value = value k.sig; path = numbers k.path }
 
-  -- a route of a node by its value and what lies behind the node on its path
+  -- a route of a node by its value and what lies after the node on its path
   abbrev pub route_through : ℕ → S → List NodeId → PureRoute
   route_through node sig behind = record { value = value sig; path = node ∷ numbers behind }
 
@@ -25,7 +25,7 @@ module _ {S : Type 0} (value : S → PureValue) where
   abbrev pub offered_route : ℕ → Offer S → PureRoute
   offered_route node o = route_through node o.sig o.behind.now
 
--- the offer whose value stands in a place, by what lies behind the node on its path
+-- the offer whose value stands in a place, by what lies after the node on its path
 abbrev pub placed : {S : Type 0} → Option (Bor (List NodeId)) → Option S → Option (Offer S)
 placed behind place = option_and_then (λ b. option_map (λ s. record { sig = s; behind = b }) place) behind
 

@@ -88,7 +88,7 @@ told_on arcs u = map (λ (a : PureArc). (a.id, u)) arcs
 abbrev pub spoke_on : PvState → PureArc → Bool
 spoke_on s a = option_map_or (λ net. has_arc net a.tail a.head) s.before false
 
--- at the start a listener is told of a row that it doesn't know: where the node spoke on the arc before, of one
+-- at the start a row that a listener doesn't know is reported to it: where the node spoke on the arc before, of one
 -- that changed, and else of one with a route
 abbrev pub is_news : PvState → Option PureRoute → ℕ → PureArc → Bool
 is_news s row dest a = cond (spoke_on s a) (not (same_row row (s.rows dest))) (is_some row)
@@ -102,7 +102,7 @@ abbrev pub all_begun_updates : PvState → List ℕ → List (ℕ × PureUpdate)
 all_begun_updates s [] = []
 all_begun_updates s (dest ∷ dests) = begun_updates s dest ++ all_begun_updates s dests
 
--- each row becomes the node's choice, and listeners are told, in order of the destinations
+-- each row becomes the node's choice, and it is reported to listeners, in order of the destinations
 abbrev pub Begin : PvState → PvState × List (ℕ × PureUpdate)
 Begin s = (
   record s { is_begun = true; rows = λ dest. choice s.net dest s.number s.heard; last = 0 },
@@ -113,7 +113,7 @@ Begin s = (
 abbrev pub heard_with : (ℕ → ℕ → Option PureRoute) → ℕ → PureUpdate → ℕ → ℕ → Option PureRoute
 heard_with heard a u b dest = cond (b == a && dest == u.dest) u.route (heard b dest)
 
--- what a node makes of an update that fits: its row becomes its choice, and listeners are told if it changed
+-- what a node makes of an update that fits: its row becomes its choice, and it is reported to listeners if it changed
 abbrev pub taken : PvState → ℕ → PureUpdate → ℕ → PvState × List (ℕ × PureUpdate)
 taken s a u clock =
     let heard = heard_with s.heard a u in

@@ -59,7 +59,7 @@ silent : (net : PureNet) → IsNet net → (a : PureArc) → slice_get net.arcs 
 silent net n a stands s e head =
     begun_elsewhere s a (range_with_len 0 (length s.net.dests)) (subst IsNet (sym e) n) (subst (λ z. slice_get z.arcs a.id ≡ Some a) (sym e) stands) head
 
--- nodes behind the speaker say nothing on its arc
+-- nodes after the speaker say nothing on its arc
 behind_silent : (net : PureNet) → IsNet net → (a : PureArc) → slice_get net.arcs a.id ≡ Some a → (i : ℕ) (nodes : List PvState) → AreFrom net i nodes → a.head < i → on_arc a.id (begun_messages path_vector nodes) ≡ []
 behind_silent net n a stands i [] are l = refl
 behind_silent net n a stands i (s ∷ nodes) are l =

@@ -61,7 +61,7 @@ fits_from net a u below f =
 pub heard_of_is : (net : PureNet) (q : PvState) (i dest j : ℕ) → q.net ≡ net → q.number ≡ i → heard_of q dest j ≡ told_by net i (λ b. q.heard b dest) j
 heard_of_is net q i dest j e f = rw (e, f) refl
 
--- what is told is alike where the node has an arc
+-- what is reported is alike where the node has an arc
 abbrev pub AreAlike : PureNet → ℕ → Told → Told → Type 0
 AreAlike net i told other = (j : ℕ) (a : PureArc) → find (is_arc_between i j) net.arcs ≡ Some a → told j ≡ other j
 
@@ -74,7 +74,7 @@ offer_moves net dest i told other same r (inr (j, o)) = inr (j, by (find (is_arc
     by None f g = absurd (cc)
     by (Some a) f g = record { next = o.next; is_told = sym (same j a f) ∙ o.is_told; weighs = o.weighs; loopless = o.loopless; path = o.path }
 
--- a choice stays one where what is told is alike
+-- a choice stays one where what is reported is alike
 pub choice_moves : (net : PureNet) (dest i : ℕ) (told other : Told) → AreAlike net i told other → (o : Option PureRoute) → IsChoice net dest told i o → IsChoice net dest other i o
 choice_moves net dest i told other same (Some r) c = (
   offer_moves net dest i told other same r c.0,

@@ -17,7 +17,7 @@ use std::alloc::Global;
 use std::cmp::Ordering;
 
 // A route in the algebra's own form: its value, and the path from the node itself to the origin, which the node
-// shares with those that it told it or that told it.
+// shares with those that it reported it to or that reported it.
 #[derive(Drop)]
 pub(crate) struct Known<S> {
     pub sig: S,
@@ -31,7 +31,7 @@ fn copy_path(alloc: Global, path: &[NodeId]) -> Result<List<NodeId>, NoMemory>
     Ok(List::from_vec(Vec::from_slice(alloc, path)?))
 }
 
-// What was told, in the algebra's form.
+// What was reported, in the algebra's form.
 pub(crate) fn known_of<A: Algebra>(
     alloc: Global,
     algebra: &A,
@@ -62,7 +62,7 @@ pub(crate) fn route_of<A: Algebra>(
     })
 }
 
-// What is told of a known route.
+// What is reported of a known route.
 pub(crate) fn told_of<A: Algebra>(
     alloc: Global,
     algebra: &A,

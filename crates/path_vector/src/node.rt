@@ -25,8 +25,8 @@ use std::alloc::Global;
 use std::marker::Model;
 use std::mem::replace;
 
-/// A node that routes by path vector over an algebra: it keeps what its neighbours told it last, chooses the best
-/// of what they offer for each destination, and tells those that listen to it when its choice changes (Griffin and
+/// A node that routes by path vector over an algebra: it keeps what its neighbours reported to it last, chooses the
+/// best of what they offer for each destination, and tells those that listen to it when its choice changes (Griffin and
 /// Sobrinho 2005; the protocol is Sobrinho's of 2005).
 #[derive(Drop)]
 pub struct PvNode<'a, A: Algebra> {

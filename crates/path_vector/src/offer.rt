@@ -21,7 +21,7 @@ use std::alloc::Global;
 use std::cmp::Ordering;
 use std::mem::swap;
 
-// A route that a node is offered: its value, and the path of the neighbour that it goes by. There is none behind
+// A route that a node is offered: its value, and the path of the neighbour that it goes by. There is none after
 // the node where the offer is its own origin's. Values of offers are made in one place after another, and one is taken
 // from there only where its offer is the best so far.
 #[derive(Drop)]
@@ -54,8 +54,8 @@ fn image_into<A: Algebra>(
     Ok(place.is_some())
 }
 
-// What a neighbour offers the node by the label of its arc, if what was heard of it makes a route: its value is put into
-// `place`, and what lies behind the node on its path is lent.
+// What a neighbour offers the node by the label of its arc, if what was heard of it makes a route: its value is put
+// into `place`, and what lies after the node on its path is lent.
 pub(crate) fn offer_into<'p, A: Algebra>(
     alloc: Global,
     algebra: &A,
@@ -105,7 +105,7 @@ pub(crate) fn take_offer<'p, S>(
 }
 
 // Whether a route of a node with the first value is better than one with the second. Their paths are the node with
-// these behind it.
+// these after it.
 pub(crate) fn is_first<A: Algebra>(
     algebra: &A,
     first: &A::Sig,

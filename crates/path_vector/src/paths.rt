@@ -27,7 +27,7 @@ pub(crate) fn starts_at(path: &[NodeId], node: NodeId) -> bool
     }
 }
 
-// What lies behind the first node of the path.
+// What lies after the first node of the path.
 pub(crate) fn behind(path: &[NodeId]) -> &[NodeId]
     ensures { (i : ℕ) → begins_with i (numbers path.now) ≡ true → numbers path.now ≡ i ∷ numbers result.now }
 {

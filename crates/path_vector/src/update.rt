@@ -4,8 +4,8 @@ use crate::shared::Shared;
 use alg_model::Value;
 use meta_base::{DestId, List, NoMemory, NodeId};
 
-/// A route as it is told: its value, and the path from the speaker to the origin. All who keep what they heard share
-/// the path.
+/// A route as it is reported: its value, and the path from the speaker to the origin. All who keep what they heard
+/// share the path.
 #[derive(Debug, Drop)]
 pub struct SharedRoute {
     pub value: Value,

@@ -20,7 +20,7 @@ use union_classes::{union_first_profile, union_second_profile};
 /// What makes a label of an operator of one of a part.
 #[derive(Debug, Drop)]
 pub(crate) enum Step<'a> {
-    /// It is joined behind this label of the first part.
+    /// It is joined after this label of the first part.
     After(Joint, &'a Labelled),
     UnionFirst,
     UnionSecond,

@@ -1,4 +1,5 @@
-// Tests of `code`: the code of orders and of labels, told by hand, also of the labels of a network behind its changes.
+// Tests of `code`: the code of orders and of labels, worked out by hand, also of the labels of a network after its
+// changes.
 use crate::program::{ended_with, run_on};
 use std::test::Fail;
 

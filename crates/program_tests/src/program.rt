@@ -362,7 +362,7 @@ fn words_mean_checks(rt: HostRuntime) -> Result<(), Fail> {
     Ok(())
 }
 
-// The places of the files are told from the arguments, wherever flags and their values stand.
+// The places of the files are known from the arguments, wherever flags and their values stand.
 #[test]
 fn words_mean_commands(rt: HostRuntime) -> Result<(), Fail> {
     let route = |file, net, workers| Command::Route { file, net, workers };
@@ -530,7 +530,7 @@ fn policies_are_decided(rt: HostRuntime) -> Result<(), Fail> {
     Ok(())
 }
 
-// What is asked of a network is asked of the labels on its arcs alone, behind all changes.
+// What is asked of a network is asked of the labels on its arcs alone, after all changes.
 #[test]
 fn networks_are_decided(rt: HostRuntime) -> Result<(), Fail> {
     let cases: &[(&[u8], &[u8], &str, &str)] = &[

@@ -1,5 +1,5 @@
-// Tests of `route`: rows whose values are told by hand, labels that forbid it, and a plain program that relaxes values
-// along arcs until none changes.
+// Tests of `route`: rows whose values are worked out by hand, labels that forbid it, and a plain program that relaxes
+// values along arcs until none changes.
 use crate::program::{BAD_GADGET, CUSTOMERS, ended_with, is_lacking, run_on};
 use meta_base::NoMemory;
 use std::alloc::{AllocGlobal, Global};
@@ -26,7 +26,7 @@ const BOTH_WAYS: &[u8] = b"node a b c\nboth a b : 3\norigin x at b : 0\n";
 
 const BOTH_WAYS_ROUTES: &[u8] = b"a x 3 a b\nb x 0 b\nc x none\n";
 
-// Routes are those of the network behind all its changes.
+// Routes are those of the network after all its changes.
 const CHANGED: &[u8] = b"node a b c
 link a b : 1
 link b c : 1

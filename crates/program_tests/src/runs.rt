@@ -1,5 +1,5 @@
-// Tests of `run` and `trace`: rows, deliveries and ends that are told by hand, and that hold whatever is delivered
-// first, so for any number of workers.
+// Tests of `run` and `trace`: rows, deliveries and ends that are worked out by hand, and that hold whatever is
+// delivered first, so for any number of workers.
 use crate::program::{BAD_GADGET, CUSTOMERS, Outcome, ended_with, outcome_of, run_on};
 use crate::settled::{DIAMOND, PROVIDERS, SHORTEST, UNHEARD, WIDE_THEN_SHORT};
 use std::str;

@@ -1,5 +1,5 @@
-// Tests of `settle`: the one stable table of a network, told by hand, also behind each change of one whose nodes ran
-// through its changes; and labels that forbid it.
+// Tests of `settle`: the one stable table of a network, worked out by hand, also after each change of one whose nodes
+// ran through its changes; and labels that forbid it.
 use crate::program::{CUSTOMERS, ended_with, is_lacking, run_on};
 use std::test::Fail;
 
@@ -26,7 +26,7 @@ pub(crate) const DIAMOND: &[u8] =
 
 const DIAMOND_ROWS: &[u8] = b"a x 2 a b d\nb x 1 b d\nc x 1 c d\nd x 0 d\n";
 
-// A provider route is told upwards to no one.
+// A provider route is reported upwards to no one.
 pub(crate) const PROVIDERS: &[u8] =
     b"node u v w\nlink u v : (P,1)\nlink v w : (C,1)\norigin x at w : (c,0)\n";
 

@@ -1,5 +1,5 @@
-// Tests of `stable`: the one stable table of each destination where labels are monotone, which runs come to, told by
-// hand; and labels that forbid it.
+// Tests of `stable`: the one stable table of each destination where labels are monotone, which runs come to, worked out
+// by hand; and labels that forbid it.
 use crate::program::{BAD_GADGET, CUSTOMERS, Outcome, ended_with, is_lacking, outcome_of, run_on};
 use crate::runs::{DISAGREE, WORKERS};
 use crate::settled::PROVIDERS;
@@ -19,7 +19,7 @@ const FREE_RING_TABLES: &[u8] = b"x 1 stable\ntable 1\na x 0 a\nb x 0 b a\nc x 0
 const PROVIDERS_TABLES: &[u8] =
     b"x 1 stable\ntable 1\nu x (p,2) u v w\nv x (c,1) v w\nw x (c,0) w\n";
 
-// The tables are those of the network behind all its changes.
+// The tables are those of the network after all its changes.
 const TWO_DESTS: &[u8] = b"node a b c
 both a b : 0
 link c a : 0
@@ -61,7 +61,7 @@ fn stable_tables_are_found(rt: HostRuntime) -> Result<(), Fail> {
     Ok(())
 }
 
-// The first arc whose label isn't monotone is named, behind all changes.
+// The first arc whose label isn't monotone is named, after all changes.
 #[test]
 fn labels_forbid_stable_tables(rt: HostRuntime) -> Result<(), Fail> {
     let cases: &[(&[u8], &[u8], &str)] = &[

@@ -77,7 +77,8 @@ answer_by : (c d : PureCarrier) (f g : Action) (k kx ky : Fact) (o r : Option Pu
 answer_by c d f g k kx ky o r h i rule a b = answer_joined c d f g (Refutes c f kx) (Refutes d g ky) k o r
     (λ e. h (told c f kx o a e)) (λ e. i (told d g ky r b e)) rule (shown c f kx o a) (shown d g ky r b) (small c f kx o a) (small d g ky r b)
 
--- where the first part lacks a fact, its example and a value of the second part with an image show it of the pair
+-- where the first part doesn't have a fact, its example and a value of the second part with an image show it of the
+-- pair
 first_fails : (c d : PureCarrier) (f g : Action) (k kx : Fact) (o r : Option PureExample) → ¬ (k ≡ Total) → ¬ Holds c f kx
     → Joins c d f g (Refutes c f kx) (Refutes d g Dead) k → Answers c f kx o → Answers d g Dead r → Answers (pairs c d) (paired f g) k (beside o r)
 first_fails c d f g k kx o r other lacks rule a b = answer_by c d f g k kx Dead o r (λ h. absurd (lacks h)) (λ h. dead_pair c d f g (inr h) k other) rule a b

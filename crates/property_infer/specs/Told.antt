@@ -12,7 +12,7 @@ use Rattle.alg_classes.specs.Facts.{fact_of}
 use Rattle.alg_classes.specs.Profiles.{bit}
 use Rattle.profile_labels.specs.declared.labelled.Labelled.{Labelled}
 
--- the instance shows that the label lacks the property, and its numbers are small
+-- the instance shows that the label doesn't have the property, and its numbers are small
 pub record IsLackOf (a : PureAlg) (p : PureProperty) (l : PureLabel) (x : PureInstance) : Type 0 where
   pub property : x.property ≡ p
   pub label : x.label ≡ l
@@ -24,7 +24,7 @@ abbrev pub IsLackAmong : PureAlg → PureProperty → List Labelled → PureInst
 IsLackAmong a p [] x = ⊥
 IsLackAmong a p (y ∷ ys) x = IsLackOf a p (pure_label y.label) x ⊎ IsLackAmong a p ys x
 
--- all labels have the property, by their profiles; or the instance shows that one lacks it
+-- all labels have the property, by their profiles; or the instance shows that one doesn't have it
 abbrev pub IsTold : PureAlg → List Labelled → PureProperty → PureVerdict → Type 0
 IsTold a labels p holds = AllByRecursion (λ (x : Labelled). bit x.profile (fact_of p) ≡ true) labels
 IsTold a labels p (fails x) = IsLackAmong a p labels x

@@ -20,7 +20,7 @@ use Rattle.profile_labels.specs.Labels.{CoversBy, Has as HasProfile, IsCoveredBy
 use Rattle.property_infer.specs.Labels.{CoversLabels}
 use Rattle.property_infer.specs.Told.{IsLackAmong, IsTold, AreTold}
 
--- What is told of labels of a set whose profiles they have is exact for it.
+-- What is said of labels of a set whose profiles they have is exact for it.
 
 all_profiles : (p : PureProperty) (labels : List Labelled) (q : Profile) → AllByRecursion (λ (x : Labelled). bit x.profile (fact_of p) ≡ true) labels
     → HasProfile labels q → bit q (fact_of p) ≡ true
@@ -50,7 +50,7 @@ told_exact : (a : PureAlg) (S : PureLabel → Type 0) (labels : List Labelled) (
     → ExactFor a.expression S v
 told_exact a S labels v of_set covered told p = exact_of_each a S p labels (verdict_on v p) of_set covered (told p)
 
--- The numbers of what is told are small.
+-- The numbers of what is said are small.
 
 bounded_by_lack : (a : PureAlg) (p : PureProperty) (labels : List Labelled) (x : PureInstance) → IsLackAmong a p labels x
     → InstanceAtMost (greatest_number a.edition) max_instance_number x

@@ -15,7 +15,7 @@ use profile_labels::covering_labels;
 use std::alloc::Global;
 
 /// The exact verdicts on an algebra: each property holds of all its labels, or an instance shows that one of
-/// them lacks it. No number of an instance's label is above the greatest of the algebra's edition, and none of
+/// them doesn't have it. No number of an instance's label is above the greatest of the algebra's edition, and none of
 /// its values above [`alg_model::MAX_INSTANCE_NUMBER`]. They are refused for want of memory alone.
 pub fn verdicts(alloc: Global, alg: &Alg) -> Result<Verdicts, NoMemory>
     ensures exact { IfOk result (λ verdicts.

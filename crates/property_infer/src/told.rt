@@ -19,7 +19,7 @@ use meta_base::NoMemory;
 use profile_labels::Labelled;
 use std::alloc::Global;
 
-/// Values at which the label of the algebra lacks the property, which it does. No number of the label is above the
+/// Values at which the label of the algebra doesn't have the property, which is so. No number of the label is above the
 /// greatest of the algebra's edition, and none of the values above [`alg_model::MAX_INSTANCE_NUMBER`]. They are
 /// refused for want of memory alone.
 pub fn instance_against(
@@ -47,7 +47,7 @@ pub fn instance_against(
     })
 }
 
-// No at the first label that lacks the property.
+// No at the first label that doesn't have the property.
 fn verdict_of(
     alloc: Global,
     alg: &Alg,
@@ -68,8 +68,8 @@ fn verdict_of(
     }
 }
 
-/// The verdicts that labels of the algebra tell: yes where all have the property, else no with an instance of the
-/// first that lacks it. Where they cover the algebra, the verdicts are exact for all of its labels. They are refused
+/// The verdicts that labels of the algebra tell: yes where all have the property, else no with an instance of the first
+/// that doesn't have it. Where they cover the algebra, the verdicts are exact for all of its labels. They are refused
 /// for want of memory alone.
 pub fn verdicts_of(alloc: Global, alg: &Alg, labels: &[Labelled]) -> Result<Verdicts, NoMemory>
     requires { AllByRecursion (LabelledOf alg.now) labels.now }

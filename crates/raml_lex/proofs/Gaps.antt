@@ -9,7 +9,7 @@ use Rattle.std.proofs.lemmas.Bool.Decides.{nat_tests}
 use Rattle.meta_base.specs.Bytes.{is_line_feed, is_space}
 use Rattle.raml_lex.specs.Gaps.{gap_of, behind_gap, IsGap, IsLine}
 
--- a text is its gap and what comes behind it
+-- a text is its gap and what comes after it
 pub gap_split : (b : Bool) (text : List ℕ) → gap_of b text ++ behind_gap b text ≡ text
 gap_split true [] = refl
 gap_split false [] = refl
@@ -96,7 +96,7 @@ over_comment cs i n h mark l =
       },
     )
 
--- one part of a gap behind another
+-- one part of a gap after another
 pub over_more : (cs : List ℕ) (i j k : ℕ) → GapOver cs i j → GapOver cs j k → GapOver cs i k
 over_more cs i j k a b = record { gap = b.gap ∙ a.gap; left = b.left ∙ a.left }
 

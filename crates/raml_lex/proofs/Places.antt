@@ -1,4 +1,4 @@
--- Places behind more bytes.
+-- Places after more bytes.
 use Rattle.std.proofs.Common.{◌≡◌, ℕ, ◌+◌, ◌≤◌, Bool, true, false, not, cond, ◌&&◌, suc, List, [], ◌∷◌, ◌++◌, length, count_by, refl, ap, sym, ◌∙◌, zero-add, arith}
 use Rattle.std.specs.List.{list_all, suffix_len, prefix_len}
 use Rattle.std.proofs.lemmas.List.{reverse-append, append_assoc, append-nil}
@@ -62,7 +62,7 @@ moved_over-lines (x ∷ xs) p =
     by true = omega arith
     by false = omega arith
 
--- behind the last line feed the column is told by the bytes since
+-- after the last line feed the column follows from the bytes since
 pub moved_over-last : (ys zs : List ℕ) (p : Place) → list_all (λ c. not (is_line_feed c)) zs ≡ true
     → moved_over p (ys ++ 10 ∷ zs) ≡ record { line = p.line + count_by is_line_feed (ys ++ 10 ∷ zs); column = 1 + length zs }
 moved_over-last ys zs p h =

@@ -89,7 +89,7 @@ all_in_line [] (suc n) h = refl
 all_in_line (c ∷ cs) zero h = refl
 all_in_line (c ∷ cs) (suc n) h = rw (h 0 (omega arith)) (all_in_line cs n (λ k l. h (suc k) (omega (arith, l))))
 
--- nothing was left behind the gap
+-- nothing was left after the gap
 pub Ended-at : (s : List ℕ) (a b greatest : ℕ) (fault : Option LexFault) → fault ≡ None → take b s ≡ take a s ++ gap_of false (drop a s) → drop b s ≡ behind_gap false (drop a s) → drop b s ≡ []
     → Ended (record { before = take a s; rest = drop a s; greatest = greatest; fault = fault }) (record { before = take b s; rest = drop b s; greatest = greatest; fault = fault })
 Ended-at s a b greatest fault none t d e =
@@ -103,7 +103,7 @@ Ended-at s a b greatest fault none t d e =
       after = rw (t, e, all) refl;
     }
 
--- a token stood behind the gap
+-- a token stood after the gap
 pub Found-at : (s : List ℕ) (a b n greatest : ℕ) (fault : Option LexFault) (t : Token) → fault ≡ None → take b s ≡ take a s ++ gap_of false (drop a s) → drop b s ≡ behind_gap false (drop a s) → IsWithin n (drop b s)
     → t.text.now ≡ take n (drop b s) → t.place ≡ place_after (take b s) → token (tok_of t.kind (take n (drop b s))) (drop n (drop b s)) ≡ token_at greatest (drop b s)
     → Found (record { before = take a s; rest = drop a s; greatest = greatest; fault = fault }) t (record { before = take (b + n) s; rest = drop (b + n) s; greatest = greatest; fault = fault })

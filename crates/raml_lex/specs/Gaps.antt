@@ -10,7 +10,7 @@ gap_of in_comment [] = []
 gap_of true (c ∷ cs) = c ∷ gap_of (not (is_line_feed c)) cs
 gap_of false (c ∷ cs) = if c == 35 then c ∷ gap_of true cs else (if is_space c then c ∷ gap_of false cs else [])
 
--- what comes behind them
+-- what comes after them
 abbrev pub behind_gap : Bool → List ℕ → List ℕ
 behind_gap in_comment [] = []
 behind_gap true (c ∷ cs) = behind_gap (not (is_line_feed c)) cs
@@ -26,8 +26,8 @@ pub record IsLine (text : List ℕ) (count : ℕ) : Type 0 where
   pub in_line : (k : ℕ) → k < count → is_line_feed (slice_index text k) ≡ false
   pub ends : count < length text → is_line_feed (slice_index text count) ≡ true
 
--- the first list holds only spaces and whole comments, where the second comes behind it: a comment that
--- no line feed ends has nothing behind it
+-- the first list holds only spaces and whole comments, where the second comes after it: a comment that
+-- no line feed ends has nothing after it
 abbrev pub IsGap : Bool → List ℕ → List ℕ → Type 0
 IsGap false [] rest = Unit {0}
 IsGap true [] rest = rest ≡ []

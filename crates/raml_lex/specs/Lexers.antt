@@ -19,7 +19,7 @@ pub record Lexer : Type 0 where
   -- the fault that was met
   pub fault : Option LexFault
 
--- the place of what stands at the front, behind its spaces and comments
+-- the place of what stands at the front, after its spaces and comments
 abbrev pub next_place : Lexer → Place
 next_place x = place_after (x.before ++ gap_of false x.rest)
 
@@ -27,7 +27,7 @@ next_place x = place_after (x.before ++ gap_of false x.rest)
 -- before, with only spaces and comments between
 pub record Found (old : Lexer) (t : Token) (new : Lexer) : Type 0 where
   pub no_fault : old.fault ≡ None
-  -- it is the token that stands at the front, and what comes behind it is left
+  -- it is the token that stands at the front, and what comes after it is left
   pub step : step_of old.greatest old.rest ≡ token (tok_of t.kind t.text.now) new.rest
   pub some : 0 < length t.text.now
   -- where its text stands

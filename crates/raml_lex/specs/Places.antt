@@ -8,7 +8,7 @@ use Rattle.meta_base.specs.Bytes.{is_line_feed}
 abbrev pub FitsPlace : ℕ → Type 0
 FitsPlace n = n < 2 ^ 32
 
--- the place behind these bytes: one line more than they have line feeds, one column more than the bytes
+-- the place after these bytes: one line more than they have line feeds, one column more than the bytes
 -- since the last of those
 abbrev pub place_after : List ℕ → Place
 place_after before = record { line = 1 + count_by is_line_feed before; column = 1 + suffix_len (λ c. not (is_line_feed c)) before }

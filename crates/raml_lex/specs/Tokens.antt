@@ -21,7 +21,7 @@ pub data Tok : Type 0 where
   less : Tok
   arrow : Tok
 
--- what stands at the front: nothing, a fault, or a token and what comes behind it
+-- what stands at the front: nothing, a fault, or a token and what comes after it
 pub data Step : Type 0 where
   end : Step
   bad : LexKind → Step
@@ -31,7 +31,7 @@ pub data Step : Type 0 where
 abbrev pub number_at : ℕ → List ℕ → List ℕ → Step
 number_at greatest digits rest = if nat_le (number_from 0 digits) greatest then token (number (number_from 0 digits)) rest else bad NumberTooLarge
 
--- a mark of two bytes, behind the first
+-- a mark of two bytes, after the first
 abbrev pub pair_at : ℕ → Tok → List ℕ → Step
 pair_at second t [] = bad BadByte
 pair_at second t (c ∷ cs) = if c == second then token t cs else bad BadByte

@@ -21,7 +21,7 @@ pub fn word_len(text: &[u8]) -> usize
     len
 }
 
-// The number with one more digit behind it, if it is at most the greatest.
+// The number with one more digit after it, if it is at most the greatest.
 fn with_digit(number: u64, digit: u8, greatest: u64) -> Option<u64>
     requires { digit < 10 }
     ensures { result ≡ at_most greatest (10 * number + digit) }

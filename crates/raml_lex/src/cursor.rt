@@ -6,7 +6,7 @@ ghost use Rattle.raml_lex.specs.Sources.{place_at};
 use meta_base::Place;
 
 // How many bytes of the source were taken, the line there, and how many bytes stand before that line. The
-// column is told by these, so no byte of a gap is counted.
+// column follows from these, so no byte of a gap is counted.
 #[derive(Clone, Copy, Debug)]
 pub struct Cursor {
     pub at: usize,
@@ -50,7 +50,7 @@ impl Cursor {
         }
     }
 
-    // Behind a line feed.
+    // After a line feed.
     pub fn on_next_line(self) -> Cursor
         requires byte { FitsPlace (self.at + 1) }
         requires line { FitsPlace (self.line + 1) }

@@ -61,7 +61,7 @@ fn line_feeds(bytes: &[u8]) -> u32
     count
 }
 
-// Behind these bytes, which stand there.
+// After these bytes, which stand there.
 fn behind_bytes(source: &[u8], here: Cursor, bytes: &[u8]) -> Cursor
     requires cursor { IsCursor source.now here }
     requires bytes { take (length bytes.now) (drop here.at source.now) ≡ bytes.now }
@@ -79,7 +79,7 @@ fn behind_bytes(source: &[u8], here: Cursor, bytes: &[u8]) -> Cursor
     }
 }
 
-// Behind all whole blocks of spaces that stand from here on.
+// After all whole blocks of spaces that stand from here on.
 fn behind_blocks(source: &[u8], from: Cursor) -> Cursor
     requires { IsCursor source.now from }
     ensures cursor { IsCursor source.now result }

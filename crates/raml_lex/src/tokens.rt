@@ -14,7 +14,7 @@ use std::marker::Model;
 #[derive(Debug, Drop)]
 pub struct Tokens<'a> {
     source: &'a [u8],
-    // Where it stands, behind the bytes that were taken.
+    // Where it stands, after the bytes that were taken.
     here: Cursor,
     greatest: u64,
     fault: Option<LexFault>,
@@ -57,7 +57,7 @@ impl<'a> Tokens<'a> {
         }
     }
 
-    /// The place behind the bytes that were taken: once `next` has answered `None`, just past the last
+    /// The place after the bytes that were taken: once `next` has answered `None`, just past the last
     /// byte of the source.
     pub fn place(&self) -> Place
         ensures { result ≡ place_after self.now.before }

@@ -24,7 +24,7 @@ lexes_begin greatest before (t ∷ ts) text s e l =
     let more = lexes_begin greatest (before ++ t ∷ []) ts l.0 (settled_more before t s) (s (t ∷ []) ∙ e) l.2 in
     (more.0, (l.0, ap (λ g. step_of g text) e ∙ l.1, more.1), more.2)
 
--- the second list goes on behind the first, which ends here
+-- the second list goes on after the first, which ends here
 abbrev pub GoesBeyond : List Tok → List Tok → List ℕ → List Tok → Type 0
 GoesBeyond before ts at us = (t : Tok) × (rest : List ℕ) × (more : List Tok) × (us ≡ ts ++ t ∷ more) × (step_of (greatest_behind (before ++ ts)) at ≡ token t rest)
 

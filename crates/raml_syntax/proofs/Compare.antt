@@ -17,7 +17,7 @@ pub diverging_differ : {xs ys : List Mark} → Diverges xs ys → (y z : List To
 diverging_differ (here n) y z h = n cc
 diverging_differ (next d) y z h = diverging_differ d y z cc
 
--- they stay so behind the same marks
+-- they stay so after the same marks
 pub behind : (ps : List Mark) {xs ys : List Mark} → Diverges xs ys → Diverges (ps ++ xs) (ps ++ ys)
 behind [] d = d
 behind (p ∷ ps) d = next (behind ps d)
@@ -60,15 +60,15 @@ pub compared_then : {A P : Type 0} (f g : A → List Mark) (l xs ys : List Mark)
 compared_then {P} f g l xs ys a b c d =
     subst₂ (λ u v. Compared ((a ≡ b) × P) u v) (sym (append_assoc (f a) l xs)) (sym (append_assoc (f b) (g b) ys)) (then_joined f (λ x. g x ++ ys) (l ++ xs) a b c d)
 
--- marks in two parts, and what comes behind
+-- marks in two parts, and what comes after
 pub compared_joined : {P : Type 0} (us l xs vs r ys : List Mark) → Compared P (us ++ (l ++ xs)) (vs ++ (r ++ ys)) → Compared P ((us ++ l) ++ xs) ((vs ++ r) ++ ys)
 compared_joined {P} us l xs vs r ys c = subst₂ (λ u v. Compared P u v) (sym (append_assoc us l xs)) (sym (append_assoc vs r ys)) c
 
--- with nothing behind
+-- with nothing after
 pub compared_whole : {P : Type 0} (xs ys : List Mark) → Compared P (xs ++ []) (ys ++ []) → Compared P xs ys
 compared_whole {P} xs ys c = subst₂ (λ u v. Compared P u v) (append-nil xs) (append-nil ys) c
 
--- words and numbers are told apart
+-- words and numbers are distinct
 pub which_word : (w v : List ℕ) → (w ≡ v) ⊎ (word w ≡ word v → ⊥)
 which_word w v = by (bytes_eq w v) refl
   where

@@ -35,7 +35,7 @@ use Rattle.raml_syntax.proofs.Expressions as form
 use Rattle.raml_syntax.proofs.TestLaws.{same_carrier, carrier_self}
 use Rattle.raml_syntax.proofs.Behind.{nothing_possible, reads_nothing, behind_determined, behind_possible}
 
--- The parts of what stands behind a head, and what they make.
+-- The parts of what stands after a head, and what they make.
 
 behind_is : {R : Type 0} (t : Tok) (P : R → List Mark → Type 0) (r : R) (ms : List Mark) → Behind t P r ms → (xs : List Mark) × P r xs × (ms ≡ plain t ∷ xs)
 behind_is t P r ms (u, xs, ys, p, q, e) = (ys, q, e ∙ ap (λ l. l ++ ys) p)
@@ -65,7 +65,7 @@ last_at f n = (n, last_number n (f n) ∷ [], plain right_paren ∷ [], refl, be
 closed_is : (k : Paired) (a b c : Expression) (ms : List Mark) → Closed k a b c ms → (c ≡ paired_meaning k a b) × (ms ≡ closing k a b ∷ [])
 closed_is k a b c ms (u, xs, ys, p, q, e) = (q.0, joined ms xs ys (closing k a b ∷ []) [] e p q.1)
 
--- An expression from its head and what stands behind it.
+-- An expression from its head and what stands after it.
 
 put_head : (ds : List Definition) (n : ℕ) (d : Head) (r : Expression) (ms : List Mark) → Tail ds (n + 1) d r ms → Expr ds n r (counted_to (n + 1) (head_word d) ∷ ms)
 put_head ds n h.Add r ms t =
@@ -195,7 +195,7 @@ word_form h.Table = head_first (some_of h.Table) (some_is h.Table)
 word_form (h.Paired k) = head_first (some_of (h.Paired k)) (some_is (h.Paired k))
 word_form (h.Single k) = head_first (some_of (h.Single k)) (some_is (h.Single k))
 
--- what stands behind the head of a tree of this form
+-- what stands after the head of a tree of this form
 abbrev BehindHead : List Definition → ℕ → Head → Syntax → Type 0
 BehindHead ds n d s = (xs : List Mark) × Tail ds (n + 1) d (meaning ds s) xs × (marks ds n s ≡ counted_to (n + 1) (head_word d) ∷ xs)
 
@@ -345,7 +345,7 @@ pub map_same : {R : Type 0} (result : Result R AlgError) → map_ok (λ (r : R).
 map_same (Ok r) = refl
 map_same (Err e) = refl
 
--- a head, and what stands behind it
+-- a head, and what stands after it
 pub head_then : (ds : List Definition) (n : ℕ) (d : Head) (old mid new : Lexer) (result : Result Expression AlgError) → n + 1 ≤ MAX_TREE_NODES → TakesOne (word (head_word d)) old mid
     → Reads (Tail ds (n + 1) d) mid result new → Reads (Expr ds n) old result new
 head_then ds n d old mid new result room takes x =
@@ -375,7 +375,7 @@ name_reads ds n w p old new (Err (Bad f)) is takes x =
     (record { syntax = named w; is_syntax = is; means = refl; marks = ap (λ m. m ∷ []) (sym (name_is n w (lookup ds w) (Some f.kind) x.1)) }) takes)
 name_reads ds n w p old new (Err NoMemory) is takes x = tt
 
--- The parenthesis behind two parts.
+-- The parenthesis after two parts.
 
 closing_tok : (k : Paired) (a b : Expression) → (closing k a b).tok ≡ right_paren
 closing_tok lex_head a b = refl
@@ -417,13 +417,13 @@ same_test false c d h = by (is_same_carrier c d) refl
     by false e = sym e
     by true e = absurd (false≢true (h.1 (same_carrier c d e)))
 
--- the fault at the parenthesis behind a `plus`
+-- the fault at the parenthesis after a `plus`
 pub plus_test : (b : Bool) (a c : Expression) → ((b ≡ true) ↔ (carrier_of a ≡ carrier_of c)) → (if b then None else Some CarriersDiffer) ≡ (closing plus_head a c).fault
 plus_test b a c h = ap (λ v. if v then None else Some CarriersDiffer) (same_test b (carrier_of a) (carrier_of c) h)
 
 -- Operators and their parts.
 
--- what stands behind the first of two parts
+-- what stands after the first of two parts
 abbrev Second : List Definition → ℕ → Paired → Expression → Expression → List Mark → Type 0
 Second ds n k a = Then (Behind comma (Expr ds (n + node_count a))) (Closed k a)
 

@@ -37,7 +37,7 @@ compare_rests ds (l ∷ ls) s (k ∷ ks) t xs ys p i q j =
     (compare_ended ds l.body k.body _ _ p.0 q.0)
     (compare_rests (with_let ds l) ls s ks t xs ys p.1 i q.1 j)))))
 
--- the rests of two files, each behind a header if it has one
+-- the rests of two files, each after a header if it has one
 compare_headed : (h : Option ℕ) (ls : List LetSyntax) (s : Syntax) (k : Option ℕ) (ks : List LetSyntax) (t : Syntax) (xs ys : List Mark) → AreLets ls → IsSyntax s → AreLets ks → IsSyntax t
     → Compared ((h ≡ k) × ((ls ≡ ks) × (s ≡ t))) ((header_marks h ++ rest_marks [] ls s) ++ xs) ((header_marks k ++ rest_marks [] ks t) ++ ys)
 compare_headed None ls s None ks t xs ys p i q j = compared_map (λ e. (refl, e)) (compare_rests [] ls s ks t xs ys p i q j)

@@ -36,7 +36,7 @@ pub extends_planted : {R E : Type 0} (r : Result R E) (old new : List Expression
 extends_planted (Ok id) old new a h g = subst (Extends old) (sym h) (extends_behind old a)
 extends_planted (Err e) old new a h g = subst (Extends old) (sym g) (extends_self old)
 
--- the trees before entries are there behind them
+-- the trees before entries are there after them
 extends_from : (ts : List Expression) (es : List Entry) → Extends ts (trees_from ts es)
 extends_from ts [] = extends_self ts
 extends_from ts (e ∷ es) =
@@ -56,7 +56,7 @@ same_meaning old new (n.Base tree) x h = refl
 same_meaning old new (n.Paired k a b) x h = ap₂ (paired_meaning (paired_of k)) (x.same a h.0) (x.same b h.1)
 same_meaning old new (n.Single k a) x h = ap (single_meaning (single_of k)) (x.same a h)
 
--- the tree behind these
+-- the tree after these
 stands_first : (ts : List Expression) (e : Entry) (es : List Entry) → IsEntry ts e → StandsAt (trees_from ts (e ∷ es)) (record { number = length ts }) e
 stands_first ts e es i =
     let a = node_meaning ts e.node in

@@ -49,7 +49,7 @@ passes : (t : Tok) (k : ExprKind) (b : Bool) → (tested t k b).fault ≡ None �
 passes t k true h = refl
 passes t k false h = absurd (let e : Some k ≡ None = h in cc)
 
--- the expression meets the rules, behind so many nodes
+-- the expression meets the rules, after so many nodes
 pub record Meets (greatest nodes : ℕ) (a : Expression) : Type 0 where
   pub ranges : MeetsRanges a
   pub carriers : MeetsCarriers a
@@ -85,14 +85,14 @@ base_facts (guard n) b = (tt, tt, refl)
 base_facts gate b = (tt, tt, refl)
 base_facts _ b = absurd b
 
--- a name of a value or a row that no fault stands at, behind those names
+-- a name of a value or a row that no fault stands at, after those names
 pub record IsOwn (before : List (List ℕ)) (w : List ℕ) : Type 0 where
   pub is_text : is_word w ≡ true
   pub no_none : is_none w ≡ false
   pub fresh : is_among before w ≡ false
   pub room : length before + 1 ≤ MAX_TABLE_NAMES
 
--- each has such a name, behind those and those before it
+-- each has such a name, after those and those before it
 module _ {X : Type 0} (name_of : X → List ℕ) where
   abbrev AreOwn : List (List ℕ) → List X → Type 0
   AreOwn before [] = Unit {0}
@@ -293,7 +293,7 @@ module _ (greatest : ℕ) where
   single_meets nodes left_head a p = record { ranges = p.ranges; carriers = p.carriers; names = p.names; bound = p.bound; size = omega (arith, p.size) }
   single_meets nodes right_head a p = record { ranges = p.ranges; carriers = p.carriers; names = p.names; bound = p.bound; size = omega (arith, p.size) }
 
-  -- a tree without a fault, behind so many nodes
+  -- a tree without a fault, after so many nodes
   pub meets : (ds : List Definition) (nodes : ℕ) (s : Syntax) → AreFormed greatest ds → AreClean greatest (marks ds nodes s) → Meets greatest nodes (meaning ds s)
   meets ds nodes (named w) f h = name_meets nodes w (lookup ds w) (lookup_formed ds w f) h.0.0
   meets ds nodes (add_syntax low high) f h =
@@ -316,7 +316,7 @@ module _ (greatest : ℕ) where
       (clean_back second (close ∷ []) behind).0.0
   meets ds nodes (single k a) f h = single_meets nodes k (meaning ds a) (meets ds (nodes + 1) a f (clean_front (marks ds (nodes + 1) a) (plain right_paren ∷ []) h.1.1))
 
-  -- what meets the rules behind no nodes is formed
+  -- what meets the rules after no nodes is formed
   formed_of : (a : Expression) → Meets greatest 0 a → IsFormedTo greatest a
   formed_of a m = (record { ranges = m.ranges; carriers = m.carriers; size = omega (arith, m.size); names = m.names }, m.bound)
 
@@ -338,7 +338,7 @@ front_passes : (p : ℕ → Bool) (cs : List ℕ) → list_all p (front p cs) �
 front_passes p [] = refl
 front_passes p (c ∷ cs) = cond_both (p c) (c ∷ front p cs) [] (λ l. list_all p l ≡ true) (λ e. and_from (p c) (list_all p (front p cs)) e (front_passes p cs)) (λ e. refl)
 
--- a letter and the bytes of a word behind it are a word
+-- a letter and the bytes of a word after it are a word
 word_front : (c : ℕ) (cs : List ℕ) → is_letter c ≡ true → is_word (front is_word_byte (c ∷ cs)) ≡ true
 word_front c cs h =
     subst (λ b. is_word (cond b (c ∷ front is_word_byte cs) []) ≡ true) (sym (or_left (is_letter c) (is_digit c) h))

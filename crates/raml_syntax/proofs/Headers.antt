@@ -87,7 +87,7 @@ profile_marks edition ms (n, ns, ws, hn, (u, cs, vs, c, d, e2), e) =
 profile_from : (n : ℕ) → Profile (edition_of (Some n)) (header_number n ∷ plain semicolon ∷ [])
 profile_from n = (n, header_number n ∷ [], plain semicolon ∷ [], refl, (tt, plain semicolon ∷ [], [], refl, (refl, refl), refl), refl)
 
--- no number stands behind the word
+-- no number stands after the word
 pub profile_lacks : (old new : Lexer) (e : AlgError) → IsRefusal LacksNumber old e → Reads Profile old (Err e) new
 profile_lacks old new e l = reads_not_first (One header_number) Ended old new e ended_possible (one_lacks_number header_number 0 0 e old new refl (λ n. (n, refl)) l)
 
@@ -169,7 +169,7 @@ fault_in_edition : (edition : Edition) (P : Expression → List Mark → Type 0)
 fault_in_edition edition P front step k f =
     fault_inside P (InEdition edition P) (alg_in edition) [] front step k (λ r ms p. (refl, p)) (λ s ms y z q h. (s.expression, ms, q.1, refl)) f
 
--- behind the first word
+-- after the first word
 fault_opened : (x : Opening) (ts front : List Tok) (step : Step) (k : ExprKind) → Starts x (clean ts) → FaultAt (Opened x) front step k → FaultAt File (ts ++ front) step k
 fault_opened x ts front step k s f = fault_in_file (ts ++ front) step k (fault_second Starts Opened x ts front step k starts_determined s f)
 
@@ -179,7 +179,7 @@ fault_header ts front step k s f =
     fault_opened o.Header ts front step k s
     (fault_first Profile (λ edition. InEdition edition (Rest [])) front step k (λ edition. in_possible edition (Rest []) (rest_possible [])) f)
 
--- behind a header
+-- after a header
 fault_headed : (edition : Edition) (ts us front : List Tok) (step : Step) (k : ExprKind) → Starts o.Header (clean ts) → Profile edition (clean us) → FaultAt (Rest []) front step k
     → FaultAt File (ts ++ (us ++ front)) step k
 fault_headed edition ts us front step k s p f =
@@ -257,7 +257,7 @@ fault_taken text front at f h p s = record {
   shows = inl (subst (λ g. FaultAt File front (step_of g at.rest) f.kind) h.greatest s);
 }
 
--- a front behind which a fault stands is shorter than what the production takes
+-- a front after which a fault stands is shorter than what the production takes
 front_shorter : {R : Type 0} (P : R → List Mark → Type 0) (n : ℕ) (front : List Tok) (step : Step) (k : ExprKind) → ((r : R) (ms : List Mark) → P r ms → length ms ≡ n) → FaultAt P front step k → length front + 1 ≤ n
 front_shorter {R} P n front step k long = by step
   where
@@ -305,7 +305,7 @@ header_broken text (Bad f) old mid new s x y =
     (fault_header x.0 y.front step f.kind x.1 y.shows)
 header_broken text NoMemory old mid new s x y = tt
 
--- statements were read behind these tokens, or not
+-- statements were read after these tokens, or not
 reads_on : (text : List ℕ) (edition : Edition) (P : Expression → List Mark → Type 0) (ts : List Tok) (now new : Lexer) (result : Result Expression AlgError)
     → HasTaken text ts now → IsSettled ts
     → ((a : Expression) (us : List Tok) → P a (clean us) → File (alg_in edition a) (clean (ts ++ us)))
@@ -380,14 +380,14 @@ headed_reads text edition old mid now new result s x y z =
     (λ front step k f. subst (λ l. FaultAt File l step k) (sym (append_assoc x.0 y.0 front)) (fault_headed edition x.0 y.0 front step k x.1 y.1 f))
     z
 
--- no statement begins behind the header
+-- no statement begins after the header
 pub headed_lacks : (text : List ℕ) (edition : Edition) (e : AlgError) (old mid now new : Lexer) → old ≡ start text → Reads Starts old (Ok o.Header) mid → Reads Profile mid (Ok edition) now
     → Reads Opens (record now { greatest = greatest_number edition }) (Err e) new → IsAlgError text e
 headed_lacks text edition e old mid now new s x y z =
     headed_reads text edition old mid now new (Err e) s x y
     (rest_read [] (record now { greatest = greatest_number edition }) new (Err e) (reads_not_first Opens (Statement []) (record now { greatest = greatest_number edition }) new e (statement_possible []) z))
 
--- a statement begins behind the header
+-- a statement begins after the header
 pub headed_leads : (text : List ℕ) (edition : Edition) (key : Keyword) (old mid now at : Lexer) → old ≡ start text → Reads Starts old (Ok o.Header) mid → Reads Profile mid (Ok edition) now
     → Reads Opens (record now { greatest = greatest_number edition }) (Ok key) at → LeadsText text edition key at
 headed_leads text edition key old mid now at s x y z result new w =

@@ -157,7 +157,7 @@ maps_determined names = then_determined (One (first_mark names)) _ (first_determ
 pub maps_possible : (names : List (List ℕ)) → IsPossible (Maps names)
 maps_possible names = then_possible (One (first_mark names)) _ ([], first_mark names [] ∷ [], refl) (λ w. behind_first_possible names w (is_none w))
 
--- what follows a mark behind a map
+-- what follows a mark after a map
 abbrev pub BehindMap : List (List ℕ) → List MapSyntax → AfterMap → List MapSyntax × AfterRow → List Mark → Type 0
 BehindMap names done after.Map = Then (One (source_mark names (sources done))) (λ w. Then (Target names w) (λ m. MoreMaps names (done ++ m ∷ [])))
 BehindMap names done (after.Behind a) = Nothing (done, a)
@@ -212,7 +212,7 @@ behind_possible names done after.Map =
     (λ w. then_possible (Target names w) _ (target_possible names w) (λ m. more_possible names (done ++ m ∷ [])))
 behind_possible names done (after.Behind a) = ((done, a), [], (refl, refl))
 
--- no mark stands behind a map
+-- no mark stands after a map
 pub more_no_mark : (names : List (List ℕ)) (done : List MapSyntax) (old new : Lexer) (e : AlgError) → Reads (One after_map) old (Err e) new → Reads (MoreMaps names done) old (Err e) new
 more_no_mark names done old new e x =
     reads_same _ (MoreMaps names done) old new (Err e) (more_put names done) (more_back names done) (reads_not_first (One after_map) (BehindMap names done) old new e (behind_possible names done) x)
@@ -248,7 +248,7 @@ maps_none names w old mid new a e takes x =
     maps_behind_none names w old mid new (Ok ([], a)) e takes
     (reads_then (One after_row) NothingThen mid new new a (Ok ([], a)) row_determined x ([], (refl, refl), refl))
 
--- and no mark behind the row
+-- and no mark after the row
 pub maps_none_bad : (names : List (List ℕ)) (w : List ℕ) (old mid new : Lexer) (e : AlgError)
     → is_none w ≡ true → TakesOne (word w) old mid → Reads (One after_row) mid (Err e) new → Reads (Maps names) old (Err e) new
 maps_none_bad names w old mid new e none takes x =
@@ -280,7 +280,7 @@ maps_first_bad names w p old mid new e none takes x =
 source_possible : (names : List (List ℕ)) (done : List MapSyntax) (w : List ℕ) → IsPossible (Then (Target names w) (λ m. MoreMaps names (done ++ m ∷ [])))
 source_possible names done w = then_possible (Target names w) _ (target_possible names w) (λ m. more_possible names (done ++ m ∷ []))
 
--- no word stands behind a comma
+-- no word stands after a comma
 pub more_no_source : (names : List (List ℕ)) (done : List MapSyntax) (old mid new : Lexer) (e : AlgError)
     → Reads (One after_map) old (Ok after.Map) mid → IsRefusal (Lacks IsWord) mid e → Reads (MoreMaps names done) old (Err e) new
 more_no_source names done old mid new e x y =
@@ -325,7 +325,7 @@ TargetName names source = Then (One (target_mark names)) (MapTo source)
 map_possible : (source target : List ℕ) → IsPossible (MapTo source target)
 map_possible source target = (record { source = source; target = target }, [], (refl, refl))
 
--- no arrow stands behind a source
+-- no arrow stands after a source
 pub target_no_arrow : (names : List (List ℕ)) (source : List ℕ) (old new : Lexer) (e : AlgError) → IsRefusal (Lacks (IsTok arrow)) old e → Reads (Target names source) old (Err e) new
 target_no_arrow names source old new e x =
     reads_not_first (One arrow_mark) (λ _. TargetName names source) old new e
@@ -350,7 +350,7 @@ target_good names source target old mid new takes x =
     let m : MapSyntax = record { source = source; target = target } in
     target_then names source old mid new (Ok m) takes (reads_then (One (target_mark names)) (MapTo source) mid new new target (Ok m) (target_name_determined names) x (reads_nothing m new))
 
--- what reading a map behind these ones says
+-- what reading a map after these ones says
 abbrev pub IsRead : List (List ℕ) → List ℕ → Place → Lexer → Result MapSyntax AlgError → Lexer → List MapSyntax → Type 0
 IsRead names w p old result new ms = ReadsBehind (is_among names w && not (is_among (sources ms) w)) p (Target names w) old result new
 

@@ -36,12 +36,12 @@ same_back v w = by (bytes_eq v w) (bytes_eq w v) refl refl
     by true false p q = absurd (true≢false (sym ((bytes_eq-Decides w v).1 (sym ((bytes_eq-Decides v w).0 p))) ∙ q))
     by false true p q = absurd (true≢false (sym ((bytes_eq-Decides v w).1 (sym ((bytes_eq-Decides w v).0 q))) ∙ p))
 
--- the definitions behind those of the entries
+-- the definitions after those of the entries
 apart_behind : (ts : List Expression) (es : List Entry) (ds : List Definition) → AreApart (latest_first ts es ds) → AreApart ds
 apart_behind ts [] ds h = h
 apart_behind ts (e ∷ es) ds h = (apart_behind ts es (record { name = e.0.now; expression = tree_at ts e.1 } ∷ ds) h).1
 
--- a name that is defined behind the entries is none of theirs
+-- a name that is defined after the entries is none of theirs
 not_found : (ts : List Expression) (es : List Entry) (ds : List Definition) (w : List ℕ) → AreApart (latest_first ts es ds) → is_among (names_of ds) w ≡ true → found ts es w ≡ None
 not_found ts [] ds w h m = refl
 not_found ts (e ∷ es) ds w h m =
@@ -97,7 +97,7 @@ pub has_entry : (ts : List Expression) (es : List Entry) (w : List ℕ) → AreA
 has_entry ts es w h =
     sym (some_mapped (tree_at ts) (entry_of (has_key w) es)) ∙ ap is_some (sym (lookup_entries ts es w h)) ∙ sym (among_lookup (latest_first ts es []) w)
 
--- an entry behind the others is the latest definition
+-- an entry after the others is the latest definition
 latest_last : (ts : List Expression) (es : List Entry) (e : Entry) (ds : List Definition) → latest_first ts (es ++ e ∷ []) ds ≡ record { name = e.0.now; expression = tree_at ts e.1 } ∷ latest_first ts es ds
 latest_last ts [] e ds = refl
 latest_last ts (x ∷ es) e ds = latest_last ts es e (record { name = x.0.now; expression = tree_at ts x.1 } ∷ ds)

@@ -17,7 +17,7 @@ use Rattle.raml_syntax.proofs.Compare.{Diverges, here, next, Compared, same, apa
 use Rattle.raml_syntax.proofs.Beginnings.{GoesBeyond, two_begin}
 use Rattle.raml_syntax.proofs.Files.{compare_files, file_determined}
 
--- behind the same marks stand the same token and the same fault, where the tokens agree
+-- after the same marks stand the same token and the same fault, where the tokens agree
 agree : {xs ys : List Mark} → Diverges xs ys → (front : List Mark) (x y : Mark) (more others : List Mark) → xs ≡ front ++ x ∷ more → ys ≡ front ++ y ∷ others → x.tok ≡ y.tok → x ≡ y
 agree (here {x = u} {y = v} n) [] x y more others e f h =
     let a : u ≡ x = cc in
@@ -33,7 +33,7 @@ agree (next {x = u} d) [] x y more others e f h =
     sym a ∙ b
 agree (next d) (p ∷ front) x y more others e f h = agree d front x y more others (cc) (cc) h
 
--- what stands behind the same marks is the same
+-- what stands after the same marks is the same
 cancel_marks : (front xs ys : List Mark) → front ++ xs ≡ front ++ ys → xs ≡ ys
 cancel_marks [] xs ys e = e
 cancel_marks (m ∷ front) xs ys e = cancel_marks front xs ys cc
@@ -48,11 +48,11 @@ files_agree a b front x y more others p q h = by (compare_files p.syntax q.synta
         cc
     by (apart d) = agree d front x y more others (sym p.marks) (sym q.marks) h
 
--- the tokens of marks behind a front
+-- the tokens of marks after a front
 toks_behind : (front : List Tok) (m : Mark) (more : List Mark) → toks (clean front ++ m ∷ more) ++ [] ≡ front ++ m.tok ∷ toks more
 toks_behind front m more = append-nil (toks (clean front ++ m ∷ more)) ∙ toks-append (clean front) (m ∷ more) ∙ ap (λ l. l ++ m.tok ∷ toks more) (toks-clean front)
 
--- behind a whole file nothing goes on
+-- after a whole file nothing goes on
 whole_ends : (front : List Tok) (a b : PureAlg) (m : Mark) (more : List Mark) → File a (clean front) → File b (clean front ++ m ∷ more) → ⊥
 whole_ends front a b m more p q =
     let e = file_determined a b (clean front) (clean front ++ m ∷ more) (m.tok ∷ toks more) [] p q (sym (toks-append (clean front) (m ∷ more)) ∙ sym (append-nil (toks (clean front ++ m ∷ more)))) in
@@ -85,7 +85,7 @@ fault_goes front (bad lex.NumberTooLarge) k (inl (inr s)) = (s.1.0, s.1.1 ∷ s.
 fault_goes front (token t rest) k (inl (inl s)) = (s.0, record { tok = t; fault = Some k } ∷ s.1, s.2)
 fault_goes front (token t rest) k (inl (inr s)) = (s.1.0, s.1.1 ∷ s.1.2, s.1.3)
 
--- so a front that is taken further has no fault behind it
+-- so a front that is taken further has no fault after it
 no_fault_within : (front all more : List Tok) (t : Tok) (rest : List ℕ) (k : ExprKind) → all ≡ front ++ t ∷ more → Goes all → Stands front (token t rest) k → ⊥
 no_fault_within front all more t rest k e g s =
     let marks : clean all ++ g.1 ≡ clean front ++ plain t ∷ (clean more ++ g.1) =
@@ -101,7 +101,7 @@ bad_byte front k (inr s) = s.1
 too_large_refused : (front : List Tok) (k l : ExprKind) → (k ≡ NumberTooLarge) × TakesNumber File front → (l ≡ Unexpected) × Begins File front × ((n : ℕ) → Refuses File front (number n)) → ⊥
 too_large_refused front k l s u = refused front (number s.1.1) s.1.0 s.1.2 s.1.3 (u.2 s.1.1) s.1.4 s.1.5
 
--- the same step behind the same front has one fault
+-- the same step after the same front has one fault
 same_kind : (front : List Tok) (step : Step) (k l : ExprKind) → Stands front step k → Stands front step l → k ≡ l
 same_kind front end k l (inl s) (inl u) = s.0 ∙ sym u.0
 same_kind front end k l (inl s) (inr u) = absurd u.1

@@ -38,7 +38,7 @@ pub off : (b : Bool) → not b ≡ true → b ≡ false
 off true e = sym e
 off false e = refl
 
--- a front of bytes that pass, and what comes behind it
+-- a front of bytes that pass, and what comes after it
 front_all : (p : ℕ → Bool) (w z : List ℕ) → list_all p w ≡ true → ends p z ≡ true → front p (w ++ z) ≡ w
 front_all p [] [] h e = refl
 front_all p [] (c ∷ z) h e = cond-false (p c) (c ∷ front p z) [] (off (p c) e)

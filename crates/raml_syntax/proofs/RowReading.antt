@@ -162,7 +162,7 @@ row_from names before r ms (s, is_row, means, marks) =
       marks,
     )
 
--- what follows a row and a mark behind it
+-- what follows a row and a mark after it
 abbrev pub BehindRow : List (List ℕ) → List TableRow → TableRow → AfterRow → List TableRow → List Mark → Type 0
 BehindRow names done row Row = MoreRows names (done ++ row ∷ [])
 BehindRow names done row End = Nothing (done ++ row ∷ [])

@@ -27,7 +27,7 @@ pub takes-append : (ts us : List Tok) (a b c : Lexer) → Takes ts a b → Takes
 takes-append [] us a b c p q = subst (λ x. Takes us x c) (sym p) q
 takes-append (t ∷ ts) us a b c p q = (p.0, p.1, takes-append ts us p.0 b c p.2 q)
 
--- what stands behind the same front is the same
+-- what stands after the same front is the same
 pub cancel : (ts y z : List Tok) → ts ++ y ≡ ts ++ z → y ≡ z
 cancel [] y z e = e
 cancel (t ∷ ts) y z e = cancel ts y z (cc)
@@ -168,7 +168,7 @@ put_refuses P W ts front t parts refuses s ms y z w h =
     let p = parts s ms y (front ++ t ∷ z) w all in
     refuses p.0 p.1 y z p.2 (cancel ts (toks p.1 ++ y) (front ++ t ∷ z) (sym (append_assoc ts (toks p.1) y) ∙ ap (λ l. l ++ y) (sym p.3) ∙ all))
 
--- a fault behind tokens that lead from one production into another, and into no third
+-- a fault after tokens that lead from one production into another, and into no third
 pub fault_inside : {R S : Type 0} (P : R → List Mark → Type 0) (W : S → List Mark → Type 0) (give : R → S) (ts front : List Tok) (next : Step) (k : ExprKind)
     → ((r : R) (ms : List Mark) → P r ms → W (give r) (clean ts ++ ms))
     → ((s : S) (ms : List Mark) (y z : List Tok) → W s ms → toks ms ++ y ≡ ts ++ z → (r : R) × (xs : List Mark) × P r xs × (toks ms ≡ ts ++ toks xs))

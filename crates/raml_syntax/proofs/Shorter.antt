@@ -1,4 +1,4 @@
--- What is left of a text is shorter behind each token.
+-- What is left of a text is shorter after each token.
 use Rattle.std.proofs.Common.{◌≡◌, ℕ, ◌<◌, ◌≤◌, ◌==◌, Bool, true, false, not, ◌||◌, cond, nat_le, List, [], ◌∷◌, length, Ok, arith, refl, ap, sym, subst}
 use Rattle.meta_base.specs.Bytes.{is_line_feed, is_space, is_digit, is_letter, is_word_byte, front, behind, number_from}
 use Rattle.meta_base.specs.declared.ids.Place.{Place}
@@ -10,7 +10,7 @@ use Rattle.raml_syntax.specs.Reading.{TakesOne, Takes}
 use Rattle.raml_syntax.specs.Sequences.{Reads}
 use Rattle.raml_syntax.specs.Tested.{ReadsBehind}
 
--- what is left behind the token, if there is one, has at most so many bytes
+-- what is left after the token, if there is one, has at most so many bytes
 abbrev pub LeavesAtMost : ℕ → Step → Type 0
 LeavesAtMost n end = Unit {0}
 LeavesAtMost n (bad k) = Unit {0}

@@ -75,7 +75,7 @@ body_marks ds a ms (b, ps, qs, p, (u, ss, ts, s, n, e2), e) =
 pub body_possible : (ds : List Definition) → IsPossible (Body ds)
 body_possible ds = (gate, marks ds 0 gate_syntax ++ plain semicolon ∷ [], body_from ds gate_syntax tt)
 
--- a `let` behind its word
+-- a `let` after its word
 
 -- what the definition of this name comes to
 abbrev pub defined : List Definition → List ℕ → Expression → List Definition
@@ -236,7 +236,7 @@ pub leads_on : (first key : Keyword) (old now mid new : Lexer) (ds es : List Def
 leads_on first key old now mid new ds es leads x y result last z =
     leads result last (reads_then (Let ds) Rest now mid last es result (let_determined ds) x (rest_read es mid last result (reads_then Opens (Statement es) mid new last key result begun_determined y z)))
 
--- a `let` was read, and no statement begins behind it
+-- a `let` was read, and no statement begins after it
 pub leads_lacking : (first : Keyword) (old now mid new : Lexer) (ds es : List Definition) (e : AlgError)
     → Leads first old ds k.Let now → Reads (Let ds) now (Ok es) mid → Reads Opens mid (Err e) new → Reads (Statement [] first) old (Err e) new
 leads_lacking first old now mid new ds es e leads x y =

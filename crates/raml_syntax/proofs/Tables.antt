@@ -11,7 +11,7 @@ use Rattle.raml_syntax.specs.Sequences.{IsDetermined}
 use Rattle.raml_syntax.specs.Trees.{Table}
 use Rattle.raml_syntax.proofs.Compare.{Diverges, here, Compared, same, apart, diverging_differ, compared_map, compared_next, compared_one, compared_then, compared_joined, compared_whole, which_word, words_apart}
 
--- `=` and `<` are told apart
+-- `=` and `<` are distinct
 which_rank : (a b : Bool) → (a ≡ b) ⊎ (rank_tok a ≡ rank_tok b → ⊥)
 which_rank true true = inl refl
 which_rank true false = inr (λ h. cc)
@@ -55,7 +55,7 @@ source_mark names before s = tested (word s) BadTable (is_among names s && not (
 abbrev target_mark : List (List ℕ) → List ℕ → Mark
 target_mark names t = tested (word t) BadTable (is_none t || is_among names t)
 
--- two lists of maps behind a first
+-- two lists of maps after a first
 compare_more : (names before : List (List ℕ)) (ms qs : List MapSyntax) (xs ys : List Mark) → EndsMaps xs → EndsMaps ys → Compared (ms ≡ qs) (more_map_marks names before ms ++ xs) (more_map_marks names before qs ++ ys)
 compare_more names before [] [] xs ys p r = same refl
 compare_more names before [] (q ∷ qs) xs ys p r = apart (ends_before xs _ p)

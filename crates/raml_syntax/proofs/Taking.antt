@@ -1,4 +1,4 @@
--- What a reader of tokens shows behind a call.
+-- What a reader of tokens shows after a call.
 use Rattle.std.proofs.Common.{◌≡◌, ℕ, false, List, [], ◌++◌, refl, sym, ap, ◌∙◌, append_assoc}
 use Rattle.raml_lex.specs.declared.token.Token.{Token}
 use Rattle.raml_lex.specs.Gaps.{gap_of}
@@ -26,7 +26,7 @@ takes_found old new t f = record {
 pub ready_found : (old new : Lexer) (t : Token) → IsReady old → Found old t new → IsReady new
 ready_found old new t r f = record { no_fault = f.still_none }
 
--- where nothing is left, the place behind all bytes is that of what stands next
+-- where nothing is left, the place after all bytes is that of what stands next
 pub place_ended : (old new : Lexer) → Ended old new → place_after new.before ≡ next_place old
 place_ended old new e = ap (λ x. place_after x.before) e.after ∙ ap (λ l. place_after (old.before ++ l)) (sym e.all)
 

@@ -73,7 +73,7 @@ behind_not_first P Q false p old new e possible x = let same : e ≡ Bad (record
 pub behind_no_memory : {R : Type 0} (P : R → List Mark → Type 0) (p : Place) (old new : Lexer) (e : AlgError) → e ≡ NoMemory → Reads P old (Err e) new
 behind_no_memory P p old new e same = subst (λ x. Reads P old (Err x) new) (sym same) tt
 
--- what isn't a word lacks a name
+-- what isn't a word has no name
 pub one_no_word : (f : List ℕ → Mark) (e : AlgError) (old new : Lexer) → ((w : List ℕ) → (f w).tok ≡ word w) → IsRefusal (Lacks IsWord) old e → Reads (One f) old (Err e) new
 one_no_word f e old new words x = one_lacks f [] IsWord e old new (λ w. (w, words w)) (λ n w. absurd (let k : number n ≡ word w.0 = w.1 in cc)) x
 

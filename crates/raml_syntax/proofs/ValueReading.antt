@@ -88,7 +88,7 @@ values_determined = then_determined (One (own_name [])) _ (name_determined []) (
 abbrev pub pushed : ValueList → List ℕ → ℕ → ValueList
 pushed done name rank = record { names = done.names ++ name ∷ []; ranks = done.ranks ++ rank ∷ [] }
 
--- what follows a mark behind a value
+-- what follows a mark after a value
 abbrev pub BehindValue : ValueList → ℕ → AfterValue → ValueList → List Mark → Type 0
 BehindValue done rank (after.Value is_tied) = Then (One (own_name done.names)) (λ name. MoreValues (pushed done name (rank_behind rank is_tied)) (rank_behind rank is_tied))
 BehindValue done rank after.Rows = Nothing done
@@ -150,7 +150,7 @@ pub values_no_name : (old new : Lexer) (before : List (List ℕ)) (e : AlgError)
 values_no_name old new before e none x =
     reads_not_first (One (own_name [])) _ old new e (λ first. more_possible (record { names = first ∷ []; ranks = 0 ∷ [] }) 0) (reads_at (λ l. One (own_name l)) before [] old new (Err e) none x)
 
--- no mark stands behind a value
+-- no mark stands after a value
 pub more_no_mark : (done : ValueList) (rank : ℕ) (old new : Lexer) (e : AlgError) → Reads (One after_value) old (Err e) new → Reads (MoreValues done rank) old (Err e) new
 more_no_mark done rank old new e x =
     reads_same _ (MoreValues done rank) old new (Err e) (more_put done rank) (more_back done rank) (reads_not_first (One after_value) (BehindValue done rank) old new e (behind_possible done rank) x)
@@ -164,7 +164,7 @@ more_behind done rank old mid new a result x y =
 pub more_end : (done : ValueList) (rank : ℕ) (old new : Lexer) → Reads (One after_value) old (Ok after.Rows) new → Reads (MoreValues done rank) old (Ok done) new
 more_end done rank old new x = more_behind done rank old new new after.Rows (Ok done) x (reads_nothing done new)
 
--- a rank and no name stand behind a value
+-- a rank and no name stand after a value
 pub more_no_name : (done : ValueList) (rank : ℕ) (old mid new : Lexer) (is_tied : Bool) (before : List (List ℕ)) (e : AlgError)
     → before ≡ done.names → Reads (One after_value) old (Ok (after.Value is_tied)) mid → Reads (One (own_name before)) mid (Err e) new → Reads (MoreValues done rank) old (Err e) new
 more_no_name done rank old mid new is_tied before e same x y =

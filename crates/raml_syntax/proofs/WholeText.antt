@@ -1,4 +1,4 @@
--- What was read of a text, and of what stands behind it, says what the text means or which fault it has.
+-- What was read of a text, and of what stands after it, says what the text means or which fault it has.
 use Rattle.std.proofs.Common.{◌≡◌, inr, ℕ, List, Ok, ◌∙◌, sym, ap, subst, arith}
 use Rattle.raml_lex.specs.Tokens.{end, step_of}
 use Rattle.raml_lex.specs.Lexers.{Lexer}
@@ -10,7 +10,7 @@ use Rattle.raml_syntax.specs.ExprText.{ExprText, Trails}
 use Rattle.raml_syntax.specs.Statements.{IsAlgError}
 use Rattle.raml_syntax.specs.Headers.{ReadsText}
 
--- a file was read, and nothing stands behind it
+-- a file was read, and nothing stands after it
 pub text_read : (text : List ℕ) (a : PureAlg) (at : Lexer) → ReadsText text (Ok a) at → step_of at.greatest at.rest ≡ end → ExprText text a
 text_read text a at x e = record {
   tokens = x.0;
@@ -20,7 +20,7 @@ text_read text a at x e = record {
   ended = ap (λ g. step_of g at.rest) (sym x.2.greatest) ∙ e;
 }
 
--- a file was read, and something stands behind it
+-- a file was read, and something stands after it
 pub text_trailed : (text : List ℕ) (a : PureAlg) (e : AlgError) (at : Lexer) → ReadsText text (Ok a) at → IsRefusal Trails at e → IsAlgError text e
 text_trailed text a (Bad f) at x r = record {
   front = x.0;

@@ -24,12 +24,12 @@ abbrev pub header_of : List Tok → Option ℕ
 header_of (t ∷ u ∷ v ∷ ts) = header_from t u v
 header_of _ = None
 
--- the greatest number that may stand next behind these tokens: that of profile 2 exactly where they begin
+-- the greatest number that may stand next after these tokens: that of profile 2 exactly where they begin
 -- with `raml`, 2 and `;`, and else that of profile 1
 abbrev pub greatest_behind : List Tok → ℕ
 greatest_behind before = greatest_number (edition_of (header_of before))
 
--- behind the tokens `before` the text begins with the tokens `ts`, and the rest is left
+-- after the tokens `before` the text begins with the tokens `ts`, and the rest is left
 abbrev pub BeginsWith : List Tok → List Tok → List ℕ → List ℕ → Type 0
 BeginsWith before [] text rest = text ≡ rest
 BeginsWith before (t ∷ ts) text rest =
@@ -39,12 +39,12 @@ BeginsWith before (t ∷ ts) text rest =
 pub record ExprText (text : List ℕ) (a : PureAlg) : Type 0 where
   pub tokens : List Tok
   pub file : File a (clean tokens)
-  -- the bytes behind the last of them, where no other stands
+  -- the bytes after the last of them, where no other stands
   pub rest : List ℕ
   pub lexed : BeginsWith [] tokens text rest
   pub ended : step_of (greatest_behind tokens) rest ≡ end
 
--- what comes behind a whole file is at fault
+-- what comes after a whole file is at fault
 abbrev pub Trails : Step → ExprKind → Type 0
 Trails end k = ⊥
 Trails (bad fault) k = k ≡ kind_of fault
@@ -54,18 +54,18 @@ Trails (token t rest) k = k ≡ TrailingText
 abbrev pub IsWhole : List Tok → Type 0
 IsWhole front = (a : PureAlg) × File a (clean front)
 
--- what comes next behind the front is at fault
+-- what comes next after the front is at fault
 abbrev pub Stands : List Tok → Step → ExprKind → Type 0
 Stands front step k = FaultAt File front step k ⊎ (IsWhole front × Trails step k)
 
 -- the text means no algebra, and this is its first fault
 pub record IsExprFault (text : List ℕ) (f : ExprFault) : Type 0 where
   pub front : List Tok
-  -- the bytes up to the end of the front, and those behind it
+  -- the bytes up to the end of the front, and those after it
   pub passed : List ℕ
   pub rest : List ℕ
   pub split : text ≡ passed ++ rest
   pub lexed : BeginsWith [] front text rest
-  -- the place of what comes next, behind spaces and comments
+  -- the place of what comes next, after spaces and comments
   pub place : f.place ≡ place_after (passed ++ gap_of false rest)
   pub shows : Stands front (step_of (greatest_behind front) rest) f.kind

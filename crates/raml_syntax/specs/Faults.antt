@@ -5,7 +5,7 @@ use Rattle.raml_lex.specs.declared.token.LexKind.TheVariants as lex
 use Rattle.raml_syntax.specs.declared.faults.ExprKind.{ExprKind}
 use Rattle.raml_syntax.specs.declared.faults.ExprKind.TheVariants.{BadByte, Unexpected, EndOfText, NumberTooLarge, UnknownName, NameTwice, BadRange, CarriersDiffer, TooLarge, BadTable, TrailingText, UnknownProfile}
 
--- the number that stands behind the X of a printed fault
+-- the number that stands after the X of a printed fault
 abbrev pub fault_number : ExprKind → ℕ
 fault_number BadByte = 1
 fault_number Unexpected = 2

@@ -35,7 +35,7 @@ abbrev pub trees_from : List Expression → List Entry → List Expression
 trees_from trees [] = trees
 trees_from trees (e ∷ es) = trees_from (trees ++ node_meaning trees e.node ∷ []) es
 
--- the parts of an entry behind these trees are among them, and its nodes are counted
+-- the parts of an entry after these trees are among them, and its nodes are counted
 pub record IsEntry (trees : List Expression) (e : Entry) : Type 0 where
   pub parts : HasParts (length trees) e.node
   pub size : e.size ≡ node_count (node_meaning trees e.node)

@@ -1,4 +1,4 @@
--- What stands behind the word that begins an expression.
+-- What stands after the word that begins an expression.
 use Rattle.std.specs.Prelude.{◌≡◌, ℕ, ◌+◌, List, Some, None, Result, Ok, Err}
 use Rattle.meta_base.specs.declared.ids.Place.{Place}
 use Rattle.raml_lex.specs.Tokens.{Tok, left_paren, right_paren, comma, semicolon, dots}
@@ -23,11 +23,11 @@ use Rattle.raml_syntax.specs.Heads.{ranged_of, counted_of, paired_of, single_of}
 abbrev pub Behind : {R : Type 0} → Tok → (R → List Mark → Type 0) → R → List Mark → Type 0
 Behind {R} t P = Then (One (λ (u : Unit {0}). plain t)) (λ (u : Unit {0}). P)
 
--- a number and this token behind it
+-- a number and this token after it
 abbrev pub NumberBefore : Tok → ℕ → List Mark → Type 0
 NumberBefore t = Then (One (λ n. plain (tok.number n))) (λ n. Behind t (Nothing n))
 
--- the last number of a base algebra, and the parenthesis behind it
+-- the last number of a base algebra, and the parenthesis after it
 abbrev pub Last : (ℕ → Expression) → Expression → List Mark → Type 0
 Last f = Then (One (λ n. last_number n (f n))) (λ n. Behind right_paren (Nothing (f n)))
 
@@ -59,7 +59,7 @@ PairedTail ds nodes k = Then (Behind left_paren (Expr ds nodes)) (λ a. Then (Be
 abbrev pub SingleTail : List Definition → ℕ → Single → Expression → List Mark → Type 0
 SingleTail ds nodes k = Then (Behind left_paren (Expr ds nodes)) (λ a. Behind right_paren (Nothing (single_meaning k a)))
 
--- what stands behind this head, which is counted among the nodes
+-- what stands after this head, which is counted among the nodes
 abbrev pub Tail : List Definition → ℕ → Head → Expression → List Mark → Type 0
 Tail ds nodes h.Add = AddTail
 Tail ds nodes (h.Ranged k) = RangedTail (ranged_of k)
@@ -69,7 +69,7 @@ Tail ds nodes h.Table = TableTail
 Tail ds nodes (h.Paired k) = PairedTail ds nodes (paired_of k)
 Tail ds nodes (h.Single k) = SingleTail ds nodes (single_of k)
 
--- what the name at this place, behind so many nodes, comes to
+-- what the name at this place, after so many nodes, comes to
 abbrev pub Resolves : List Definition → ℕ → List ℕ → Place → Result Expression AlgError → Type 0
 Resolves ds nodes w here (Ok a) = (a ≡ known (lookup ds w)) × ((name_mark nodes w (lookup ds w)).fault ≡ None)
 Resolves ds nodes w here (Err (Bad f)) = (f.place ≡ here) × ((name_mark nodes w (lookup ds w)).fault ≡ Some f.kind)

@@ -1,5 +1,5 @@
 -- A file as it is read: its header, if it has one, and then its statements. The greatest number of the
--- tokens changes behind a header, so what was read of a text is said for each part, and then joined.
+-- tokens changes after a header, so what was read of a text is said for each part, and then joined.
 use Rattle.std.specs.Prelude.{◌≡◌, ℕ, List, [], ◌∷◌, ◌++◌, Bool, Result, Ok, Err, Some, codes}
 use Rattle.raml_lex.specs.Tokens.{Tok, semicolon}
 use Rattle.raml_lex.specs.Lexers.{Lexer}
@@ -34,7 +34,7 @@ opening_word (o.Statement key) = keyword_word key
 abbrev pub Starts : Opening → List Mark → Type 0
 Starts = One (λ opening. plain_word (opening_word opening))
 
--- a header behind its word
+-- a header after its word
 abbrev pub Profile : Edition → List Mark → Type 0
 Profile = Then (One header_number) (λ n. Behind semicolon (Nothing (edition_of (Some n))))
 
@@ -42,7 +42,7 @@ Profile = Then (One header_number) (λ n. Behind semicolon (Nothing (edition_of 
 abbrev pub InEdition : Edition → (Expression → List Mark → Type 0) → PureAlg → List Mark → Type 0
 InEdition edition P a ms = (a.edition ≡ edition) × P a.expression ms
 
--- what is left of a file behind the word that it begins with
+-- what is left of a file after the word that it begins with
 abbrev pub Opened : Opening → PureAlg → List Mark → Type 0
 Opened o.Header = Then Profile (λ edition. InEdition edition (Rest []))
 Opened (o.Statement key) = InEdition profile.One (Statement [] key)
@@ -66,7 +66,7 @@ alg_in edition a = record { expression = a; edition = edition }
 abbrev pub alg_read : Edition × Tree → PureAlg
 alg_read (edition, tree) = alg_in edition (expression_of tree)
 
--- what stood before leads to here: whatever is read behind the word of the first statement makes the file
+-- what stood before leads to here: whatever is read after the word of the first statement makes the file
 abbrev pub LeadsText : List ℕ → Edition → Keyword → Lexer → Type 0
 LeadsText text edition key now =
     (result : Result Expression AlgError) (new : Lexer) → Reads (Statement [] key) now result new → ReadsText text (map_ok (alg_in edition) result) new

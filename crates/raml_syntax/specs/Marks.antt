@@ -34,7 +34,7 @@ plain_word w = plain (word w)
 abbrev pub counted_to : ℕ → List ℕ → Mark
 counted_to nodes w = tested (word w) TooLarge (nat_le nodes max_tree_nodes)
 
--- a name that stands for this expression, if for any, behind so many nodes
+-- a name that stands for this expression, if for any, after so many nodes
 abbrev pub name_mark : ℕ → List ℕ → Option Expression → Mark
 name_mark nodes w None = record { tok = word w; fault = Some UnknownName }
 name_mark nodes w (Some a) = counted_to (nodes + node_count a) w
@@ -43,7 +43,7 @@ name_mark nodes w (Some a) = counted_to (nodes + node_count a) w
 abbrev pub last_number : ℕ → Expression → Mark
 last_number n a = tested (tok.number n) BadRange (is_in_range a)
 
--- a name of a value or a row behind those names
+-- a name of a value or a row after those names
 abbrev pub own_name : List (List ℕ) → List ℕ → Mark
 own_name before w = tested (word w) BadTable (not (is_none w) && not (is_among before w) && nat_le (length before + 1) max_table_names)
 
@@ -51,7 +51,7 @@ own_name before w = tested (word w) BadTable (not (is_none w) && not (is_among b
 abbrev pub rank_tok : Bool → Tok
 rank_tok is_tied = if is_tied then equals else less
 
--- the values behind those names
+-- the values after those names
 abbrev pub values_marks : List (List ℕ) → List ValueSyntax → List Mark
 values_marks before [] = []
 values_marks before (v ∷ vs) = plain (rank_tok v.is_tied) ∷ own_name before v.name ∷ values_marks (before ++ v.name ∷ []) vs
@@ -62,7 +62,7 @@ map_marks names before m =
     tested (word m.source) BadTable (is_among names m.source && not (is_among before m.source)) ∷ plain arrow ∷
     tested (word m.target) BadTable (is_none m.target || is_among names m.target) ∷ []
 
--- the maps behind the first, each behind a comma
+-- the maps after the first, each after a comma
 abbrev pub more_map_marks : List (List ℕ) → List (List ℕ) → List MapSyntax → List Mark
 more_map_marks names before [] = []
 more_map_marks names before (m ∷ ms) = plain comma ∷ (map_marks names before m ++ more_map_marks names (before ++ m.source ∷ []) ms)
@@ -71,7 +71,7 @@ abbrev pub maps_marks : List (List ℕ) → MapsSyntax → List Mark
 maps_marks names no_maps = plain_word (codes "none") ∷ []
 maps_marks names (maps m ms) = map_marks names [] m ++ more_map_marks names (m.source ∷ []) ms
 
--- a row behind those of these names
+-- a row after those of these names
 abbrev pub row_marks : List (List ℕ) → List (List ℕ) → RowSyntax → List Mark
 row_marks names before row = plain semicolon ∷ own_name before row.name ∷ plain colon ∷ maps_marks names row.images
 
@@ -92,7 +92,7 @@ closing scoped_head a b = plain right_paren
 closing union_head a b = plain right_paren
 closing sum_head a b = plain right_paren
 
--- a tree where these names are defined, behind so many nodes
+-- a tree where these names are defined, after so many nodes
 abbrev pub marks : List Definition → ℕ → Syntax → List Mark
 marks ds nodes (named w) = name_mark nodes w (lookup ds w) ∷ []
 marks ds nodes (add_syntax low high) =

@@ -20,7 +20,7 @@ abbrev pub lookup : List Definition → List ℕ → Option Expression
 lookup [] w = None
 lookup (d ∷ ds) w = if bytes_eq d.name w then Some d.expression else lookup ds w
 
--- a name that nothing stands behind is at fault, so what it means plays no part
+-- a name that nothing stands after is at fault, so what it means plays no part
 abbrev pub known : Option Expression → Expression
 known (Some a) = a
 known None = gate
@@ -53,7 +53,7 @@ single_meaning right_head a = right a
 abbrev pub value_names : TableSyntax → List (List ℕ)
 value_names t = t.first ∷ map (λ (v : ValueSyntax). v.name) t.others
 
--- the ranks of the values behind one of this rank
+-- the ranks of the values after one of this rank
 abbrev pub ranks_from : ℕ → List ValueSyntax → List ℕ
 ranks_from rank [] = []
 ranks_from rank (v ∷ vs) = if v.is_tied then rank ∷ ranks_from rank vs else (rank + 1) ∷ ranks_from (rank + 1) vs
@@ -92,7 +92,7 @@ meaning ds (table_syntax t) = table (table_meaning t)
 meaning ds (paired k a b) = paired_meaning k (meaning ds a) (meaning ds b)
 meaning ds (single k a) = single_meaning k (meaning ds a)
 
--- a `let` defines its name for all that comes behind it
+-- a `let` defines its name for all that comes after it
 abbrev pub with_let : List Definition → LetSyntax → List Definition
 with_let ds l = record { name = l.name; expression = meaning ds l.body } ∷ ds
 

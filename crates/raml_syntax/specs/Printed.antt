@@ -1,4 +1,4 @@
--- The text in which an algebra is printed: one `main`, with a space behind that word, and a header before
+-- The text in which an algebra is printed: one `main`, with a space after that word, and a header before
 -- it where a text without one would mean another edition.
 use Rattle.std.specs.Prelude.{ℕ, ◌==◌, List, [], ◌∷◌, ◌++◌, Option, Some, None, slice_index_or, if◌then◌else◌, decimal, codes}
 use Rattle.alg_model.specs.declared.tree.TableSpec.{TableSpec}
@@ -25,7 +25,7 @@ single_text k a = single_word k ++ codes "(" ++ a ++ codes ")"
 abbrev pub rank_text : ℕ → ℕ → List ℕ
 rank_text before rank = if rank == before then codes "=" else codes "<"
 
--- the values behind one of this rank
+-- the values after one of this rank
 abbrev pub more_values_text : ℕ → List (List ℕ) → List ℕ → List ℕ
 more_values_text before (name ∷ names) (rank ∷ ranks) = rank_text before rank ++ name ++ more_values_text rank names ranks
 more_values_text before _ _ = []
@@ -44,7 +44,7 @@ maps_of all _ _ = []
 abbrev pub map_text : MapSyntax → List ℕ
 map_text m = m.source ++ codes "->" ++ m.target
 
--- maps behind others, each behind a comma
+-- maps after others, each after a comma
 abbrev pub more_maps_text : List MapSyntax → List ℕ
 more_maps_text [] = []
 more_maps_text (m ∷ ms) = codes "," ++ map_text m ++ more_maps_text ms

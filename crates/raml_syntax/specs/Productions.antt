@@ -31,7 +31,7 @@ Shows {R} P front t k = (r : R) × (more : List Mark) × P r (clean front ++ rec
 abbrev pub Refuses : {R : Type 0} → (R → List Mark → Type 0) → List Tok → Tok → Type 0
 Refuses {R} P front t = (r : R) (ms : List Mark) (y z : List Tok) → P r ms → toks ms ++ y ≡ front ++ t ∷ z → ⊥
 
--- what comes next behind the front is at fault
+-- what comes next after the front is at fault
 abbrev pub FaultAt : {R : Type 0} → (R → List Mark → Type 0) → List Tok → Step → ExprKind → Type 0
 FaultAt P front end k = (k ≡ EndOfText) × Begins P front
 FaultAt P front (bad lex.BadByte) k = (k ≡ BadByte) × Begins P front

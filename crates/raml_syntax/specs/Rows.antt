@@ -20,7 +20,7 @@ colon_mark _ = plain colon
 abbrev pub row_of : List (List ℕ) → List ℕ → List MapSyntax → TableRow
 row_of names name ms = record { name = name; images = map (image_place names ms) names }
 
--- a row behind those of these names, and the mark behind it
+-- a row after those of these names, and the mark after it
 abbrev pub OneRow : List (List ℕ) → List (List ℕ) → TableRow × AfterRow → List Mark → Type 0
 OneRow names before =
     Then (One (own_name before)) (λ name. Then (One colon_mark) (λ _. Then (Maps names) (λ maps. Nothing (row_of names name maps.0, maps.1))))

@@ -21,7 +21,7 @@ One f r ms = ms ≡ f r ∷ []
 abbrev pub Then : {R S : Type 0} → (R → List Mark → Type 0) → (R → S → List Mark → Type 0) → S → List Mark → Type 0
 Then {R} P Q s ms = (r : R) × (xs : List Mark) × (ys : List Mark) × P r xs × Q r s ys × (ms ≡ xs ++ ys)
 
--- behind these tokens comes what the production refuses
+-- after these tokens comes what the production refuses
 pub record FaultFrom {R : Type 0} (P : R → List Mark → Type 0) (old : Lexer) (f : ExprFault) : Type 0 where
   pub front : List Tok
   pub at : Lexer
@@ -29,7 +29,7 @@ pub record FaultFrom {R : Type 0} (P : R → List Mark → Type 0) (old : Lexer)
   pub place : f.place ≡ next_place at
   pub shows : FaultAt P front (step_of at.greatest at.rest) f.kind
 
--- the tokens of what was read were taken, and no fault stands at them; or a fault comes next behind some
+-- the tokens of what was read were taken, and no fault stands at them; or a fault comes next after some
 abbrev pub Reads : {R : Type 0} → (R → List Mark → Type 0) → Lexer → Result R AlgError → Lexer → Type 0
 Reads P old (Ok r) new = (ts : List Tok) × P r (clean ts) × Takes ts old new
 Reads P old (Err (Bad f)) new = FaultFrom P old f

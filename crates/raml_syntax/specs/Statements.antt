@@ -36,16 +36,16 @@ Opens = One (λ key. plain_word (keyword_word key))
 abbrev pub Body : List Definition → Expression → List Mark → Type 0
 Body ds = Then (Expr ds 0) (λ a. Behind semicolon (Nothing a))
 
--- a `let` behind its word, which defines one name more
+-- a `let` after its word, which defines one name more
 abbrev pub Let : List Definition → List Definition → List Mark → Type 0
 Let ds = Then (One (let_name ds)) (λ name. Behind equals (Then (Body ds) (λ a. Nothing (record { name = name; expression = a } ∷ ds))))
 
--- what is left of a file behind the word that begins a statement
+-- what is left of a file after the word that begins a statement
 abbrev pub Statement : List Definition → Keyword → Expression → List Mark → Type 0
 Statement ds k.Let = Then (Let ds) Rest
 Statement ds k.Main = Body ds
 
--- the statement that began with `first` leads to one that begins with `key`: whatever is read behind that
+-- the statement that began with `first` leads to one that begins with `key`: whatever is read after that
 -- word makes all from the first on
 abbrev pub Leads : Keyword → Lexer → List Definition → Keyword → Lexer → Type 0
 Leads first old ds key now = (result : Result Expression AlgError) (new : Lexer) → Reads (Statement ds key) now result new → Reads (Statement [] first) old result new

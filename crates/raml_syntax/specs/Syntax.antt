@@ -31,7 +31,7 @@ pub data Single : Type 0 where
   left_head : Single
   right_head : Single
 
--- a value of a table behind the first: does it have the rank of the value before it?
+-- a value of a table after the first: does it have the rank of the value before it?
 pub record ValueSyntax : Type 0 where
   pub is_tied : Bool
   pub name : List ℕ
@@ -41,7 +41,7 @@ pub record MapSyntax : Type 0 where
   pub source : List ℕ
   pub target : List ℕ
 
--- what stands behind a row's colon: `none`, or one map or more
+-- what stands after a row's colon: `none`, or one map or more
 pub data MapsSyntax : Type 0 where
   no_maps : MapsSyntax
   maps : MapSyntax → List MapSyntax → MapsSyntax
@@ -119,7 +119,7 @@ is_expression_word w = is_among expression_words w
 abbrev pub is_none : List ℕ → Bool
 is_none w = bytes_eq w (codes "none")
 
--- a `none` straight behind a row's colon is the row's, and begins no map
+-- a `none` straight after a row's colon is the row's, and begins no map
 abbrev pub AreMaps : MapsSyntax → Type 0
 AreMaps no_maps = Unit {0}
 AreMaps (maps m ms) = is_none m.source ≡ false

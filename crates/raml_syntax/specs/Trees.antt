@@ -15,7 +15,7 @@ pub record Table (t : TableSpec) (ms : List Mark) : Type 0 where
   pub means : t ≡ table_meaning syntax
   pub marks : ms ≡ table_marks syntax
 
--- an expression where these names are defined, behind so many nodes
+-- an expression where these names are defined, after so many nodes
 pub record Expr (ds : List Definition) (nodes : ℕ) (a : Expression) (ms : List Mark) : Type 0 where
   pub syntax : Syntax
   pub is_syntax : IsSyntax syntax

@@ -1,4 +1,4 @@
-// Base algebras of numbers, behind the words that begin them.
+// Base algebras of numbers, after the words that begin them.
 ghost use Rattle.std.specs.Prelude.{◌≡◌, IfOk, OnOk, []};
 ghost use Rattle.raml_lex.specs.Views.{tok_of};
 ghost use Rattle.alg_model.specs.Views.{expression_of};
@@ -47,7 +47,7 @@ impl Begun {
     }
 }
 
-// A number and the mark behind it.
+// A number and the mark after it.
 fn read_number_before(tokens: &mut Tokens<'_>, mark: TokenKind) -> Result<u64, AlgError>
     requires ready { IsReady tokens.old }
     requires mark { IsMark mark }
@@ -59,7 +59,7 @@ fn read_number_before(tokens: &mut Tokens<'_>, mark: TokenKind) -> Result<u64, A
     Ok(number)
 }
 
-// The last number and the parenthesis behind it. A number that breaks the rule on ranges is refused
+// The last number and the parenthesis after it. A number that breaks the rule on ranges is refused
 // at its own place.
 fn read_last(tokens: &mut Tokens<'_>, begun: Begun) -> Result<Tree, AlgError>
     requires { IsReady tokens.old }

@@ -28,7 +28,7 @@ use meta_base::Place;
 use raml_lex::{TokenKind, Tokens};
 use std::alloc::Global;
 
-/// Reads an expression: one that its names mean where these are defined, behind so many nodes of the
+/// Reads an expression: one that its names mean where these are defined, after so many nodes of the
 /// present tree. Its nodes are counted on. What is defined stays as it was.
 #[cycle(descent)]
 pub fn read_expression(
@@ -57,7 +57,7 @@ pub fn read_expression(
     }
 }
 
-// What stands behind a head, whose node was counted.
+// What stands after a head, whose node was counted.
 #[cycle(descent)]
 fn read_tail(
     alloc: Global,
@@ -175,7 +175,7 @@ fn read_part(
     read_expression(alloc, tokens, definitions, nodes)
 }
 
-// The parenthesis behind both parts of an operator, which is refused where they can't be joined.
+// The parenthesis after both parts of an operator, which is refused where they can't be joined.
 fn close_paired(
     tokens: &mut Tokens<'_>,
     definitions: &mut Definitions<'_>,
@@ -217,7 +217,7 @@ fn may_join(forest: &Forest, kind: Paired, first: TreeId, second: TreeId) -> boo
     }
 }
 
-// The parenthesis behind the one part of an operator.
+// The parenthesis after the one part of an operator.
 fn close_single(
     tokens: &mut Tokens<'_>,
     definitions: &mut Definitions<'_>,

@@ -21,7 +21,7 @@ pub enum ExprKind {
     NumberTooLarge,
     /// A word in place of an expression that no earlier `let` names; printed as X5.
     UnknownName,
-    /// The word behind a `let`, where it is reserved or named before; printed as X6.
+    /// The word after a `let`, where it is reserved or named before; printed as X6.
     NameTwice,
     /// The last number of a base algebra that breaks the rule on ranges; printed as X7.
     BadRange,
@@ -32,14 +32,14 @@ pub enum ExprKind {
     /// A name in a table that is one too many, there twice, mapped twice, unknown as a value, or `none`
     /// where a value or a row is named; printed as X10.
     BadTable,
-    /// A token behind the semicolon of `main`; printed as X11.
+    /// A token after the semicolon of `main`; printed as X11.
     TrailingText,
     /// The number of a header that is neither 1 nor 2; printed as X12.
     UnknownProfile,
 }
 
 impl ExprKind {
-    /// The number that stands behind the X of a printed fault.
+    /// The number that stands after the X of a printed fault.
     pub fn number(self) -> u8
         ensures { result ≡ fault_number self }
     {

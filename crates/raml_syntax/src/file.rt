@@ -84,7 +84,7 @@ fn edition_of(profile: u64) -> Option<Edition>
     }
 }
 
-// Reads a header behind its word.
+// Reads a header after its word.
 fn read_profile(tokens: &mut Tokens<'_>) -> Result<Edition, AlgError>
     requires { IsReady tokens.old }
     ensures ready { OnOk result (IsReady tokens.new) }
@@ -155,7 +155,7 @@ fn read_body(
     Ok(tree)
 }
 
-// Reads a `let` behind its word, and defines its name.
+// Reads a `let` after its word, and defines its name.
 fn read_let<'a>(
     alloc: Global,
     tokens: &mut Tokens<'a>,
@@ -187,7 +187,7 @@ fn read_main(
     Ok(definitions.forest().tree(alloc, main)?)
 }
 
-// Reads the statements of a file behind the word of the first, up to the semicolon of `main`.
+// Reads the statements of a file after the word of the first, up to the semicolon of `main`.
 fn read_statements(alloc: Global, tokens: &mut Tokens<'_>, first: Keyword) -> Result<Tree, AlgError>
     requires { IsReady tokens.old }
     ensures ready { OnOk result (IsReady tokens.new) }
@@ -205,7 +205,7 @@ fn read_statements(alloc: Global, tokens: &mut Tokens<'_>, first: Keyword) -> Re
 }
 
 // Reads the header, if there is one, and the word that begins the first statement. The bound of the
-// edition holds for what comes behind the header.
+// edition holds for what comes after the header.
 fn read_opening(tokens: &mut Tokens<'_>) -> Result<(Edition, Keyword), AlgError>
     requires { tokens.old ≡ start tokens.old.rest }
     ensures ready { OnOk result (IsReady tokens.new) }
@@ -233,7 +233,7 @@ fn read_file(alloc: Global, tokens: &mut Tokens<'_>) -> Result<(Edition, Tree), 
     Ok((edition, tree))
 }
 
-// Refuses what stands behind the file, other than spaces and comments.
+// Refuses what stands after the file, other than spaces and comments.
 fn expect_end(tokens: &mut Tokens<'_>) -> Result<(), AlgError>
     requires { IsReady tokens.old }
     ensures end { OnOk result (step_of tokens.old.greatest tokens.old.rest ≡ end) }

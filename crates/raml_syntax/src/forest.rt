@@ -1,4 +1,4 @@
-// The trees that were read. Each stands once, behind its parts, and is known by its number, so a name
+// The trees that were read. Each stands once, after its parts, and is known by its number, so a name
 // costs no copy of its tree.
 ghost use Rattle.std.specs.Prelude.{◌≡◌, ◌↔◌, ◌≤◌, ◌∷◌, ◌++◌, [], true, length, IfOk, OnOk, OnErr};
 ghost use Rattle.alg_model.specs.Views.{expression_of};

@@ -21,7 +21,7 @@ use raml_lex::{Token, TokenKind, Tokens};
 use std::alloc::Global;
 use std::marker::Model;
 
-// What the mark behind a row leads to.
+// What the mark after a row leads to.
 #[derive(Clone, Copy, Debug)]
 pub enum AfterRow {
     // `;`
@@ -30,7 +30,7 @@ pub enum AfterRow {
     End,
 }
 
-// What the mark behind a map leads to.
+// What the mark after a map leads to.
 #[derive(Clone, Copy, Debug)]
 pub enum AfterMap {
     // `,`
@@ -75,7 +75,7 @@ fn is_mapped(maps: &[Map<'_>], word: &[u8]) -> bool
     maps.iter().any(|map| map.source() == word)
 }
 
-// Whether the word may be the source of a map behind these.
+// Whether the word may be the source of a map after these.
 #[tactic(auto, using(crate::proofs::Words::among_sources))]
 fn is_source(names: &[Text], maps: &[Map<'_>], word: &[u8]) -> bool
     ensures { result ≡ is_new_source names.now (sources maps.now) word.now }
@@ -158,7 +158,7 @@ fn read_target<'a>(tokens: &mut Tokens<'a>, names: &[Text]) -> Result<&'a [u8], 
     }
 }
 
-// Reads a map whose source was taken before, behind these maps.
+// Reads a map whose source was taken before, after these maps.
 fn read_map<'a>(
     tokens: &mut Tokens<'a>,
     names: &[Text],
@@ -181,7 +181,7 @@ fn read_map<'a>(
     })
 }
 
-// Reads what stands behind a row's colon, and the mark behind the row.
+// Reads what stands after a row's colon, and the mark after the row.
 pub fn read_maps<'a>(
     alloc: Global,
     tokens: &mut Tokens<'a>,

@@ -13,8 +13,8 @@ use alg_model::{Alg, Edition, TableRow, TableSpec, Tree};
 use meta_base::{NoMemory, Text, push_number};
 use std::alloc::Global;
 
-/// The text of an algebra as a file of one `main`, behind a header where its edition is the second. It
-/// means that algebra ([`crate::printed_text_means_the_algebra`]).
+/// For whoever writes an algebra as a file; the program prints none. The text of an algebra as a file of one `main`,
+/// after a header where its edition is the second. It means that algebra ([`crate::printed_text_means_the_algebra`]).
 pub fn print_alg(alloc: Global, alg: &Alg) -> Result<Text, NoMemory>
     ensures { IfOk result (λ text. text ≡ alg_text alg.now) }
 {
@@ -155,7 +155,7 @@ fn push_values(out: &mut String, names: &[Text], ranks: &[u8]) -> Result<(), NoM
     }
 }
 
-// The values behind one of the rank `before`.
+// The values after one of the rank `before`.
 fn push_more_values(
     out: &mut String,
     before: u8,
@@ -226,7 +226,7 @@ fn push_maps(
     }
 }
 
-// The maps behind others, each behind a comma.
+// The maps after others, each after a comma.
 fn push_more_maps(
     out: &mut String,
     all: &[Text],

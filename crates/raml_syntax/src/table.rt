@@ -39,7 +39,7 @@ fn read_row_name(
     new_name(alloc, word, rows.len(), is_row(rows, word.text))
 }
 
-// Reads a row behind these rows, and the mark behind it.
+// Reads a row after these rows, and the mark after it.
 fn read_row(
     alloc: Global,
     tokens: &mut Tokens<'_>,
@@ -59,7 +59,7 @@ fn read_row(
     Ok((TableRow { name, images }, after))
 }
 
-// Reads the rows, and the brace behind them.
+// Reads the rows, and the brace after them.
 fn read_rows(
     alloc: Global,
     tokens: &mut Tokens<'_>,

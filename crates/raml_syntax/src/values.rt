@@ -16,7 +16,7 @@ use meta_base::{List, NoMemory, Text};
 use raml_lex::{Token, TokenKind, Tokens};
 use std::alloc::Global;
 
-// What the mark behind a value leads to.
+// What the mark after a value leads to.
 #[derive(Clone, Copy, Debug)]
 pub enum AfterValue {
     // `=` or `<`: a value of the same rank, or of the next.
@@ -56,7 +56,7 @@ fn copied(alloc: Global, word: &[u8]) -> Result<Text, NoMemory>
     }
 }
 
-// The word as the name of a value or of a row, behind so many of them.
+// The word as the name of a value or of a row, after so many of them.
 pub fn new_name(
     alloc: Global,
     word: Token<'_>,
@@ -97,7 +97,7 @@ fn take_after_value(tokens: &mut Tokens<'_>) -> Result<AfterValue, AlgError>
     }
 }
 
-// The rank of a value behind one of this rank.
+// The rank of a value after one of this rank.
 fn rank_behind(rank: u8, is_tied: bool) -> u8
     requires { rank + 1 < 2 ^ 8 }
     ensures { result ≡ rank_behind rank is_tied }
@@ -105,7 +105,7 @@ fn rank_behind(rank: u8, is_tied: bool) -> u8
     if is_tied { rank } else { rank + 1 }
 }
 
-// Reads the values, and the semicolon behind them.
+// Reads the values, and the semicolon after them.
 pub fn read_values(alloc: Global, tokens: &mut Tokens<'_>) -> Result<ValueList, AlgError>
     requires { IsReady tokens.old }
     ensures ready { OnOk result (IsReady tokens.new) }

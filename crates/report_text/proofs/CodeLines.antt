@@ -18,7 +18,7 @@ got [] i arc e = refl
 got (x ∷ arcs) zero arc e = cc
 got (x ∷ arcs) (suc i) arc e = got arcs i arc e
 
--- the lines of the arcs from one on are its own and those of the arcs behind it
+-- the lines of the arcs from one on are its own and those of the arcs after it
 arcs_at : (a : Expression) (net : PureNet) (arcs : List PureArc) (labels : List (List Op)) (i : ℕ) (arc : PureArc) (code : List Op) → slice_get arcs i ≡ Some arc → i < length arcs → code ≡ get_or labels i code → i < length labels
     → arcs_text a net (drop i arcs) (drop i labels) ≡ arc_code_text a net arc code ++ arcs_text a net (drop (i + 1) arcs) (drop (i + 1) labels)
 arcs_at a net arcs labels i arc code e h f l =

@@ -10,12 +10,12 @@ use Rattle.code_gen.specs.declared.listing.Listing.{Listing}
 use Rattle.net_graph.specs.Nets.{PureArc, PureNet}
 use Rattle.report_text.specs.Refusals.{ends_text}
 
--- ranks, each behind a space
+-- ranks, each after a space
 abbrev pub ranks_text : List ℕ → List ℕ
 ranks_text [] = []
 ranks_text (rank ∷ ranks) = codes " " ++ decimal rank ++ ranks_text ranks
 
--- entries, each behind a space: a word, or - for none
+-- entries, each after a space: a word, or - for none
 abbrev pub entry_text : Option ℕ → List ℕ
 entry_text None = codes "-"
 entry_text (Some word) = decimal word

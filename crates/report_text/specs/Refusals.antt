@@ -70,7 +70,7 @@ abbrev pub CanLack : ℕ → PureInstance → Option PureNet → Type 0
 CanLack n x None = ⊥
 CanLack n x (Some net) = (n < length net.arcs) × CanPrint net.alg.expression x
 
--- the line can be printed: an arc that lacks a property is of a network, which is given
+-- the line can be printed: an arc that doesn't have a property is of a network, which is given
 abbrev pub CanRefuse : PureRefusal → Option PureNet → Type 0
 CanRefuse (lacks n x) net = CanLack n x net
 CanRefuse _ net = Unit {0}

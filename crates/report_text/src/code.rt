@@ -80,7 +80,7 @@ impl Operation for OrdOp {
     }
 }
 
-// A number behind what begins it.
+// A number after what begins it.
 fn push_with(out: &mut String, start: &str, n: Word) -> Result<(), NoMemory>
     ensures { OnOk result (Gains out.old (start.now ++ decimal n) out.new) }
 {
@@ -88,7 +88,7 @@ fn push_with(out: &mut String, start: &str, n: Word) -> Result<(), NoMemory>
     push_number(out, n)
 }
 
-// The ranks, each behind a space.
+// The ranks, each after a space.
 fn push_ranks(out: &mut String, ranks: &[Word]) -> Result<(), NoMemory>
     ensures { OnOk result (Gains out.old (ranks_text ranks.now) out.new) }
 {
@@ -101,7 +101,7 @@ fn push_ranks(out: &mut String, ranks: &[Word]) -> Result<(), NoMemory>
     }
 }
 
-// The entries, each behind a space.
+// The entries, each after a space.
 fn push_entries(out: &mut String, entries: &[Option<Word>]) -> Result<(), NoMemory>
     ensures { OnOk result (Gains out.old (entries_text entries.now) out.new) }
 {
@@ -146,7 +146,8 @@ fn push_operation<T: Operation>(
     Ok(out.push_str("\n")?)
 }
 
-/// The line of an operation, with its place in its code, from 0. It is refused for want of memory alone.
+/// For a line alone; the program appends it to a text. The line of an operation, with its place in its code, from 0. It
+/// is refused for want of memory alone.
 pub fn operation_line<T: Operation>(
     alloc: Global,
     place: usize,
@@ -159,7 +160,8 @@ pub fn operation_line<T: Operation>(
     Ok(Text::from_string(out))
 }
 
-/// The line before the operations of the order. It is refused for want of memory alone.
+/// For a line alone; the program appends it to a text. The line before the operations of the order. It is refused for
+/// want of memory alone.
 pub fn order_line(alloc: Global) -> Result<Text, NoMemory>
     ensures { IfOk result (λ text. text ≡ order_line_text) }
 {
@@ -185,8 +187,8 @@ fn push_arc_line(out: &mut String, alg: &Alg, net: &Net, arc: &Arc) -> Result<()
     Ok(out.push_str("\n")?)
 }
 
-/// The line of an arc of a network over the algebra: its listener, its speaker and its label. It is refused for want
-/// of memory alone.
+/// For a line alone; the program appends it to a text. The line of an arc of a network over the algebra: its listener,
+/// its speaker and its label. It is refused for want of memory alone.
 pub fn arc_line(alloc: Global, alg: &Alg, net: &Net, arc: &Arc) -> Result<Text, NoMemory>
     requires arc { IsArcOf net.now.alg (length net.now.nodes) (pure_arc arc.now) }
     requires algebra { net.now.alg ≡ alg.now }

@@ -16,14 +16,15 @@ use raml_syntax::ExprFault;
 use std::alloc::Global;
 use topology_file::NetFault;
 
-/// Why the program does nothing of what it is asked, but for an arc whose label lacks a property: [`lacks_line`].
+/// Why the program does nothing of what it is asked, but for an arc whose label doesn't have a property:
+/// [`lacks_line`].
 #[derive(Clone, Copy, Debug)]
 pub enum Refusal {
-    /// The words mean no command: the number of what is wrong with them; printed behind a C.
+    /// The words mean no command: the number of what is wrong with them; printed after a C.
     Words(u8),
-    /// The expression file means no algebra; its kind is printed behind an X.
+    /// The expression file means no algebra; its kind is printed after an X.
     Expr(ExprFault),
-    /// The network file means no network; its kind is printed behind an N.
+    /// The network file means no network; its kind is printed after an N.
     Network(NetFault),
     /// That file can't be read.
     Read(Which),
@@ -88,7 +89,7 @@ pub(crate) fn push_ends(out: &mut String, net: &Net, arc: &Arc) -> Result<(), No
     push_node(out, net, arc.head)
 }
 
-/// The one line of an arc of the network whose label lacks a property, which the instance shows: it names the
+/// The one line of an arc of the network whose label doesn't have a property, which the instance shows: it names the
 /// listener and then the speaker. It is refused for want of memory alone.
 pub fn lacks_line(
     alloc: Global,

@@ -23,7 +23,7 @@ pub(crate) fn push_dest(out: &mut String, net: &Net, dest: DestId) -> Result<(),
     Ok(out.push_str(net.dest_text(dest))?)
 }
 
-// The names of the nodes of a path, each behind a space.
+// The names of the nodes of a path, each after a space.
 fn push_path(out: &mut String, net: &Net, path: &[NodeId]) -> Result<(), NoMemory>
     requires { AreNodesOf net.now (map (λ node. node.0) path.now) }
     ensures { OnOk result (Gains out.old (path_text net.now (map (λ node. node.0) path.now)) out.new) }
@@ -69,7 +69,8 @@ pub fn push_row_line(out: &mut String, net: &Net, row: &RouteRow) -> Result<(), 
 // As many bytes as most rows have, so that few lines grow.
 const USUAL_ROW: usize = 256;
 
-/// The line of a row alone, as [`push_row_line`] appends it. It is refused for want of memory alone.
+/// For a line alone; the program appends it to a text. The line of a row alone, as [`push_row_line`] appends it. It is
+/// refused for want of memory alone.
 pub fn row_line(alloc: Global, net: &Net, row: &RouteRow) -> Result<Text, NoMemory>
     requires { IsRowOf net.now (pure_row row.now) }
     ensures { IfOk result (λ text. text ≡ row_text net.now (pure_row row.now)) }

@@ -136,9 +136,10 @@ pub fn summary_end_line(alloc: Global) -> Result<Text, NoMemory>
     Text::copy(alloc, SUMMARY_END)
 }
 
-/// The lines of a summary: the size of the network, for each destination how many of these rows have a route to it
-/// and the sum of their values, and that nothing was on its way in the end. The values are numbers of at most [`MAX_SUMMED`], and
-/// there are at most 2^32 rows. It is refused for want of memory alone.
+/// For these lines alone; the program appends them to a text. The lines of a summary: the size of the network, for each
+/// destination how many of these rows have a route to it and the sum of their values, and that nothing was on its way
+/// in the end. The values are numbers of at most [`MAX_SUMMED`], and there are at most 2^32 rows. It is refused for
+/// want of memory alone.
 pub fn summary_lines(alloc: Global, net: &Net, rows: &[RouteRow]) -> Result<Text, NoMemory>
     requires { AreSummed (map pure_row rows.now) }
     ensures { IfOk result (λ text. text ≡ summary_text net.now (map pure_row rows.now)) }

@@ -150,8 +150,8 @@ pub fn required_line(alloc: Global, property: Property) -> Result<Text, NoMemory
     Ok(Text::from_string(out))
 }
 
-/// The five lines of the verdicts on an algebra or on labels of it, in the order of
-/// [`Property::ALL`]. They are refused for want of memory alone.
+/// For these lines alone; the program appends them to a text. The five lines of the verdicts on an algebra or on labels
+/// of it, in the order of [`Property::ALL`]. They are refused for want of memory alone.
 pub fn verdict_lines(alloc: Global, alg: &Alg, verdicts: &Verdicts) -> Result<Text, NoMemory>
     requires { CanPrintVerdicts alg.now.expression (pure_verdicts verdicts.now) }
     ensures { IfOk result (λ text. text ≡ verdicts_text alg.now.expression (pure_verdicts verdicts.now)) }

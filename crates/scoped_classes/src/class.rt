@@ -38,8 +38,9 @@ pub fn inner_profile<C: Shaped>(first: &C, y: &Profile) -> Profile
     pair_profile(&kept_profile(first), y)
 }
 
-/// The class of a scoped label that acts on the first part as the class's label does, and sets the second
-/// part, of this carrier, to the value. It is refused for want of memory alone.
+/// For whoever wants classes with their examples; the program needs none. The class of a scoped label that acts on the
+/// first part as the class's label does, and sets the second part, of this carrier, to the value. It is refused for
+/// want of memory alone.
 pub fn outer_class(
     alloc: Global,
     x: &Class,
@@ -65,8 +66,9 @@ pub fn outer_class(
     })
 }
 
-/// The class of a scoped label that keeps the first part, of this carrier, and acts on the second as the
-/// class's label does. It is refused for want of memory alone.
+/// For whoever wants classes with their examples; the program needs none. The class of a scoped label that keeps the
+/// first part, of this carrier, and acts on the second as the class's label does. It is refused for want of memory
+/// alone.
 pub fn inner_class(alloc: Global, first: &Carrier, y: &Class) -> Result<Class, NoMemory>
     requires { IsCarrier (pure_carrier first.now) }
     ensures profile { IfOk result (λ z. z.profile ≡ rule.inner_rule (pure_carrier first.now) y.now.profile) }

@@ -18,8 +18,9 @@ use alg_model::{Carrier, Value};
 use meta_base::NoMemory;
 use std::alloc::Global;
 
-/// The classes of a scoped product from those of its two algebras, whose carriers are given: one for each
-/// profile that a label of it has. It is refused for want of memory alone.
+/// For whoever wants all classes of an algebra; the program takes labels by their profiles. The classes of a scoped
+/// product from those of its two algebras, whose carriers are given: one for each profile that a label of it has. It is
+/// refused for want of memory alone.
 pub fn scoped_class_list(
     alloc: Global,
     a: &ClassList,

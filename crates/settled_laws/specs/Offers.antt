@@ -17,11 +17,11 @@ use Rattle.net_graph.specs.RouteLaws.{same_route}
 use Rattle.settled_laws.specs.BetterLaws.{longer_later}
 use Rattle.settled_laws.specs.OrderTurns.{order_turns}
 
--- the routes that are told have values of the carrier
+-- the routes that are reported have values of the carrier
 abbrev pub TellsValues : PureNet → Told → Type 0
 TellsValues net told = (j : ℕ) (next : PureRoute) → told j ≡ Some next → In (carrier net) next.value
 
--- the path of each route that is told begins with its node
+-- the path of each route that is reported begins with its node
 abbrev pub TellsOwnPaths : Told → Type 0
 TellsOwnPaths told = (j : ℕ) (next : PureRoute) → told j ≡ Some next → (p : List ℕ) × (next.path ≡ j ∷ p)
 

@@ -1,4 +1,4 @@
--- The list of the parts of a text goes on behind its first part.
+-- The list of the parts of a text goes on after its first part.
 use Rattle.std.proofs.Common.{◌≡◌, ℕ, ◌≤◌, ◌<◌, zero, suc, Bool, true, false, List, [], ◌∷◌, length, refl, sym, ap, ◌∙◌, arith}
 use Rattle.meta_base.specs.Bytes.{is_digit, is_letter, is_word_byte, front, behind, number_from}
 use Rattle.sig_text.specs.declared.parts.Next.{Next}

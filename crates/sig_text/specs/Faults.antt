@@ -3,7 +3,7 @@ use Rattle.std.specs.Prelude.{ℕ}
 use Rattle.sig_text.specs.declared.faults.LitFault.{LitFault}
 use Rattle.sig_text.specs.declared.faults.LitFault.TheVariants.{BadText, NotInCarrier, NotALabel}
 
--- the number that stands behind the L of a printed fault
+-- the number that stands after the L of a printed fault
 abbrev pub lit_fault_number : LitFault → ℕ
 lit_fault_number BadText = 1
 lit_fault_number NotInCarrier = 2

@@ -2,7 +2,7 @@
 use Rattle.std.specs.Prelude.{ℕ, List, [], ◌∷◌, ◌++◌, Bool, if◌then◌else◌, codes, decimal}
 use Rattle.alg_model.specs.Texts.{more_numbers}
 
--- the numbers with commas between them, behind this separator
+-- the numbers with commas between them, after this separator
 abbrev pub listed : List ℕ → List ℕ → List ℕ
 listed separator [] = []
 listed separator (n ∷ ns) = separator ++ (decimal n ++ more_numbers ns)

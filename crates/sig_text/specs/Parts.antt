@@ -10,7 +10,7 @@ pub data Part : Type 0 where
   -- a byte that is neither blank nor part of a word or a run
   mark : ℕ → Part
 
--- what stands at the front: nothing, or a part and what comes behind it
+-- what stands at the front: nothing, or a part and what comes after it
 pub data Step : Type 0 where
   end : Step
   part : Part → List ℕ → Step
@@ -27,7 +27,7 @@ part_at (c ∷ cs) =
 abbrev pub step_of : List ℕ → Step
 step_of text = part_at (behind is_blank text)
 
--- these parts stand at the front of the text, and this comes behind them
+-- these parts stand at the front of the text, and this comes after them
 abbrev pub Begins : List Part → List ℕ → List ℕ → Type 0
 Begins [] text rest = text ≡ rest
 Begins (p ∷ ps) text rest = (mid : List ℕ) × (step_of text ≡ part p mid) × Begins ps mid rest

@@ -1,4 +1,4 @@
--- What stands at the front of a list of parts: a value or a label, and the parts behind it.
+-- What stands at the front of a list of parts: a value or a label, and the parts after it.
 use Rattle.std.specs.Prelude.{◌≡◌, ℕ, List, [], ◌∷◌, ◌++◌, ◌&&◌, ◌||◌, ◌==◌, nat_le, nat_lt, Option, Some, None, option_map, option_and_then, if◌then◌else◌, Result, Ok, codes}
 use Rattle.std.specs.List.{list_all}
 use Rattle.std.specs.Str.{bytes_eq}
@@ -32,7 +32,7 @@ abbrev pub take_word : List Part → Option (List ℕ × List Part)
 take_word (word w ∷ ps) = Some (w, ps)
 take_word _ = None
 
--- numbers with commas between them up to that mark, behind those of the first list
+-- numbers with commas between them up to that mark, after those of the first list
 abbrev pub items_until : ℕ → ℕ → List ℕ → List Part → Option (List ℕ × List Part)
 items_until greatest m ns (digits n ∷ mark c ∷ ps) =
     if nat_le n greatest then
@@ -64,7 +64,7 @@ abbrev pub on_side : {A : Type 0} → Side → A → A → A
 on_side First a b = a
 on_side Second a b = b
 
--- what comes behind stays
+-- what comes after stays
 abbrev pub kept : {A B : Type 0} → (A → B) → Option (A × List Part) → Option (B × List Part)
 kept f o = option_map (λ r. (f r.0, r.1)) o
 

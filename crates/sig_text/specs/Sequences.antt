@@ -3,7 +3,7 @@ use Rattle.std.specs.Prelude.{◌≡◌, ℕ, ◌<◌, zero, suc, List, [], ◌�
 use Rattle.sig_text.specs.Numbers.{max_literal_number}
 use Rattle.sig_text.specs.Parts.{Part, digits, Step, end, part, step_of}
 
--- the part that a step found, and those behind it
+-- the part that a step found, and those after it
 abbrev pub parts_then : (List ℕ → List Part) → Step → List Part
 parts_then f end = []
 parts_then f (part p rest) = p ∷ f rest

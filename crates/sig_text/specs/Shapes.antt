@@ -29,7 +29,7 @@ pub data LabelShape : Type 0 where
   outer_shape : LabelShape → ValueShape → LabelShape
   inner_shape : LabelShape → LabelShape
 
--- numbers behind others, each behind a comma
+-- numbers after others, each after a comma
 abbrev pub more_parts : List ℕ → List Part
 more_parts [] = []
 more_parts (n ∷ ns) = mark comma ∷ digits n ∷ more_parts ns

@@ -20,7 +20,7 @@ pub enum LitFault {
 }
 
 impl LitFault {
-    /// The number that stands behind the L of a printed fault. It takes no memory.
+    /// The number that stands after the L of a printed fault. It takes no memory.
     pub fn number(&self) -> u8
         ensures { result ≡ lit_fault_number self.now }
     {

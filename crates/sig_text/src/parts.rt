@@ -13,7 +13,7 @@ use alg_model::Amount;
 use meta_base::bytes::{behind_blanks, is_digit, is_letter};
 use std::alloc::Global;
 
-/// What stands at the front of a text, and behind it the rest of the text.
+/// What stands at the front of a text, and after it the rest of the text.
 #[derive(Clone, Copy, Debug)]
 pub enum Next<'a> {
     End,
@@ -60,7 +60,7 @@ pub fn end_at(text: &[u8]) -> Result<(), Stop>
     }
 }
 
-// What comes behind that mark.
+// What comes after that mark.
 pub fn mark_at(text: &[u8], wanted: u8) -> Result<&[u8], Stop>
     ensures { Leaves (take_mark wanted (parts_of text.now)) result }
 {
@@ -70,7 +70,7 @@ pub fn mark_at(text: &[u8], wanted: u8) -> Result<&[u8], Stop>
     }
 }
 
-// A number that is at most the greatest, and what comes behind it.
+// A number that is at most the greatest, and what comes after it.
 pub fn number_at(text: &[u8], greatest: Amount) -> Result<(Amount, &[u8]), Stop>
     requires { greatest ≤ MAX_LITERAL_NUMBER }
     ensures { Takes (λ n. n) (take_number greatest (parts_of text.now)) result }
@@ -81,7 +81,7 @@ pub fn number_at(text: &[u8], greatest: Amount) -> Result<(Amount, &[u8]), Stop>
     }
 }
 
-// A word, and what comes behind it.
+// A word, and what comes after it.
 pub fn word_at(text: &[u8]) -> Result<(&[u8], &[u8]), Stop>
     ensures { Takes (λ w. w.now) (take_word (parts_of text.now)) result }
 {
@@ -98,7 +98,7 @@ pub enum Side {
     Second,
 }
 
-// The side that `l:` or `r:` says, and what comes behind it.
+// The side that `l:` or `r:` says, and what comes after it.
 pub fn side_at(text: &[u8]) -> Result<(Side, &[u8]), Stop>
     ensures { Takes (λ side. side) (take_side (parts_of text.now)) result }
 {
@@ -120,7 +120,7 @@ pub enum Scope {
     Inner,
 }
 
-// The scope that `out` or `in` says, and what comes behind it.
+// The scope that `out` or `in` says, and what comes after it.
 pub fn scope_at(text: &[u8]) -> Result<(Scope, &[u8]), Stop>
     ensures { Takes (λ scope. scope) (take_scope (parts_of text.now)) result }
 {
@@ -131,7 +131,7 @@ pub fn scope_at(text: &[u8]) -> Result<(Scope, &[u8]), Stop>
     }
 }
 
-// One of two marks, and what comes behind it.
+// One of two marks, and what comes after it.
 fn either_at(text: &[u8], one: u8, other: u8) -> Result<(u8, &[u8]), Stop>
     ensures { Takes (λ mark. mark) (take_either one other (parts_of text.now)) result }
 {
@@ -141,7 +141,7 @@ fn either_at(text: &[u8], one: u8, other: u8) -> Result<(u8, &[u8]), Stop>
     }
 }
 
-// One of two marks and a number, and what comes behind them.
+// One of two marks and a number, and what comes after them.
 pub fn marked_at(
     text: &[u8],
     one: u8,
@@ -156,7 +156,7 @@ pub fn marked_at(
     Ok(((mark, n), rest))
 }
 
-// The numbers between two marks, with commas between them, and what comes behind.
+// The numbers between two marks, with commas between them, and what comes after.
 pub fn list_at(
     alloc: Global,
     text: &[u8],

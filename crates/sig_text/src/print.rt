@@ -13,9 +13,9 @@ use alg_model::{Alg, Form, Label, LabelForm, MAX_MARKS, TableRow, Tree, Value};
 use meta_base::{NoMemory, Text, push_number};
 use std::alloc::Global;
 
-/// The printed text of a value of the algebra. [`crate::read_value`] reads it back where no number of the
-/// value is above the greatest of the algebra's edition, and [`crate::read_value_to`] where none is above the
-/// number that it is given. It is refused for want of memory alone.
+/// For a text alone; the program appends values to lines. The printed text of a value of the algebra.
+/// [`crate::read_value`] reads it back where no number of the value is above the greatest of the algebra's edition, and
+/// [`crate::read_value_to`] where none is above the number that it is given. It is refused for want of memory alone.
 pub fn print_value(alloc: Global, alg: &Alg, value: &Value) -> Result<Text, NoMemory>
     requires { In (carrier_of alg.now.expression) (pure_value value.now) }
     ensures { IfOk result (λ text. text ≡ value_text (carrier_of alg.now.expression) (pure_value value.now)) }
@@ -25,8 +25,9 @@ pub fn print_value(alloc: Global, alg: &Alg, value: &Value) -> Result<Text, NoMe
     Ok(Text::from_string(out))
 }
 
-/// The printed text of a label of the algebra. [`crate::read_label`] reads it back where no number of the
-/// label is above the greatest of the algebra's edition. It is refused for want of memory alone.
+/// For a text alone; the program appends labels to lines. The printed text of a label of the algebra.
+/// [`crate::read_label`] reads it back where no number of the label is above the greatest of the algebra's edition. It
+/// is refused for want of memory alone.
 pub fn print_label(alloc: Global, alg: &Alg, label: &Label) -> Result<Text, NoMemory>
     requires { IsLabel alg.now.expression (pure_label label.now) }
     ensures { IfOk result (λ text. text ≡ label_text alg.now.expression (pure_label label.now)) }
@@ -159,7 +160,7 @@ fn push_pair(
     Ok(out.push(')')?)
 }
 
-// A label behind what begins it.
+// A label after what begins it.
 #[cycle(push_tree_label)]
 fn push_behind(out: &mut String, start: &str, tree: &Tree, label: &Label) -> Result<(), NoMemory>
     requires ranges { MeetsRanges (expression_of tree.now) }

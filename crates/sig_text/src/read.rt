@@ -29,7 +29,7 @@ use std::alloc::Global;
 ///
 /// [`LitFault::BadText`] where the text hasn't the shape that the algebra's kind asks for, a number is
 /// above that bound, or a number of a set is there twice; else [`LitFault::NotInCarrier`] where it has
-/// one and the carrier lacks what it spells. `NoMemory` is answered for want of memory alone.
+/// one and the carrier doesn't have what it spells. `NoMemory` is answered for want of memory alone.
 pub fn read_value(alloc: Global, alg: &Alg, text: &[u8]) -> Result<Value, LitError>
     ensures value { IfOk result (λ v. ValueText alg.now text.now (pure_value v)) }
     ensures fault { IfErr result (IsValueError alg.now text.now) }

@@ -67,7 +67,7 @@ pub record IsRelaxedAt (net : PureNet) (dest : ℕ) (table : List PureRow) (i : 
 abbrev pub passed_on : PureNet → ℕ → ℕ → PureRoute → Option PureRoute
 passed_on net i j next = if is_among next.path i then None else option_map (λ (v : PureValue). record { value = v; path = i ∷ next.path }) (along net i j (Some next.value))
 
--- what the arc from i to j offers of what is told of j
+-- what the arc from i to j offers of what is reported of j
 abbrev pub offer_by : PureNet → Told → ℕ → ℕ → Option PureRoute
 offer_by net told i j = option_and_then (passed_on net i j) (told j)
 

@@ -20,7 +20,7 @@ use path_store::compare;
 use std::alloc::Global;
 use std::cmp::Ordering;
 
-// The path of the node and the nodes behind it.
+// The path of the node and the nodes after it.
 fn path_from(alloc: Global, node: NodeId, behind: &[NodeId]) -> Result<List<NodeId>, NoMemory>
     ensures { IfOk result (λ path. path ≡ node ∷ behind.now) }
 {

@@ -135,9 +135,10 @@ fn is_relaxed_at(
     Ok(!is_improved(alloc, net, table, node)?)
 }
 
-/// Whether the table is relaxed: each route's path is a walk from its node that weighs the route's value, and
-/// neither an origin nor an arc gives a node a value that is preferred to that of its row. Where all labels are
-/// isotone, these are the tables that no walk beats ([`crate::relaxed_is_optimal`]).
+/// For whoever judges a given table; the program makes its own. Whether the table is relaxed: each route's path is a
+/// walk from its node that weighs the route's value, and neither an origin nor an arc gives a node a value that is
+/// preferred to that of its row. Where all labels are isotone, these are the tables that no walk beats
+/// ([`crate::relaxed_is_optimal`]).
 ///
 /// The table is one of the network's: its destination is the network's, and its rows are those of the nodes, in
 /// order. It is refused for want of memory alone.

@@ -147,8 +147,9 @@ fn is_choice(
     is_made(alloc, net, table, own, node)
 }
 
-/// Whether the table is stable: each row is the best of what the node's own origin and its arcs offer it from
-/// the other rows, by value and then by path, or none where nothing is offered (Sobrinho 2005).
+/// For whoever judges a given table; the program makes its own. Whether the table is stable: each row is the best of
+/// what the node's own origin and its arcs offer it from the other rows, by value and then by path, or none where
+/// nothing is offered (Sobrinho 2005).
 ///
 /// The table is one of the network's: its destination is the network's, and its rows are those of the nodes, in
 /// order. The check looks at each arc and origin once or twice, and is refused for want of memory alone.

@@ -49,10 +49,10 @@ fn is_row_at(net: &Net, dest: DestId, node: usize, row: &RouteRow) -> bool
     }
 }
 
-/// Whether the table is one of the network's, as [`crate::is_relaxed`] and [`crate::is_stable`] ask: its
-/// destination is the network's, it has one row for each node, in order, and the values of its routes are the
-/// algebra's, with numbers of at most [`MAX_ROW_NUMBER`] and paths of at most [`MAX_WALK_NODES`] nodes. It takes
-/// no memory.
+/// For whoever judges a given table; the program makes its own. Whether the table is one of the network's, as
+/// [`crate::is_relaxed`] and [`crate::is_stable`] ask: its destination is the network's, it has one row for each node,
+/// in order, and the values of its routes are the algebra's, with numbers of at most [`MAX_ROW_NUMBER`] and paths of at
+/// most [`MAX_WALK_NODES`] nodes. It takes no memory.
 pub fn is_table_of(net: &Net, table: &DestTable) -> bool
     ensures { Decides result ((table.now.dest.0 < length net.now.dests) ×
         TableOf net.now table.now.dest.0 (rows_of table.now)) }

@@ -87,9 +87,9 @@ pub(crate) fn carry(
     Ok(weight)
 }
 
-/// What the walk weighs for the destination: the value of the last node's origin, changed by the labels of the
-/// arcs from the last to the first, or `None` where a label prohibits it or the list isn't a walk (Griffin and
-/// Sobrinho 2005), as where it has nodes that aren't the network's.
+/// For whoever judges a given table; the program makes its own. What the walk weighs for the destination: the value of
+/// the last node's origin, changed by the labels of the arcs from the last to the first, or `None` where a label
+/// prohibits it or the list isn't a walk (Griffin and Sobrinho 2005), as where it has nodes that aren't the network's.
 ///
 /// The destination is the network's, and there are at most [`MAX_WALK_NODES`] nodes. It is refused for want of
 /// memory alone.

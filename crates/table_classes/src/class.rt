@@ -50,8 +50,8 @@ pub fn table_example(tree: &Tree, label: &Label, fact: Fact) -> Option<Example>
     Row::of(tree, label).example(fact)
 }
 
-/// The class of a label of a table algebra: an equal label, its exact facts, and the first examples of
-/// those that fail. It is refused for want of memory alone.
+/// For whoever wants classes with their examples; the program needs none. The class of a label of a table algebra: an
+/// equal label, its exact facts, and the first examples of those that fail. It is refused for want of memory alone.
 pub fn table_class(alloc: Global, alg: &Alg, label: &Label) -> Result<Class, NoMemory>
     requires table { IsTable alg.now.expression }
     requires label { IsLabel alg.now.expression (pure_label label.now) }

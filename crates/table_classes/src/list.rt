@@ -14,8 +14,9 @@ use alg_model::{Alg, Label, Tree};
 use meta_base::NoMemory;
 use std::alloc::Global;
 
-/// A class for each profile that a row of a table algebra has, in the order of the first rows that have
-/// them. It is refused for want of memory alone.
+/// For whoever wants all classes of an algebra; the program takes labels by their profiles. A class for each profile
+/// that a row of a table algebra has, in the order of the first rows that have them. It is refused for want of memory
+/// alone.
 pub fn table_class_list(alloc: Global, alg: &Alg) -> Result<ClassList, NoMemory>
     requires { IsTable alg.now.expression }
     ensures { IfOk result (Covers alg.now) }

@@ -1,4 +1,4 @@
--- Clocks behind a delivery, whatever it answered.
+-- Clocks after a delivery, whatever it answered.
 use Rattle.std.proofs.Common.{◌≡◌, ℕ, ◌+◌, ◌≤◌, Some, refl, subst, sym, arith}
 use Rattle.net_graph.specs.Nets.{PureNet}
 use Rattle.node_core.specs.Kinds.{Kind, IsLawful}

@@ -8,7 +8,7 @@ use meta_base::ArcId;
 use node_core::{Config, Delivered, NodeCore};
 use std::test::Fail;
 
-/// Makes the delivery on the arc, behind so many others: the clock that it gave the listener, or `None` where no
+/// Makes the delivery on the arc, after so many others: the clock that it gave the listener, or `None` where no
 /// message waited, and then nothing has changed. It fails where the network has no such arc, and where the machine took
 /// a message that it didn't show before, or took none of those that it showed.
 pub fn make_delivery<N: NodeCore>(

@@ -1,5 +1,5 @@
 //! What the tests of nodes and of their machines have in common: the new nodes of a network, single deliveries on the
-//! machine of one thread, and rows that are told by texts. The readers of texts promise nothing, so that no test's
+//! machine of one thread, and rows that are given by texts. The readers of texts promise nothing, so that no test's
 //! proof sees heavy contracts. It stands on `path_vector`, on `stable_check` for equal routes, and on the readers of
 //! tests. Tests alone stand on it.
 #![tactic(auto)]

@@ -1,4 +1,4 @@
-// Tests of what a gate is told: that workers really run at once and pass each other messages.
+// Tests of what is reported to a gate: that workers really run at once and pass each other messages.
 use crate::runs::run;
 use meta_base::{ArcId, Delivery, Gate};
 use std::alloc::Global;
@@ -17,7 +17,7 @@ const WAIT_TURNS: u64 = 100_000_000;
 
 const HOPS: &str = "add(1..1)";
 
-// Runs the network of these lines, told to the gate.
+// Runs the network of these lines and reports to the gate.
 fn run_told<G: Gate, R: Threads + Wait + Sync>(
     rt: &R,
     alloc: Global,

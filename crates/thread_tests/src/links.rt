@@ -86,7 +86,7 @@ fn ends_look_again(rt: HostRuntime) -> Result<(), Fail> {
     Ok(())
 }
 
-// Sends the numbers from 0 on, and flushes until it is told that they came, at most LOOKS times.
+// Sends the numbers from 0 on, and flushes until a report says that they came, at most LOOKS times.
 fn send_numbers(mut out: OutEnd<u64>, told: &AtomicBool) -> OutEnd<u64>
     requires { ITEMS ≤ spare_of out }
     ensures { out_link result ≡ out_link out }

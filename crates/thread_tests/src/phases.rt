@@ -55,7 +55,7 @@ struct Phase {
     rows: &'static str,
 }
 
-// Whether a run on the network ends as told.
+// Whether a run on the network ends as stated.
 fn ends_so<R: Threads + Wait + Sync>(
     rt: &R,
     alloc: Global,

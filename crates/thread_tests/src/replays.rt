@@ -20,7 +20,7 @@ use test_readers::network;
 // How many networks of each kind are drawn.
 const NETWORKS: u32 = 60;
 
-// Counts the deliveries, adds up their clocks, and notes whether one was told by a worker that hasn't its listener.
+// Counts the deliveries, adds up their clocks, and notes whether one was reported by a worker that hasn't its listener.
 #[derive(Drop)]
 struct Tally<'a> {
     net: &'a Net,
@@ -50,7 +50,7 @@ impl<'a> Tally<'a> {
         worker == self.workers || worker == self.net.arc(arc).tail.0 % self.workers
     }
 
-    // Whether it was told of such deliveries, and of no others.
+    // Whether such deliveries, and of no others.
     fn was_told(&self, journal: &[Delivery]) -> bool {
         let clocks = journal
             .iter()

@@ -62,14 +62,14 @@ shuffled false false true false e = refl
 shuffled false false false true e = refl
 shuffled false false false false e = refl
 
--- behind a new name stands one that is there twice, where that is the new one or was there before it
+-- after a new name stands one that is there twice, where that is the new one or was there before it
 pub twice_more : (there : List (List ℕ)) (new : List ℕ) (names : List (List ℕ)) → names_twice (there ++ new ∷ []) names ≡ (list_any (λ w. bytes_eq w new) names || names_twice there names)
 twice_more there new [] = refl
 twice_more there new (name ∷ names) =
     rw (is_there_push there new name, twice_more (there ++ new ∷ []) name names, twice_more there new names, twice_more there name names)
     (shuffled (is_some (number_of there name)) (bytes_eq name new) (list_any (λ w. bytes_eq w name) names) (list_any (λ w. bytes_eq w new) names) (names_twice there names))
 
--- a name is there or not, and what is behind it
+-- a name is there or not, and what is after it
 pub twice_first : (there : List (List ℕ)) (name : List ℕ) (names : List (List ℕ)) → names_twice there (name ∷ names) ≡ (is_some (number_of there name) || (list_any (λ w. bytes_eq w name) names || names_twice there names))
 twice_first there name names = rw (twice_more there name names) refl
 

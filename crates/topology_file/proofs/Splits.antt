@@ -6,7 +6,7 @@ use Rattle.meta_base.specs.Bytes.{is_blank, front, behind}
 use Rattle.memchr.specs.Find.{Nowhere, NoneBefore, Passes, is_byte}
 use Rattle.topology_file.specs.Texts.{is_not, is_no_blank, lines_of, words_of}
 
--- a text that isn't empty is its first line and the lines behind the line feed
+-- a text that isn't empty is its first line and the lines after the line feed
 pub lines_split : (c : ℕ) (cs : List ℕ) → lines_of (c ∷ cs) ≡ front (is_not 10) (c ∷ cs) ∷ lines_of (drop 1 (behind (is_not 10) (c ∷ cs)))
 lines_split c [] = by (eqb c 10) refl
   where
@@ -65,7 +65,7 @@ length-behind p (c ∷ cs) = by (p c) (length-behind p cs)
     by true h = omega arith
     by false h = omega arith
 
--- the word at the front of what isn't blank, and the words behind it
+-- the word at the front of what isn't blank, and the words after it
 pub words_first : (text rest : List ℕ) → rest ≡ behind is_blank text → eqb (length rest) 0 ≡ false → words_of text ≡ front is_no_blank rest ∷ words_of (behind is_no_blank rest)
 words_first text [] e h = absurd (cc)
 words_first text (c ∷ cs) e h = words_skip text ∙ ap words_of (sym e) ∙ words_word c cs (behind_stops text c cs (sym e))
@@ -74,7 +74,7 @@ pub words_none : (text rest : List ℕ) → rest ≡ behind is_blank text → eq
 words_none text [] e h = words_skip text ∙ ap words_of (sym e)
 words_none text (c ∷ cs) e h = absurd (grind (arith, nat_tests))
 
--- behind a word stands less than the text
+-- after a word stands less than the text
 pub word_shorter : (text rest : List ℕ) → rest ≡ behind is_blank text → eqb (length rest) 0 ≡ false → length (behind is_no_blank rest) < length text
 word_shorter text [] e h = absurd (cc)
 word_shorter text (c ∷ cs) e h =
@@ -83,12 +83,12 @@ word_shorter text (c ∷ cs) e h =
     let whole : length (c ∷ cs) ≤ length text = subst (λ (x : List ℕ). length x ≤ length text) (sym e) (length-behind is_blank text) in
     rw stops (omega arith)
 
--- the first line of a text, and the lines behind its line feed, if it has one
+-- the first line of a text, and the lines after its line feed, if it has one
 pub lines_first : (text line rest : List ℕ) → eqb (length text) 0 ≡ false → line ≡ front (is_not 10) text → rest ≡ behind (is_not 10) text → lines_of text ≡ line ∷ lines_of (drop 1 rest)
 lines_first [] line rest h f b = absurd (cc)
 lines_first (c ∷ cs) line rest h f b = lines_split c cs ∙ rw (← f, ← b) refl
 
--- behind a line stands less than the text
+-- after a line stands less than the text
 pub line_shorter : (text rest : List ℕ) → eqb (length text) 0 ≡ false → rest ≡ behind (is_not 10) text → length (drop 1 rest) < length text
 line_shorter [] rest h b = absurd (cc)
 line_shorter (c ∷ cs) [] h b = omega arith
@@ -96,7 +96,7 @@ line_shorter (c ∷ cs) (d ∷ ds) h b =
     let whole : length (d ∷ ds) ≤ length (c ∷ cs) = subst (λ (x : List ℕ). length x ≤ length (c ∷ cs)) (sym b) (length-behind (is_not 10) (c ∷ cs)) in
     omega arith
 
--- so many bytes at the front pass, and the one behind them doesn't
+-- so many bytes at the front pass, and the one after them doesn't
 pub record StopsAt (p : ℕ → Bool) (text : List ℕ) (n : ℕ) : Type 0 where
   pub within : n ≤ length text
   pub passes : (k : ℕ) → k < n → p (get_or text k 0) ≡ true
@@ -114,7 +114,7 @@ front_taken p (c ∷ cs) (suc n) s =
     let more = front_taken p cs n (record { within = omega (arith, s.within); passes = λ k h. s.passes (suc k) (omega (arith, h)); stops = λ h. s.stops (omega (arith, h)) }) in
     rw first (ap (λ x. c ∷ x) more.0, more.1)
 
--- and what comes behind it is left
+-- and what comes after it is left
 pub behind_left : (p : ℕ → Bool) (text : List ℕ) (n : ℕ) → StopsAt p text n → drop n text ≡ behind p text
 behind_left p text n s = (front_taken p text n s).1
 

@@ -99,7 +99,7 @@ may_link f tail head l ends label bound room =
 pub drop_made : (f : PureNetFile) (a b : List ℕ) (tail head : ℕ) → ends_in f.net a b ≡ Ok (tail, head) → has_arc (changed_net f) tail head ≡ true → after_then_drop f a b ≡ with_change f (drop tail head)
 drop_made f a b tail head n h = rw (n, h) refl
 
--- a line of the network behind a change
+-- a line of the network after a change
 pub late : (f : PureNetFile) (c : PureChange) (cs : List PureChange) (line : NetLine) → f.changes ≡ c ∷ cs → after_form spelled f (pure_net_line line) ≡ Err (late_fault line)
 late f c cs (lines.Nodes names) e = by (list_all is_name (words_of names.now))
   where

@@ -3,7 +3,7 @@ use Rattle.std.specs.Prelude.{ℕ}
 use Rattle.topology_file.specs.declared.faults.NetKind.{NetKind}
 use Rattle.topology_file.specs.declared.faults.NetKind.TheVariants.{BadLine, UnknownNode, NodeTwice, ArcTwice, SelfArc, BadLabel, BadValue, OriginTwice, TooMany, AfterThen, NoArc}
 
--- the number that stands behind the N of a printed fault
+-- the number that stands after the N of a printed fault
 abbrev pub net_kind_number : NetKind → ℕ
 net_kind_number BadLine = 1
 net_kind_number UnknownNode = 2

@@ -28,7 +28,7 @@ pub data PureLine : Type 0 where
 abbrev pub named_nodes : List (List ℕ) → PureLine
 named_nodes words = if list_all is_name words then nodes words else bad
 
--- `node A ..`, by the words behind the first: there is one at least
+-- `node A ..`, by the words after the first: there is one at least
 abbrev pub node_line : List (List ℕ) → PureLine
 node_line [] = bad
 node_line (word ∷ words) = named_nodes (word ∷ words)
@@ -44,7 +44,7 @@ abbrev pub plain_line : List (List ℕ) → PureLine
 plain_line [] = silent
 plain_line (word ∷ words) = if bytes_eq word (codes "node") then node_line words else drop_line (word ∷ words)
 
--- `origin D at A`, by the words behind the first
+-- `origin D at A`, by the words after the first
 abbrev pub origin_line : List ℕ → List ℕ → List ℕ → List ℕ → PureLine
 origin_line dest at a literal = if bytes_eq at (codes "at") && is_name dest && is_name a then origin dest a literal else bad
 
@@ -63,7 +63,7 @@ short_line word a b literal =
 abbrev pub long_line : List ℕ → List ℕ → List ℕ → List ℕ → List ℕ → PureLine
 long_line word x y z literal = if bytes_eq word (codes "origin") then origin_line x y z literal else then_line word x y z literal
 
--- the words before a colon, and the text behind it
+-- the words before a colon, and the text after it
 abbrev pub colon_line : List (List ℕ) → List ℕ → PureLine
 colon_line (word ∷ x ∷ y ∷ []) literal = short_line word x y literal
 colon_line (word ∷ x ∷ y ∷ z ∷ []) literal = long_line word x y z literal

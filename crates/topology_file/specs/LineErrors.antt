@@ -34,7 +34,7 @@ pub record AreEnds (net : PureNet) (tail head : ℕ) : Type 0 where
 abbrev pub fault_behind : NetKind → List (List ℕ) → NetKind
 fault_behind kind words = if list_all is_name words then kind else BadLine
 
--- what words behind `node` make of a network
+-- what words after `node` make of a network
 abbrev pub after_names : PureNet → List (List ℕ) → Result PureNet NetKind
 after_names net words = if list_all is_name words then after_nodes net words else Err BadLine
 
@@ -45,7 +45,7 @@ after_net_line net (lines.Link listener speaker label) = after_link spelled net 
 after_net_line net (lines.Both listener speaker label) = after_both spelled net listener.now speaker.now label.now
 after_net_line net (lines.Origin dest node value) = after_origin spelled net dest.now node.now value.now
 
--- the fault of a line of the network behind a change
+-- the fault of a line of the network after a change
 abbrev pub late_fault : NetLine → NetKind
 late_fault (lines.Nodes names) = fault_behind AfterThen (words_of names.now)
 late_fault (lines.Link listener speaker label) = AfterThen

@@ -27,7 +27,7 @@ pub record PureNetFile : Type 0 where
 abbrev pub empty_file : PureAlg → PureNetFile
 empty_file alg = record { net = empty_net alg; changes = [] }
 
--- the network behind all changes so far
+-- the network after all changes so far
 abbrev pub changed_net : PureNetFile → PureNet
 changed_net f = after_all f.net f.changes
 
@@ -132,7 +132,7 @@ abbrev pub with_change : PureNetFile → PureChange → Result PureNetFile NetKi
 with_change f c =
     if_room (nat_lt (length f.changes) (max_changes f.net.alg.edition)) Changes (record f { changes = f.changes ++ c ∷ [] })
 
--- `then link A B : LABEL`: behind the changes before it the arc is there, or there is room for it
+-- `then link A B : LABEL`: after the changes before it the arc is there, or there is room for it
 abbrev pub has_room_to_link : PureNetFile → ℕ → ℕ → Bool
 has_room_to_link f tail head = has_arc (changed_net f) tail head || nat_lt (length (changed_net f).arcs) max_arcs
 

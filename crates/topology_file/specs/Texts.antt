@@ -34,7 +34,7 @@ ends_word [] = true
 ends_word (c ∷ cs) = is_blank c
 
 -- the words of a text that begins with this byte and goes on in these words: a blank adds nothing, and
--- any other byte is a word of its own if a word ends behind it, and else stands in the first one
+-- any other byte is a word of its own if a word ends after it, and else stands in the first one
 abbrev pub words_from : ℕ → Bool → List (List ℕ) → List (List ℕ)
 words_from c ends words = if is_blank c then words else (if ends then (c ∷ []) ∷ words else onto_first c words)
 

@@ -46,7 +46,7 @@ HasDestName lines.Bad = Unit {0}
 abbrev pub file_with : PureNet → List Change → PureNetFile
 file_with net changes = record { net = net; changes = map pure_change changes }
 
--- each change may be made, and so many arcs are there behind all of them
+-- each change may be made, and so many arcs are there after all of them
 pub record IsDraft (f : PureNetFile) (arc_count : ℕ) : Type 0 where
   pub may : AreChanges f.net f.changes
   pub count : arc_count ≡ length (changed_net f).arcs

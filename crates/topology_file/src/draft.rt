@@ -31,7 +31,7 @@ pub struct FileDraft {
     alloc: Global,
     draft: NetDraft,
     changes: List<Change>,
-    // How many arcs there are behind the changes.
+    // How many arcs there are after the changes.
     arc_count: usize,
 }
 
@@ -110,7 +110,7 @@ impl FileDraft {
         added
     }
 
-    // The arc gets this label behind the changes so far, or is added.
+    // The arc gets this label after the changes so far, or is added.
     #[tactic(auto, using(crate::proofs::Steps::link_made))]
     fn add_then_link(
         &mut self,
@@ -127,7 +127,7 @@ impl FileDraft {
         self.add_change(Change::Link { tail, head, label }, arc_count)
     }
 
-    // The arc is taken out behind the changes so far.
+    // The arc is taken out after the changes so far.
     #[tactic(auto, using(crate::proofs::Steps::drop_made, crate::proofs::Steps::dropped))]
     fn add_then_drop(&mut self, listener: &[u8], speaker: &[u8]) -> Result<(), LineError>
         ensures ok { OnOk result (after_then_drop self.old listener.now speaker.now ≡ Ok self.new) }
@@ -140,7 +140,7 @@ impl FileDraft {
         self.add_change(Change::Drop { tail, head }, self.arc_count - 1)
     }
 
-    // One change more, behind which there are so many arcs.
+    // One change more, after which there are so many arcs.
     fn add_change(&mut self, change: Change, arc_count: usize) -> Result<(), LineError>
         requires may { MayChange (changed_net self.old) (pure_change change) }
         requires count { arc_count ≡ length (changed (changed_net self.old) (pure_change change)).arcs }
@@ -155,7 +155,7 @@ impl FileDraft {
         Ok(())
     }
 
-    // How many arcs there are if this one gets a label behind the changes so far.
+    // How many arcs there are if this one gets a label after the changes so far.
     #[tactic(auto, using(crate::proofs::Steps::linked, crate::proofs::Steps::added))]
     fn count_with(&self, tail: NodeId, head: NodeId) -> Result<usize, LineError>
         ensures count { IfOk result (λ count. (l : PureLabel) →
@@ -173,7 +173,7 @@ impl FileDraft {
         Ok(self.arc_count + 1)
     }
 
-    // Whether the arc is there behind the changes so far, which leave a network.
+    // Whether the arc is there after the changes so far, which leave a network.
     #[tactic(auto, using(crate::proofs::Steps::draft_has_arc))]
     fn has_arc(&self, tail: NodeId, head: NodeId) -> bool
         ensures there { result ≡ has_arc (changed_net self.now) tail.0 head.0 }
@@ -188,7 +188,7 @@ impl FileDraft {
     }
 }
 
-// Whether the arc is there behind these changes, by whether it is there before them.
+// Whether the arc is there after these changes, by whether it is there before them.
 fn is_there_behind_all(is_there: bool, changes: &[Change], tail: NodeId, head: NodeId) -> bool
     ensures { result ≡ is_there_behind_all tail.0 head.0 (map pure_change changes.now) is_there }
 {
@@ -215,7 +215,7 @@ fn is_there_behind(is_there: bool, change: &Change, tail: NodeId, head: NodeId) 
     }
 }
 
-// The fault of a line of the network behind a change: a word that is no name comes before it.
+// The fault of a line of the network after a change: a word that is no name comes before it.
 fn late_fault(line: NetLine<'_>) -> LineError
     ensures { result ≡ Bad (late_fault_of line.entry) }
 {

@@ -11,7 +11,7 @@ use thiserror::Error;
 pub enum What {
     /// Nodes: at most [`net_graph::max_nodes`].
     Nodes,
-    /// Arcs: at most [`net_graph::MAX_ARCS`], also behind the changes so far.
+    /// Arcs: at most [`net_graph::MAX_ARCS`], also after the changes so far.
     Arcs,
     /// Destinations: at most [`net_graph::max_dests`].
     Dests,
@@ -45,12 +45,12 @@ pub enum NetKind {
     TooMany(What),
     /// It adds to the network, and a `then` line came before; printed as N10.
     AfterThen,
-    /// It takes out an arc that isn't there behind the changes before it; printed as N11.
+    /// It takes out an arc that isn't there after the changes before it; printed as N11.
     NoArc,
 }
 
 impl NetKind {
-    /// The number that stands behind the N of a printed fault. It takes no memory.
+    /// The number that stands after the N of a printed fault. It takes no memory.
     pub fn number(&self) -> u8
         ensures { result ≡ net_kind_number self.now }
     {

@@ -33,7 +33,7 @@ pub enum Line<'a> {
 /// What a line adds to the network.
 #[derive(Clone, Copy, Debug)]
 pub enum NetLine<'a> {
-    /// Nodes, by the text of the words behind the first, of which there is one at least.
+    /// Nodes, by the text of the words after the first, of which there is one at least.
     Nodes(&'a [u8]),
     /// An arc, by the names of its listener and its speaker and the text of its label.
     Link {
@@ -78,7 +78,7 @@ fn plain_line(text: &[u8]) -> Line<'_>
     }
 }
 
-// A line `node ..`, by the text behind that word.
+// A line `node ..`, by the text after that word.
 fn node_line(names: &[u8]) -> Line<'_>
     ensures form { pure_line result ≡ node_line_of (words_of names.now) }
     ensures names { HasDestName result }
@@ -114,7 +114,7 @@ fn drop_line<'a>(word: &[u8], rest: &'a [u8]) -> Line<'a>
     Line::ThenDrop { listener, speaker }
 }
 
-// A line with a colon, by the text before it and the text behind it.
+// A line with a colon, by the text before it and the text after it.
 fn colon_line<'a>(text: &'a [u8], literal: &'a [u8]) -> Line<'a>
     ensures form { pure_line result ≡ colon_line_of (words_of text.now) literal.now }
     ensures names { HasDestName result }

@@ -23,7 +23,7 @@ pub fn networks_keep_their_algebra()
     spelled_labels_are_labels();
 }
 
-/// A text has no more changes than the algebra's edition allows, and each is one that the network behind
+/// A text has no more changes than the algebra's edition allows, and each is one that the network after
 /// those before it may have.
 pub fn changes_of_texts_may_be_made()
     ensures few { (text : List ℕ) (alg : PureAlg) (f : PureNetFile) → NetText text alg f →

@@ -101,7 +101,7 @@ fn has_twice(draft: &NetDraft, names: &[u8]) -> bool
     false
 }
 
-// The fault of a new name, and those behind it, where no node may be added.
+// The fault of a new name, and those after it, where no node may be added.
 fn fault_of_full(draft: &NetDraft, name: &[u8], others: &[u8]) -> LineError
     requires name { is_name name.now ≡ true }
     requires absent { number_of draft.now.nodes name.now ≡ None }
@@ -115,7 +115,7 @@ fn fault_of_full(draft: &NetDraft, name: &[u8], others: &[u8]) -> LineError
     }
 }
 
-// Adds a node of the first name of a line. The others are those behind it.
+// Adds a node of the first name of a line. The others are those after it.
 #[tactic(auto, using(crate::proofs::NameLists::names_more, crate::proofs::NameLists::names_there))]
 fn add_first(draft: &mut NetDraft, name: &[u8], others: &[u8]) -> Result<(), LineError>
     ensures ok { OnOk result (

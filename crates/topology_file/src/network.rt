@@ -23,11 +23,11 @@ pub fn numbers_are_specified()
     ensures { MAX_LINE_BYTES ≡ max_line_bytes }
 {}
 
-/// What a network file means: a network, and the changes that come behind it.
+/// What a network file means: a network, and the changes that come after it.
 #[derive(Debug, Drop)]
 pub struct NetFile {
     pub net: Net,
-    /// Each is one that the network behind those before it may have.
+    /// Each is one that the network after those before it may have.
     pub changes: List<Change>,
 }
 
@@ -42,11 +42,11 @@ pub struct NetFile {
 ///   arc from A to B, and A isn't B.
 /// - `both A B : LABEL`: the arcs from A to B and from B to A.
 /// - `origin D at A : VALUE`: an origin of destination D at node A, which has no other one of D.
-/// - `then link A B : LABEL`: behind the changes so far, the arc from A to B gets this label in its
+/// - `then link A B : LABEL`: after the changes so far, the arc from A to B gets this label in its
 ///   place; if there is none, it is added as the last one.
-/// - `then drop A B`: behind the changes so far, the arc from A to B is taken out.
+/// - `then drop A B`: after the changes so far, the arc from A to B is taken out.
 ///
-/// Behind a `then` line only such lines come. A name is 1 to 32 ASCII letters, digits, `_`, `-` and `.`.
+/// After a `then` line only such lines come. A name is 1 to 32 ASCII letters, digits, `_`, `-` and `.`.
 /// The literal is all that follows the first colon of the line, as [`sig_text::read_label`] and
 /// [`sig_text::read_value`] have it. There are at most so many nodes, arcs, destinations and changes as
 /// [`net_graph`] says for the algebra's edition.

@@ -34,8 +34,8 @@ fn const_label(alloc: Global, value: &Value) -> Result<Label, NoMemory>
     Ok(Label::Const(value.copy(alloc)?))
 }
 
-/// The class of a left product's label, which sends every value to this one. The carrier is that of its part.
-/// It is refused for want of memory alone.
+/// For whoever wants classes with their examples; the program needs none. The class of a left product's label, which
+/// sends every value to this one. The carrier is that of its part. It is refused for want of memory alone.
 pub fn const_class(alloc: Global, carrier: &Carrier, value: &Value) -> Result<Class, NoMemory>
     requires carrier { IsCarrier (pure_carrier carrier.now) }
     requires value { In (pure_carrier carrier.now) (pure_value value.now) }

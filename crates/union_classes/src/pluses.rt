@@ -14,8 +14,8 @@ use alg_classes::{Class, ClassList};
 use meta_base::NoMemory;
 use std::alloc::Global;
 
-/// The class of a plus's label of the first algebra, from that of its part. It is refused for want of memory
-/// alone.
+/// For whoever wants classes with their examples; the program needs none. The class of a plus's label of the first
+/// algebra, from that of its part. It is refused for want of memory alone.
 pub fn plus_first_class(alloc: Global, x: &Class) -> Result<Class, NoMemory>
     ensures profile { IfOk result (λ z. z.profile ≡ x.now.profile) }
     ensures label { IfOk result (λ z. pure_label z.label ≡ pure.first_label (pure_label x.now.label)) }
@@ -29,8 +29,8 @@ pub fn plus_first_class(alloc: Global, x: &Class) -> Result<Class, NoMemory>
     })
 }
 
-/// The class of a plus's label of the second algebra, from that of its part. It is refused for want of memory
-/// alone.
+/// For whoever wants classes with their examples; the program needs none. The class of a plus's label of the second
+/// algebra, from that of its part. It is refused for want of memory alone.
 pub fn plus_second_class(alloc: Global, y: &Class) -> Result<Class, NoMemory>
     ensures profile { IfOk result (λ z. z.profile ≡ y.now.profile) }
     ensures label { IfOk result (λ z. pure_label z.label ≡ pure.second_label (pure_label y.now.label)) }
@@ -90,7 +90,8 @@ fn add_seconds(alloc: Global, pluses: &mut ClassList, ys: &[Class]) -> Result<()
     Ok(())
 }
 
-/// The classes of a plus's labels, from those of its parts. They are refused for want of memory alone.
+/// For whoever wants all classes of an algebra; the program takes labels by their profiles. The classes of a plus's
+/// labels, from those of its parts. They are refused for want of memory alone.
 pub fn plus_class_list(alloc: Global, a: &ClassList, b: &ClassList) -> Result<ClassList, NoMemory>
     ensures { (c d : Expression) (e : Edition) → IsFormed (plus c d) →
         Covers (alg_in c e) a.now → Covers (alg_in d e) b.now → IfOk result (Covers (alg_in (plus c d) e)) }

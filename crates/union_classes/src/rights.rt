@@ -23,8 +23,8 @@ pub fn keep_profile<C: Shaped>(shaped: &C) -> Profile
     kept_profile(shaped)
 }
 
-/// The class of a right product's label, which keeps every value. The carrier is that of its part. It is
-/// refused for want of memory alone.
+/// For whoever wants classes with their examples; the program needs none. The class of a right product's label, which
+/// keeps every value. The carrier is that of its part. It is refused for want of memory alone.
 pub fn keep_class(alloc: Global, carrier: &Carrier) -> Result<Class, NoMemory>
     requires { IsCarrier (pure_carrier carrier.now) }
     ensures label { IfOk result (λ class. pure_label class.label ≡ keep) }

@@ -15,7 +15,8 @@ use alg_classes::{Class, ClassList};
 use meta_base::NoMemory;
 use std::alloc::Global;
 
-/// The class of a sum's label, from those of its parts. It is refused for want of memory alone.
+/// For whoever wants classes with their examples; the program needs none. The class of a sum's label, from those of its
+/// parts. It is refused for want of memory alone.
 pub fn sum_class(alloc: Global, x: &Class, y: &Class) -> Result<Class, NoMemory>
     ensures made { IfOk result (IsSumOf x.now y.now) }
     ensures class { (a b : Expression) (e : Edition) → IsFormed (sum a b) →
@@ -52,7 +53,8 @@ fn add_sums(alloc: Global, sums: &mut ClassList, x: &Class, ys: &[Class]) -> Res
     Ok(())
 }
 
-/// The classes of a sum's labels, from those of its parts. They are refused for want of memory alone.
+/// For whoever wants all classes of an algebra; the program takes labels by their profiles. The classes of a sum's
+/// labels, from those of its parts. They are refused for want of memory alone.
 pub fn sum_class_list(alloc: Global, a: &ClassList, b: &ClassList) -> Result<ClassList, NoMemory>
     ensures { (c d : Expression) (e : Edition) → IsFormed (sum c d) →
         Covers (alg_in c e) a.now → Covers (alg_in d e) b.now → IfOk result (Covers (alg_in (sum c d) e)) }

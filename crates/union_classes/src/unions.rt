@@ -42,8 +42,8 @@ fn second_class(alloc: Global, y: &Class, other: &Value) -> Result<Class, NoMemo
     })
 }
 
-/// The class of a union's label of the first side, from that of its part. The carrier is that of the second
-/// side. It is refused for want of memory alone.
+/// For whoever wants classes with their examples; the program needs none. The class of a union's label of the first
+/// side, from that of its part. The carrier is that of the second side. It is refused for want of memory alone.
 pub fn union_first_class(alloc: Global, x: &Class, second: &Carrier) -> Result<Class, NoMemory>
     requires { IsCarrier (pure_carrier second.now) }
     ensures label { IfOk result (λ z. pure_label z.label ≡ pure.first_label (pure_label x.now.label)) }
@@ -53,8 +53,8 @@ pub fn union_first_class(alloc: Global, x: &Class, second: &Carrier) -> Result<C
     first_class(alloc, x, &second.member(alloc)?)
 }
 
-/// The class of a union's label of the second side, from that of its part. The carrier is that of the first
-/// side. It is refused for want of memory alone.
+/// For whoever wants classes with their examples; the program needs none. The class of a union's label of the second
+/// side, from that of its part. The carrier is that of the first side. It is refused for want of memory alone.
 pub fn union_second_class(alloc: Global, y: &Class, first: &Carrier) -> Result<Class, NoMemory>
     requires { IsCarrier (pure_carrier first.now) }
     ensures label { IfOk result (λ z. pure_label z.label ≡ pure.second_label (pure_label y.now.label)) }
@@ -145,7 +145,8 @@ fn shown_value(classes: &[Class]) -> Option<&Value>
     }
 }
 
-/// The classes of a union's labels, from those of its parts. They are refused for want of memory alone.
+/// For whoever wants all classes of an algebra; the program takes labels by their profiles. The classes of a union's
+/// labels, from those of its parts. They are refused for want of memory alone.
 pub fn union_class_list(alloc: Global, a: &ClassList, b: &ClassList) -> Result<ClassList, NoMemory>
     ensures { (c d : Expression) (e : Edition) → IsFormed (union c d) →
         Covers (alg_in c e) a.now → Covers (alg_in d e) b.now → IfOk result (Covers (alg_in (union c d) e)) }

@@ -86,12 +86,12 @@ fn keeps_rules(net: &Net)
     let _edition = net.edition();
 }
 
-/// Runs the new nodes of a network until nothing is on its way, and then carries them to each of the networks that
-/// it changes to, one after another, and runs them there; it ends before that where all turns are used up. The turns
-/// are one budget of deliveries for all phases, at most [`node_core::MAX_CLOCK`]. In each phase 1 to
+/// Runs the new nodes of a network until nothing is on its way, and then carries them to each of the networks that it
+/// changes to, one after another, and runs them there; it ends before that where all turns are used up. The turns are
+/// one budget of deliveries for all phases, at most [`node_core::MAX_CLOCK`]. In each phase 1 to
 /// [`quiet_ledger::MAX_WORKERS`] workers make the deliveries, at once, on threads of their own, so which are made in
-/// which order is theirs; the gate is told of each. The algebra is that of all networks, which differ in their arcs
-/// alone. It is refused for want of memory alone.
+/// which order is theirs; the gate gets a report of each. The algebra is that of all networks, which differ in their
+/// arcs alone. It is refused for want of memory alone.
 pub fn run_phases<A: Algebra + Sync, G: Gate, R: Threads + Wait + Sync>(
     rt: &R,
     alloc: Global,

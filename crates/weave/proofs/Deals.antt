@@ -66,7 +66,7 @@ module _ {S W : Type 0} where
         by true i = sym (no_node i)
         by false i = refl
 
-    -- the seat, where its place and its block are told otherwise
+    -- the seat, where its place and its block are given otherwise
     pub seat_at : (n len number : ℕ) (s : S) (v w : ℕ → View S W) → number ≡ n → len ≡ count → IsSeatPut v w (number % len) number s 0 [] → IsSeatPut v w (block_of count n) n s 0 []
     seat_at n len number s v w same all put = subst (λ m. IsSeatPut v w (m % count) m s 0 []) same (subst (λ k. IsSeatPut v w (number % k) number s 0 []) all put)
 

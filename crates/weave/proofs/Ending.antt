@@ -79,7 +79,7 @@ module _ {S M : Type 0} (k : Kind S M) (lawful : IsLawful k) (net : PureNet) (is
         total_same (length net.nodes) (λ i. length (h i ++ g i)) (λ i. length (h i) + length (g i)) (λ i lt. length-append (h i) (g i))
         ∙ total_plus (length net.nodes) (λ i. length (h i)) (λ i. length (g i))
 
-  -- and behind one round more
+  -- and after one round more
   pub come_on : (c : Machine S M) (old new : ℕ → View S M) (before after : Totals) (left : ℕ) → HasCome k net count turns c old before → left + before.taken ≡ turns → IsRound k net count left old new before after
       → HasCome k net count turns c new after
   come_on c old new before after left a is b =
@@ -154,7 +154,7 @@ module _ {S M : Type 0} (k : Kind S M) (lawful : IsLawful k) (net : PureNet) (is
     pub mergeable : AreOfDifferentNodes logs × AllByRecursion (λ (log : NodeLog). ClocksAscend log.entries) logs
     mergeable = logs_mergeable a.history (length net.nodes) logs logs_are clocks
 
-    -- The laws of merged histories and of counts are told by the crate that proves them.
+    -- The laws of merged histories and of counts are stated by the crate that proves them.
     pub phase_ends : ((c d : Machine S M) (history : ℕ → List (Taken M)) (journal : List Delivery) → Woven k net c history d → IsMergeOf net history journal → Ordered net journal → replay_from k net c journal ≡ Some d)
         → ((journal : List Delivery) (c : Machine S M) → Replay k net nodes journal ≡ Some c → SentIn k net nodes journal ≡ length journal + waiting_on net c)
         → ((d : Machine S M) (history : ℕ → List (Taken M)) → Woven k net (Start k nodes) history d → waiting_on net (Start k nodes) + sent_by_all k net (Start k nodes).node history ≡ taken_by_all net history + waiting_on net d)

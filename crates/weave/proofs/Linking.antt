@@ -26,7 +26,7 @@ listens_below net a i h = let from = option_from (λ (arc : PureArc). arc.tail) 
 pub apart_test : (m n : ℕ) → (m ≡ n → ⊥) → (m == n) ≡ false
 apart_test m n ne = false_from_ne_true (m == n) (λ e. ne (eqb-true m n e))
 
--- the block of a node, where the number of blocks is told by another
+-- the block of a node, where the number of blocks is given by another
 pub stands_at : (block len count node : ℕ) → block ≡ block_of len node → len ≡ count → block ≡ block_of count node
 stands_at block len count node e same = e ∙ ap (λ n. block_of n node) same
 

@@ -68,7 +68,7 @@ module _ {M : Type 0} where
       ap (on_arc b) (map-append numbered sent (p ∷ [])) ∙ on_arc_join b (map numbered sent) (map numbered (p ∷ [])) in
       rw joined (passed_then old mid new (on_arc b (map numbered sent)) [] (cond (p.0.0 == b) (p.1 ∷ []) []) [] first last)
 
--- what holds of each item with its place holds of one more behind them
+-- what holds of each item with its place holds of one more after them
 pub each_pushed : {X : Type 0} (P : ℕ → X → Type 0) (xs : List X) (x : X) → ((w : ℕ) (y : X) → slice_get xs w ≡ Some y → P w y) → P (length xs) x → (w : ℕ) (y : X) → slice_get (xs ++ x ∷ []) w ≡ Some y → P w y
 each_pushed P [] x before last zero y e = subst (P 0) (same_Some _ _ e) last
 each_pushed P [] x before last (suc w) y e = absurd (cc)

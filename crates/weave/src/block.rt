@@ -64,7 +64,8 @@ fn hear<N: NodeCore>(
 }
 
 /// The listener of the arc takes the message in front there, if both are here and one is seen, and what it puts out is
-/// sent. The gate is told of it, as made by the worker. It answers how many messages were sent, where one was taken.
+/// sent. The gate gets a report of it, as made by the worker. It answers how many messages were sent, where one was
+/// taken.
 pub(crate) fn step<N: NodeCore, G: Gate>(
     alloc: Global,
     block: &mut Block<N>,

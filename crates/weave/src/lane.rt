@@ -59,7 +59,7 @@ fn take_coming<N: NodeCore>(into: &mut InEnd<N::Message>, clock: u64) -> Option<
 }
 
 /// Takes the message in front of the arc, if its listener is here and one is seen, with the clock that it gives a
-/// node whose last one is told.
+/// node whose last one is known.
 pub(crate) fn take_front<N: NodeCore>(
     lane: &mut Lane<N::Message>,
     clock: u64,

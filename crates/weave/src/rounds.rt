@@ -35,7 +35,7 @@ pub(crate) struct Plan {
     pub(crate) arc: ArcId,
     /// Whether there was a round before it, so that a delivery is made on that arc first.
     pub(crate) is_later: bool,
-    /// The number of workers that the gate is told for that delivery.
+    /// The number of workers that is reported to the gate for that delivery.
     pub(crate) workers: u32,
 }
 

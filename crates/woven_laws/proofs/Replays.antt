@@ -61,7 +61,7 @@ module _ {M : Type 0} where
   taken_on_same h hs = rw (same_test h.arc) refl
 
 module _ {S M : Type 0} (k : Kind S M) (net : PureNet) where
-  -- what a node puts out behind a time is stamped no earlier
+  -- what a node puts out after a time is stamped no earlier
   late_out : IsLawful k → (t : ℕ) (s : S) (hs : List (Taken M)) → AllByRecursion (λ (h : Taken M). t ≤ h.clock) hs → AllByRecursion (λ (p : ℕ × M). t ≤ k.stamp p.1) (put_out k s hs)
   late_out lawful t s [] all = tt
   late_out lawful t s (h ∷ hs) all =

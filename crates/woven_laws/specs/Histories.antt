@@ -19,13 +19,13 @@ module _ {M : Type 0} where
   taken_on a [] = []
   taken_on a (h ∷ history) = cond (h.arc == a) (h.message ∷ taken_on a history) (taken_on a history)
 
-  -- the node's clock behind its history
+  -- the node's clock after its history
   abbrev pub clock_behind : ℕ → List (Taken M) → ℕ
   clock_behind t [] = t
   clock_behind t (h ∷ history) = clock_behind h.clock history
 
 module _ {S M : Type 0} (k : Kind S M) where
-  -- the node behind its history
+  -- the node after its history
   abbrev pub node_behind : S → List (Taken M) → S
   node_behind s [] = s
   node_behind s (h ∷ history) = node_behind (k.step s h.arc h.message h.clock).0 history

@@ -1,4 +1,4 @@
--- Histories one behind another, and what was woven twice. Lemmas, so that proofs of other crates may cite them.
+-- Histories one after another, and what was woven twice. Lemmas, so that proofs of other crates may cite them.
 use Rattle.std.proofs.Common.{◌≡◌, ℕ, List, [], ◌∷◌, ◌++◌, Bool, true, false, Option, Some, None, cond, refl, sym, ap, ◌∙◌, append_assoc, append-nil}
 use Rattle.std.specs.Prelude.{◌==◌}
 use Rattle.net_graph.specs.Nets.{PureNet}
@@ -67,7 +67,7 @@ module _ {S M : Type 0} (k : Kind S M) where
       }
 
   module _ (net : PureNet) (c d e : Machine S M) (h g : ℕ → List (Taken M)) where
-    -- two stretches of a run, one behind the other
+    -- two stretches of a run, one after the other
     pub woven_then : Woven k net c h d → Woven k net d g e → Woven k net c (λ i. h i ++ g i) e
     woven_then v w =
         record {

@@ -9,7 +9,7 @@ use Rattle.path_vector.specs.Updates.{noted}
 use Rattle.path_vector.proofs.Beginnings.{IsUnbegun}
 use Rattle.path_vector.proofs.beginning.begun_rows.Given as goal
 
--- the rows so far are the node's choices, and were told to the listeners that don't know them
+-- the rows so far are the node's choices, and were reported to the listeners that don't know them
 abbrev pub invariant-loop-place : goal.invariant-loop-place
 invariant-loop-place g l =
     let value = g.A.Algebra.sig_value l.fn.algebra in

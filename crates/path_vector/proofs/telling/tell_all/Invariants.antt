@@ -4,7 +4,7 @@ use Rattle.meta_base.specs.declared.ids.ArcId.{ArcId}
 use Rattle.path_vector.specs.Updates.{noted, pure_update}
 use Rattle.path_vector.proofs.telling.tell_all.Given as goal
 
--- the arcs so far were told
+-- it was reported on the arcs so far
 abbrev pub invariant-loop-arc : goal.invariant-loop-arc
 invariant-loop-arc l = record {
   told : map noted l.out.items ≡ map (λ (a : ArcId). (a.0, pure_update l.fn.update)) (take l.arc-index l.others);

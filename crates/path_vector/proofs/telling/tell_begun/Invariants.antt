@@ -6,7 +6,7 @@ use Rattle.path_vector.specs.Node.{told_on}
 use Rattle.path_vector.specs.Updates.{noted, pure_update, spoken_in}
 use Rattle.path_vector.proofs.telling.tell_begun.Given as goal
 
--- the listeners so far were told, where it is news to them
+-- it was reported to the listeners so far, where it is news to them
 abbrev pub invariant-loop-id : goal.invariant-loop-id
 invariant-loop-id l =
     let arcs = arcs_to l.fn.net l.fn.node.0 in

@@ -13,7 +13,7 @@ use Rattle.raml_syntax.proofs.Sequences.{reads_then, reads_not_first, then_possi
 use Rattle.raml_syntax.proofs.Behind.{behind_taken, behind_lacks, number_before_determined, number_before_possible, last_possible}
 use Rattle.raml_syntax.proofs.base.read_ranged.Goals as goal
 
--- what stands behind the top
+-- what stands after the top
 abbrev Range : Ranged → ℕ → Expression → List Mark → Type 0
 Range k top = Then (NumberBefore dots) (λ low. Last (ranged_meaning k top low))
 

@@ -2,7 +2,7 @@ use Rattle.node_core.specs.MachineOf.{machine_of, net_of}
 use Rattle.node_core.specs.Running.{AreUpTo, IsRunning}
 use Rattle.thread_tests.proofs.replays.makes_all.Given as goal
 
--- the machine still runs, behind so many deliveries
+-- the machine still runs, after so many deliveries
 abbrev pub invariant-loop-delivery : goal.invariant-loop-delivery
 invariant-loop-delivery g l =
     let machine = machine_of g.N.NodeCore.state g.N.NodeCore.note l.config in
