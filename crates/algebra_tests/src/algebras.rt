@@ -18,7 +18,7 @@ use sig_text::{print_value, read_label, read_value};
 use std::alloc::Global;
 use std::cmp::Ordering;
 use std::test::Fail;
-use test_readers::algebra;
+use testkit_readers::algebra;
 
 // The text of what the label makes of the value, or `None` where it prohibits it.
 #[tactic(auto, using(alg_model::specs::BoundLaws::at_most_more))]

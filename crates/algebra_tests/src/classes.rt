@@ -9,7 +9,7 @@ use scoped_classes::{inner_class, outer_class, scoped_class_list};
 use std::alloc::Global;
 use std::test::Fail;
 use table_classes::{table_class, table_class_list};
-use test_readers::algebra;
+use testkit_readers::algebra;
 use union_classes::{
     const_class, keep_class, left_class_list, plus_class_list, plus_first_class, plus_second_class,
     right_class_list, sum_class, sum_class_list, union_class_list, union_first_class,

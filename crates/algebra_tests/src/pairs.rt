@@ -6,7 +6,7 @@ use alg_model::Alg;
 use std::alloc::Global;
 use std::cmp::Ordering;
 use std::test::Fail;
-use test_readers::algebra;
+use testkit_readers::algebra;
 
 // A route: its value, and the routers of its path.
 #[derive(Drop, PartialEq)]

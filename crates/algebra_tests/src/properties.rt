@@ -13,7 +13,7 @@ use sig_text::read_label;
 use std::alloc::Global;
 use std::cmp::Ordering;
 use std::test::Fail;
-use test_readers::algebra;
+use testkit_readers::algebra;
 
 // An algebra, values of its carrier, all of them where it has at most a dozen, and all its labels.
 const SMALL_ALGEBRAS: &str = "add(0..1) | 0 1 2 3 | 0 1

@@ -16,7 +16,7 @@ use meta_base::NoMemory;
 use std::alloc::Global;
 use std::cmp::Ordering;
 use std::test::Fail;
-use test_readers::algebra;
+use testkit_readers::algebra;
 
 // An expression, a label, and two values. There is a row for each kind at least.
 const AGREED: &str = "add(0..9) | 3 | 4 | 9

@@ -13,7 +13,7 @@ use label_code::{Row, Run, run};
 use meta_base::{List, NoMemory};
 use std::alloc::Global;
 use std::test::Fail;
-use test_readers::algebra;
+use testkit_readers::algebra;
 
 // An expression, a label, its code, a value, its words, and the words of what the label makes of the value. There is a
 // row for each kind of label at least.

@@ -10,7 +10,7 @@ use meta_base::NoMemory;
 use std::alloc::Global;
 use std::cmp::Ordering;
 use std::test::Fail;
-use test_readers::algebra;
+use testkit_readers::algebra;
 
 // An expression, the code of its order, two values, and whether the first is preferred (`less`), the second
 // (`greater`), or none (`equal`). There is a row for each kind at least.

@@ -6,7 +6,7 @@ use net_graph::{DestTable, Net, RouteRow};
 use std::alloc::{AllocGlobal, Global};
 use std::test::Fail;
 use std::thread::Threads;
-use test_readers::network;
+use testkit_readers::network;
 
 // The tables of the network, found by so many workers.
 fn tables_by<R: AllocGlobal + Threads + Sync>(

@@ -19,8 +19,8 @@ use node_core::{Config, NodeCore};
 use path_vector::PvNode;
 use std::alloc::Global;
 use std::test::Fail;
-use test_nodes::{make_delivery, new_nodes, rows_now};
-use test_readers::network;
+use testkit_nodes::{make_delivery, new_nodes, rows_now};
+use testkit_readers::network;
 use vector_runs::carried_nodes;
 
 const NETWORKS: u32 = 1000;

@@ -9,8 +9,8 @@ use net_graph::Net;
 use node_core::{Config, NodeCore};
 use std::alloc::Global;
 use std::test::Fail;
-use test_nodes::{make_delivery, new_nodes};
-use test_readers::network;
+use testkit_nodes::{make_delivery, new_nodes};
+use testkit_readers::network;
 
 const MOST_STAGES: u32 = 12;
 

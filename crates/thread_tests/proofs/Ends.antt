@@ -10,7 +10,7 @@ use Rattle.path_vector.specs.Lawful.{path_vector_is_lawful}
 use Rattle.path_vector.specs.Node.{PvState, path_vector}
 use Rattle.path_vector.specs.Nodes.{PureNode, state_of}
 use Rattle.quiet_ledger.specs.declared.totals.Totals.{Totals}
-use Rattle.test_nodes.specs.Starts.{nets_are}
+use Rattle.testkit_nodes.specs.Starts.{nets_are}
 use Rattle.weave.specs.Phases.{IsPhaseEnd}
 
 -- they are of the phase's network

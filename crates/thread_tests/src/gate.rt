@@ -7,7 +7,7 @@ use std::sync::atomic::{AtomicBool, AtomicU32, AtomicU64, Ordering};
 use std::test::Fail;
 use std::thread;
 use std::thread::Threads;
-use test_readers::network;
+use testkit_readers::network;
 
 // How often each test runs.
 const RUNS: u32 = 50;

@@ -6,8 +6,8 @@ use std::alloc::Global;
 use std::sync::Wait;
 use std::test::Fail;
 use std::thread::Threads;
-use test_nodes::{NOTHING, are_rows};
-use test_readers::network;
+use testkit_nodes::{NOTHING, are_rows};
+use testkit_readers::network;
 
 // The deliveries of a text, each by its clock and its arc.
 fn journal_of(alloc: Global, text: &str) -> Result<Vec<Delivery>, Fail> {

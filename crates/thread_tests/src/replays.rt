@@ -14,8 +14,8 @@ use std::sync::Wait;
 use std::sync::atomic::{AtomicBool, AtomicU64, Ordering};
 use std::test::Fail;
 use std::thread::Threads;
-use test_nodes::{are_same_rows, make_delivery, new_nodes, rows_now};
-use test_readers::network;
+use testkit_nodes::{are_same_rows, make_delivery, new_nodes, rows_now};
+use testkit_readers::network;
 
 // How many networks of each kind are drawn.
 const NETWORKS: u32 = 60;

@@ -14,7 +14,7 @@ use std::alloc::Global;
 use std::sync::Wait;
 use std::test::Fail;
 use std::thread::Threads;
-use test_nodes::new_nodes;
+use testkit_nodes::new_nodes;
 use weave::{WeaveEnd, weave};
 
 // What a run came to: its rows in the end, its deliveries, how many messages were sent and taken, and whether nothing
