@@ -137,3 +137,8 @@ none_of f (Some x) e = absurd (cc)
 
 pub not_empty : (n : ℕ) → false ≡ (n == 0) → 0 < n
 not_empty n e = grind (arith, nat_tests)
+
+-- an empty list weighs nothing
+pub empty_weight : (net : PureNet) (dest : ℕ) (nodes : List NodeId) → true ≡ (length nodes == 0) → None ≡ Weight net dest (numbers nodes)
+empty_weight net dest [] e = refl
+empty_weight net dest (x ∷ nodes) e = absurd (grind (arith, nat_tests))
