@@ -89,5 +89,5 @@ property_is_fact total a l = (λ h. h, λ h. h)
 pub has_by_profile : (p : PureProperty) (a : Expression) (l : PureLabel) (q : Profile) → ProfileOf a l q → bit q (fact_of p) ≡ true → Has p a l
 has_by_profile p a l q is e = (property_is_fact p a l).1 ((is (fact_of p)).0 e)
 
-pub lacks_by_profile : (p : PureProperty) (a : Expression) (l : PureLabel) (q : Profile) → ProfileOf a l q → bit q (fact_of p) ≡ false → ¬ Has p a l
-lacks_by_profile p a l q is e h = let there = (is (fact_of p)).1 ((property_is_fact p a l).0 h) in absurd (cc)
+pub misses_by_profile : (p : PureProperty) (a : Expression) (l : PureLabel) (q : Profile) → ProfileOf a l q → bit q (fact_of p) ≡ false → ¬ Has p a l
+misses_by_profile p a l q is e h = let there = (is (fact_of p)).1 ((property_is_fact p a l).0 h) in absurd (cc)

@@ -88,10 +88,10 @@ abbrev pub IsTied : PureCarrier → PureCarrier → Action → Action → Type 0
 IsTied c d f g = Holds c f Narrow ⊎ (Holds d g Total × (Holds c f Cancellative ⊎ Holds d g Condensed))
 
 -- where the first part is isotone, an image has one before it
-pub not_behind : (c : PureCarrier) (o p : Option PureValue) (w : PureValue) → o ≡ Some w → ¬ IsPreferred c o p → (z : PureValue) × (p ≡ Some z) × ¬ (Order c w z ≡ Less)
-not_behind c (Some x) (Some z) w e n = (z, refl, λ h. n (let f : w ≡ x = cc in subst (λ w. Order c w z ≡ Less) f h))
-not_behind c (Some x) None w e n = absurd (n refl)
-not_behind c None p w e n = absurd (cc)
+pub not_past : (c : PureCarrier) (o p : Option PureValue) (w : PureValue) → o ≡ Some w → ¬ IsPreferred c o p → (z : PureValue) × (p ≡ Some z) × ¬ (Order c w z ≡ Less)
+not_past c (Some x) (Some z) w e n = (z, refl, λ h. n (let f : w ≡ x = cc in subst (λ w. Order c w z ≡ Less) f h))
+not_past c (Some x) None w e n = absurd (n refl)
+not_past c None p w e n = absurd (cc)
 
 -- the images of two pairs, of which that of (x,y) has come before that of (a,b), where x comes after a
 pub tied : (c d : PureCarrier) (f g : Action) (a b x y w t z : PureValue) → IsTied c d f g → In c a → In c x → In d b → In d y
@@ -113,7 +113,7 @@ tied c d f g a b x y w t z tie ia ix ib iy ew et ez n flip less p = ⊎_elim
 pub level : (d : PureCarrier) (c : PureCarrier) (g : Action) (b y w t z : PureValue) → g y ≡ Some t → ¬ (Order c w z ≡ Less) → ¬ IsPreferred d (g y) (g b)
     → ¬ IsPreferred (pairs c d) (both (Some w) (Some t)) (both (Some z) (g b))
 level d c g b y w t z et n m p =
-    let s = not_behind d (g y) (g b) t et m in
+    let s = not_past d (g y) (g b) t et m in
     let q : ordering_then (Order c w z) (Order d t s.0) ≡ Less = subst (λ o. IsPreferred (pairs c d) (Some (pair w t)) (both (Some z) o)) s.1 p in
     ⊎_elim n (λ e. s.2 e.1) (then_less (Order c w z) (Order d t s.0) q)
 
@@ -130,7 +130,7 @@ pub isotone_of_pair : (c d : PureCarrier) (f g : Action) → Keeps c f → Holds
 isotone_of_pair c d f g kept h k tie a b x y ia ib ix iy n p =
     let w = preferred_both c d (f x) (g y) (both (f a) (g b)) p in
     let not_first : ¬ (Order c x a ≡ Less) = λ e. n (by_first (Order c x a) (Order d y b) e) in
-    let z = not_behind c (f x) (f a) w.0 w.2 (h a x ia ix not_first) in
+    let z = not_past c (f x) (f a) w.0 w.2 (h a x ia ix not_first) in
     let q : IsPreferred (pairs c d) (both (Some w.0) (Some w.1)) (both (Some z.0) (g b)) =
     subst (λ o. IsPreferred (pairs c d) (both o (Some w.1)) (both (Some z.0) (g b))) w.2
     (subst (λ o. IsPreferred (pairs c d) (both (f x) o) (both (Some z.0) (g b))) w.3

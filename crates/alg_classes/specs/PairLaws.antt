@@ -17,7 +17,7 @@ use Rattle.alg_classes.specs.Classes.{PureExamples, Settles, IsSettledBy, Exampl
 use Rattle.alg_classes.specs.FactLaws.{Keeps}
 use Rattle.alg_classes.specs.ClassLaws.{images_kept, composed_profile_of_two}
 use Rattle.alg_classes.specs.Inhabited.{carrier_inhabited}
-use Rattle.alg_classes.specs.RuleLaws.{IsKnown, IsThere, OnExample, IsValue, settle, told, there, shown, on_or, there_left, there_right}
+use Rattle.alg_classes.specs.RuleLaws.{IsKnown, IsThere, OnExample, IsValue, settle, reported, there, shown, on_or, there_left, there_right}
 use Rattle.alg_classes.specs.Pairs.{paired, pair_profile, beside, spanned, some_value, pair_examples}
 use Rattle.alg_classes.specs.PairOrders.{both_parts}
 use Rattle.alg_classes.specs.PairExamples.{Joins, joined, dead_with_dead, total_with_any, any_with_total, monotone_with_dead, strict_with_monotone, monotone_with_dead_strict, strict_with_strict, isotone_with_dead, dead_with_isotone, Splits, splits, narrow_with_split, cancellative_with_condensed, cancellative_with_dead, dead_with_cancellative, condensed_with_dead, dead_with_condensed, narrow_with_dead, dead_with_narrow}
@@ -62,10 +62,10 @@ true_or_false false = inr refl
 there_value : {c : PureCarrier} {f : Action} {p : Profile} {x : PureExamples} (a : IsKnown c f p x) → IsThere (some_value x)
 there_value {c} {f} {p} {x} a = ⊎_elim
     (λ is_dead. ⊎_elim
-    (λ is_total. absurd (let v = a.inhabited in let n = told a Dead is_dead v.0 v.1 in let s = told a Total is_total v.0 v.1 in let e = s.1 in cc))
-    (λ lacks. there_right (x Dead) (x Total) (there a Total lacks))
+    (λ is_total. absurd (let v = a.inhabited in let n = reported a Dead is_dead v.0 v.1 in let s = reported a Total is_total v.0 v.1 in let e = s.1 in cc))
+    (λ misses. there_right (x Dead) (x Total) (there a Total misses))
     (true_or_false p.total))
-    (λ lacks. there_left (x Dead) (x Total) (there a Dead lacks))
+    (λ misses. there_left (x Dead) (x Total) (there a Dead misses))
     (true_or_false p.dead)
 
 -- The eight facts.
@@ -75,10 +75,10 @@ Settled c d f g p q x y k = Settles (pairs c d) (paired f g) k (bit (pair_profil
 
 settled_total : (c d : PureCarrier) (f g : Action) (p q : Profile) (x y : PureExamples) → IsKnown c f p x → IsKnown d g q y → Settled c d f g p q x y Total
 settled_total c d f g p q x y a b = settle (pairs c d) (paired f g) Total (p.total && q.total) (pair_examples x y Total)
-    (λ e. let h = and_parts p.total q.total e in both_total c d f g (told a Total h.0) (told b Total h.1))
+    (λ e. let h = and_parts p.total q.total e in both_total c d f g (reported a Total h.0) (reported b Total h.1))
     (λ e. ⊎_elim
-    (λ lacks. there_left (beside (x Total) (some_value y)) (beside (some_value x) (y Total)) (there_beside (x Total) (some_value y) (there a Total lacks) (there_value b)))
-    (λ lacks. there_right (beside (x Total) (some_value y)) (beside (some_value x) (y Total)) (there_beside (some_value x) (y Total) (there_value a) (there b Total lacks)))
+    (λ misses. there_left (beside (x Total) (some_value y)) (beside (some_value x) (y Total)) (there_beside (x Total) (some_value y) (there a Total misses) (there_value b)))
+    (λ misses. there_right (beside (x Total) (some_value y)) (beside (some_value x) (y Total)) (there_beside (some_value x) (y Total) (there_value a) (there b Total misses)))
     (and_cases p.total q.total e))
     (on_or (Refutes (pairs c d) (paired f g) Total) (beside (x Total) (some_value y)) (beside (some_value x) (y Total))
     (joined c d f g (Refutes c f Total) (IsValue d) Total (total_with_any c d f g) (x Total) (some_value y) (shown a Total) (is_value b))
@@ -86,7 +86,7 @@ settled_total c d f g p q x y a b = settle (pairs c d) (paired f g) Total (p.tot
 
 settled_dead : (c d : PureCarrier) (f g : Action) (p q : Profile) (x y : PureExamples) → IsKnown c f p x → IsKnown d g q y → Settled c d f g p q x y Dead
 settled_dead c d f g p q x y a b = settle (pairs c d) (paired f g) Dead (p.dead || q.dead) (pair_examples x y Dead)
-    (λ e. ⊎_elim (λ h. first_dead c d f g (told a Dead h)) (λ h. second_dead c d f g (told b Dead h)) (or_cases p.dead q.dead e))
+    (λ e. ⊎_elim (λ h. first_dead c d f g (reported a Dead h)) (λ h. second_dead c d f g (reported b Dead h)) (or_cases p.dead q.dead e))
     (λ e. let h = or_parts p.dead q.dead e in there_beside (x Dead) (y Dead) (there a Dead h.0) (there b Dead h.1))
     (joined c d f g (Refutes c f Dead) (Refutes d g Dead) Dead (dead_with_dead c d f g) (x Dead) (y Dead) (shown a Dead) (shown b Dead))
 
@@ -96,11 +96,11 @@ settled_alive : (c d : PureCarrier) (f g : Action) (p q : Profile) (x y : PureEx
     → (k : Fact) → ¬ (k ≡ Total) → (test : Bool) (o : Option PureExample) → (test ≡ true → Holds (pairs c d) (paired f g) k)
     → (IsThere (x Dead) → IsThere (y Dead) → test ≡ false → IsThere o) → OnExample (Refutes (pairs c d) (paired f g) k) o
     → Settles (pairs c d) (paired f g) k ((p.dead || q.dead) || test) o
-settled_alive c d f g p q x y a b k other test o holds lacks shows = settle (pairs c d) (paired f g) k ((p.dead || q.dead) || test) o
+settled_alive c d f g p q x y a b k other test o holds misses shows = settle (pairs c d) (paired f g) k ((p.dead || q.dead) || test) o
     (λ e. ⊎_elim
-    (λ h. dead_pair c d f g (⊎_elim (λ i. inl (told a Dead i)) (λ i. inr (told b Dead i)) (or_cases p.dead q.dead h)) k other)
+    (λ h. dead_pair c d f g (⊎_elim (λ i. inl (reported a Dead i)) (λ i. inr (reported b Dead i)) (or_cases p.dead q.dead h)) k other)
     holds (or_cases (p.dead || q.dead) test e))
-    (λ e. let h = or_parts (p.dead || q.dead) test e in let i = or_parts p.dead q.dead h.0 in lacks (there a Dead i.0) (there b Dead i.1) h.1)
+    (λ e. let h = or_parts (p.dead || q.dead) test e in let i = or_parts p.dead q.dead h.0 in misses (there a Dead i.0) (there b Dead i.1) h.1)
     shows
 
 settled_monotone : (c d : PureCarrier) (f g : Action) (p q : Profile) (x y : PureExamples) → IsKnown c f p x → IsKnown d g q y → Settled c d f g p q x y Monotone
@@ -109,8 +109,8 @@ settled_monotone c d f g p q x y a b =
     let two = beside (x Strict) (y Monotone) in
     settled_alive c d f g p q x y a b Monotone (λ e. absurd (cc)) (p.strict || (p.mono && q.mono)) (option_or one two)
     (λ e. ⊎_elim
-    (λ h. strict_is_monotone c d f g a.kept (told a Strict h))
-    (λ h. let i = and_parts p.mono q.mono h in both_monotone c d f g (told a Monotone i.0) (told b Monotone i.1))
+    (λ h. strict_is_monotone c d f g a.kept (reported a Strict h))
+    (λ h. let i = and_parts p.mono q.mono h in both_monotone c d f g (reported a Monotone i.0) (reported b Monotone i.1))
     (or_cases p.strict (p.mono && q.mono) e))
     (λ s t e. let h = or_parts p.strict (p.mono && q.mono) e in ⊎_elim
     (λ i. there_left one two (there_beside (x Monotone) (y Dead) (there a Monotone i) t))
@@ -126,8 +126,8 @@ settled_strict c d f g p q x y a b =
     let two = beside (x Strict) (y Strict) in
     settled_alive c d f g p q x y a b Strict (λ e. absurd (cc)) (p.strict || (p.mono && q.strict)) (option_or one two)
     (λ e. ⊎_elim
-    (λ h. strict_is_strict c d f g (told a Strict h))
-    (λ h. let i = and_parts p.mono q.strict h in monotone_and_strict c d f g a.kept (told a Monotone i.0) (told b Strict i.1))
+    (λ h. strict_is_strict c d f g (reported a Strict h))
+    (λ h. let i = and_parts p.mono q.strict h in monotone_and_strict c d f g a.kept (reported a Monotone i.0) (reported b Strict i.1))
     (or_cases p.strict (p.mono && q.strict) e))
     (λ s t e. let h = or_parts p.strict (p.mono && q.strict) e in ⊎_elim
     (λ i. there_left one two (there_beside (x Monotone) (y Dead) (there a Monotone i) t))
@@ -148,9 +148,9 @@ settled_isotone c d f g p q x y a b =
     (λ e.
     let h = and_parts (p.iso && q.iso) (p.narrow || (q.total && (p.canc || q.cond))) e in
     let i = and_parts p.iso q.iso h.0 in
-    both_isotone c d f g a.kept (told a Isotone i.0) (told b Isotone i.1) (⊎_elim
-    (λ j. inl (told a Narrow j))
-    (λ j. let m = and_parts q.total (p.canc || q.cond) j in inr (told b Total m.0, ⊎_elim (λ n. inl (told a Cancellative n)) (λ n. inr (told b Condensed n)) (or_cases p.canc q.cond m.1)))
+    both_isotone c d f g a.kept (reported a Isotone i.0) (reported b Isotone i.1) (⊎_elim
+    (λ j. inl (reported a Narrow j))
+    (λ j. let m = and_parts q.total (p.canc || q.cond) j in inr (reported b Total m.0, ⊎_elim (λ n. inl (reported a Cancellative n)) (λ n. inr (reported b Condensed n)) (or_cases p.canc q.cond m.1)))
     (or_cases p.narrow (q.total && (p.canc || q.cond)) h.1)))
     (λ s t e. ⊎_elim
     (λ h. ⊎_elim
@@ -181,7 +181,7 @@ settled_both : (c d : PureCarrier) (f g : Action) (p q : Profile) (x y : PureExa
     → Settles (pairs c d) (paired f g) k ((p.dead || q.dead) || (bit p k && bit q k)) (option_or (beside (x k) (y Dead)) (beside (x Dead) (y k)))
 settled_both c d f g p q x y a b k other holds first_shows second_shows =
     settled_alive c d f g p q x y a b k other (bit p k && bit q k) (option_or (beside (x k) (y Dead)) (beside (x Dead) (y k)))
-    (λ e. let h = and_parts (bit p k) (bit q k) e in holds (told a k h.0) (told b k h.1))
+    (λ e. let h = and_parts (bit p k) (bit q k) e in holds (reported a k h.0) (reported b k h.1))
     (λ s t e. ⊎_elim
     (λ h. there_left (beside (x k) (y Dead)) (beside (x Dead) (y k)) (there_beside (x k) (y Dead) (there a k h) t))
     (λ h. there_right (beside (x k) (y Dead)) (beside (x Dead) (y k)) (there_beside (x Dead) (y k) s (there b k h)))

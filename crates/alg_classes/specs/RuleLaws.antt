@@ -42,11 +42,11 @@ settle c f k true (Some e) holds there r = absurd (example_refutes c f k e r (ho
 settle c f k false None holds there r = let t = (there refl).1 in absurd (cc)
 settle c f k false (Some e) holds there r = r
 
-told_by : (c : PureCarrier) (f : Action) (k : Fact) (b : Bool) (o : Option PureExample) → Settles c f k b o → b ≡ true → Holds c f k
-told_by c f k true None s e = s
-told_by c f k true (Some x) s e = absurd s
-told_by c f k false None s e = absurd s
-told_by c f k false (Some x) s e = absurd (cc)
+reported_by : (c : PureCarrier) (f : Action) (k : Fact) (b : Bool) (o : Option PureExample) → Settles c f k b o → b ≡ true → Holds c f k
+reported_by c f k true None s e = s
+reported_by c f k true (Some x) s e = absurd s
+reported_by c f k false None s e = absurd s
+reported_by c f k false (Some x) s e = absurd (cc)
 
 there_by : (c : PureCarrier) (f : Action) (k : Fact) (b : Bool) (o : Option PureExample) → Settles c f k b o → b ≡ false → IsThere o
 there_by c f k true None s e = absurd (cc)
@@ -61,8 +61,8 @@ shown_by c f k false None s = absurd s
 shown_by c f k false (Some x) s = s
 
 -- a fact that the profile tells holds
-pub told : {c : PureCarrier} {f : Action} {p : Profile} {x : PureExamples} (a : IsKnown c f p x) (k : Fact) → bit p k ≡ true → Holds c f k
-told {c} {f} {p} {x} a k = told_by c f k (bit p k) (x k) (a.settled k)
+pub reported : {c : PureCarrier} {f : Action} {p : Profile} {x : PureExamples} (a : IsKnown c f p x) (k : Fact) → bit p k ≡ true → Holds c f k
+reported {c} {f} {p} {x} a k = reported_by c f k (bit p k) (x k) (a.settled k)
 
 -- one that it denies has an example
 pub there : {c : PureCarrier} {f : Action} {p : Profile} {x : PureExamples} (a : IsKnown c f p x) (k : Fact) → bit p k ≡ false → IsThere (x k)

@@ -6,7 +6,7 @@ ghost use Rattle.alg_model.specs.Bounds.{ExpressionAtMost, greatest_number};
 ghost use Rattle.alg_model.specs.Numbers.{max_instance_number, max_marks, max_simple_symbols, max_table_names, max_tree_nodes, max_value_number};
 ghost use Rattle.meta_base.specs.declared.limits.TheConstants.{MAX_NUMBER};
 
-use crate::formation::{meets_carriers, meets_names, meets_ranges, room_behind};
+use crate::formation::{meets_carriers, meets_names, meets_ranges, room_after};
 use crate::{Amount, Edition, Tree};
 use meta_base::NoMemory;
 use std::alloc::Global;
@@ -156,7 +156,7 @@ fn first_broken(tree: &Tree) -> Option<Shape>
         Some(Shape::Range)
     } else if !meets_carriers(tree) {
         Some(Shape::Carriers)
-    } else if room_behind(tree, MAX_TREE_NODES).is_none() {
+    } else if room_after(tree, MAX_TREE_NODES).is_none() {
         Some(Shape::Size)
     } else if !meets_names(tree) {
         Some(Shape::Names)

@@ -88,9 +88,9 @@ edition_bounded e = omega (arith, greatest_is_bounded e)
 -- an example by the witness settles its fact as the table tells
 pub example_settled : (a : Expression) (l : PureLabel) (p : Profile) (k : Fact) (o : Option PureExample) → IsBase a → MeetsRanges a → IsLabel a l
     → p ≡ base_profile_of a l → o ≡ failing p (base_witness_of a l) k → Settles (carrier_of a) (App a l) k (bit (base_profile_of a l) k) o
-example_settled a l p k o base ranges i told e =
+example_settled a l p k o base ranges i reported e =
     subst (Settles (carrier_of a) (App a l) k (bit (base_profile_of a l) k)) (sym e)
-    (subst (λ q. Settles (carrier_of a) (App a l) k (bit (base_profile_of a l) k) (failing q (base_witness_of a l) k)) (sym told) (base_settled a l base ranges i k))
+    (subst (λ q. Settles (carrier_of a) (App a l) k (bit (base_profile_of a l) k) (failing q (base_witness_of a l) k)) (sym reported) (base_settled a l base ranges i k))
 
 -- and no number of it is above the bound
 pub example_bounded : (e : Edition) (a : Expression) (l : PureLabel) (p : Profile) (k : Fact) (o : Option PureExample) → IsBase a
@@ -102,9 +102,9 @@ example_bounded e a l p k o base small i is =
 -- so do examples of all facts
 examples_settled : (a : Expression) (l : PureLabel) (p : Profile) (x : Examples) → IsBase a → MeetsRanges a → IsLabel a l
     → p ≡ base_profile_of a l → AreExamples x p (base_witness_of a l) → IsSettledBy (carrier_of a) (App a l) p (pure_examples x)
-examples_settled a l p x base ranges i told e = λ k.
-    subst (λ q. Settles (carrier_of a) (App a l) k (bit q k) (pure_examples x k)) (sym told)
-    (example_settled a l p k (pure_examples x k) base ranges i told (e k))
+examples_settled a l p x base ranges i reported e = λ k.
+    subst (λ q. Settles (carrier_of a) (App a l) k (bit q k) (pure_examples x k)) (sym reported)
+    (example_settled a l p k (pure_examples x k) base ranges i reported (e k))
 
 examples_bounded : (e : Edition) (a : Expression) (l : PureLabel) (p : Profile) (x : Examples) → IsBase a → ExpressionAtMost (greatest_number e) a
     → IsLabel a l → AreExamples x p (base_witness_of a l) → ExamplesAtMost MAX_INSTANCE_NUMBER (pure_examples x)
@@ -137,11 +137,11 @@ pub examples_of_witness : (a : Expression) (l : PureLabel) (p : Profile) (x : Ex
     → option_map pure_between x.not_cond ≡ of_two (failing p (base_witness_of a l) Condensed)
     → option_map pure_between x.not_narrow ≡ of_two (failing p (base_witness_of a l) Narrow)
     → AreExamples x p (base_witness_of a l)
-examples_of_witness a l p x base ranges i told h1 h2 h3 h4 h5 h6 h7 h8 =
+examples_of_witness a l p x base ranges i reported h1 h2 h3 h4 h5 h6 h7 h8 =
     let c = carrier_of a in
     let f = App a l in
     let w = base_witness_of a l in
-    let s : IsSettledBy c f p (failing p w) = subst (λ q. IsSettledBy c f q (failing q w)) (sym told) (base_settled a l base ranges i) in
+    let s : IsSettledBy c f p (failing p w) = subst (λ q. IsSettledBy c f q (failing q w)) (sym reported) (base_settled a l base ranges i) in
     let one : (k : Fact) → ((u v : PureValue) → ¬ FailsAt c f k (between u v)) → of_one (failing p w k) ≡ failing p w k =
     λ k n. one_value c f k (bit p k) (failing p w k) (s k) n in
     let two : (k : Fact) → ((v : PureValue) → ¬ FailsAt c f k (at v)) → of_two (failing p w k) ≡ failing p w k =
@@ -154,8 +154,8 @@ examples_of_witness a l p x base ranges i told h1 h2 h3 h4 h5 h6 h7 h8 =
 pub class_is : (a : PureAlg) (class : Class) (l : PureLabel) (x y : Expression) → IsAlg a → IsBase a.expression → IsLabel a.expression l
     → x ≡ a.expression → y ≡ a.expression → pure_label class.label ≡ l → class.profile ≡ base_profile_of x l
     → AreExamples class.examples class.profile (base_witness_of y l) → ClassOf a class
-class_is a class l x y is base i ex ey copied told examples =
-    let p : class.profile ≡ base_profile_of a.expression l = subst (λ z. class.profile ≡ base_profile_of z l) ex told in
+class_is a class l x y is base i ex ey copied reported examples =
+    let p : class.profile ≡ base_profile_of a.expression l = subst (λ z. class.profile ≡ base_profile_of z l) ex reported in
     let e : AreExamples class.examples class.profile (base_witness_of a.expression l) =
     subst (λ z. AreExamples class.examples class.profile (base_witness_of z l)) ey examples in
     record {

@@ -13,7 +13,7 @@ use Rattle.alg_classes.specs.ClassLaws.{on_all}
 use Rattle.alg_classes.specs.Constants.{denied_profile}
 use Rattle.base_classes.specs.Profiles.{keep_profile}
 use Rattle.base_classes.specs.Witnesses.{Witness}
-use Rattle.base_classes.specs.Told.{Tells, Told, always, never}
+use Rattle.base_classes.specs.Reported.{Reports, Reported, always, never}
 
 not_less : (o : Ordering) → o ≡ ordering_reverse o → ¬ (o ≡ Less)
 not_less Less e h = cc
@@ -32,11 +32,11 @@ same_value : (v w : PureValue) → Some v ≡ Some w → v ≡ w
 same_value v w e = cc
 
 -- the facts of such a label, by a value and two others of which the first is preferred if the carrier isn't flat
-pub kept_told : (c : PureCarrier) (f : Action) (flat : Bool) (w : Witness) (s u v : PureValue) → Keeps c f
+pub kept_stated : (c : PureCarrier) (f : Action) (flat : Bool) (w : Witness) (s u v : PureValue) → Keeps c f
     → (flat ≡ true → (x y : PureValue) → In c x → In c y → Order c x y ≡ Equal) → (flat ≡ false → Order c u v ≡ Less)
     → w Dead ≡ at s → w Strict ≡ at s → w Condensed ≡ between u v → w Narrow ≡ between u v
-    → In c s → In c u → In c v → Told c f (keep_profile flat) w
-kept_told c f flat w s u v kept level steep e1 e2 e3 e4 in_s in_u in_v = on_all (λ k. Tells c f k (bit (keep_profile flat) k) (w k))
+    → In c s → In c u → In c v → Reported c f (keep_profile flat) w
+kept_stated c f flat w s u v kept level steep e1 e2 e3 e4 in_s in_u in_v = on_all (λ k. Reports c f k (bit (keep_profile flat) k) (w k))
     (always (λ x i. (x, kept x i)))
     (never (subst (λ e. Refutes c f Dead e) (sym e1) (in_s, (s, kept s in_s))))
     (always (λ x i. subst (λ o. ¬ IsPreferred c o (Some x)) (sym (kept x i)) (not_preferred c x i)))
@@ -51,9 +51,9 @@ kept_told c f flat w s u v kept level steep e1 e2 e3 e4 in_s in_u in_v = on_all 
     )
 
 -- the facts of a label that sends each value to none, by one value
-pub dead_told : (c : PureCarrier) (f : Action) (w : Witness) (s : PureValue) → ((v : PureValue) → In c v → f v ≡ None)
-    → w Total ≡ at s → In c s → Told c f denied_profile w
-dead_told c f w s gone e1 in_s = on_all (λ k. Tells c f k (bit denied_profile k) (w k))
+pub dead_stated : (c : PureCarrier) (f : Action) (w : Witness) (s : PureValue) → ((v : PureValue) → In c v → f v ≡ None)
+    → w Total ≡ at s → In c s → Reported c f denied_profile w
+dead_stated c f w s gone e1 in_s = on_all (λ k. Reports c f k (bit denied_profile k) (w k))
     (never (subst (λ e. Refutes c f Total e) (sym e1) (in_s, gone s in_s)))
     (always gone)
     (always (λ x i. subst (λ o. ¬ IsPreferred c o (Some x)) (sym (gone x i)) (λ e. cc)))

@@ -13,7 +13,7 @@ use Rattle.alg_classes.specs.ClassLaws.{on_all}
 use Rattle.base_classes.specs.Profiles.{seq_profile, simseq_profile}
 use Rattle.base_classes.specs.Witnesses.{Witness, sequence_witness, other_symbol}
 use Rattle.base_classes.specs.Compare.{less, alike, when_less, when_alike, not_below, not_less_itself, same, other, positive, tests_same, tests_other}
-use Rattle.base_classes.specs.Told.{Tells, Told, always, never}
+use Rattle.base_classes.specs.Reported.{Reports, Reported, always, never}
 
 on_seq : (k : ℕ) (P : PureValue → Type 0) → ((ns : List ℕ) → P (symbols ns)) → (v : PureValue) → In (seqs k) v → P v
 on_seq k P f (symbols ns) i = f ns
@@ -37,8 +37,8 @@ one_more ns n = length-append ns (n ∷ [])
 abbrev appends : ℕ → ℕ → Action
 appends k n = App (seq k) (symbol_label n)
 
-pub seq_told : (k n : ℕ) → n < k → Told (seqs k) (appends k n) seq_profile (sequence_witness n n)
-seq_told k n below = on_all (λ j. Tells (seqs k) (appends k n) j (bit seq_profile j) (sequence_witness n n j))
+pub seq_stated : (k n : ℕ) → n < k → Reported (seqs k) (appends k n) seq_profile (sequence_witness n n)
+seq_stated k n below = on_all (λ j. Reports (seqs k) (appends k n) j (bit seq_profile j) (sequence_witness n n j))
     (always (on_seq k (λ v. (w : PureValue) × (appends k n v ≡ Some w)) (λ ns. (symbols (ns ++ n ∷ []), refl))))
     (never (tt, (symbols (n ∷ []), refl)))
     (always (on_seq k (λ v. ¬ IsPreferred (seqs k) (appends k n v) (Some v)) (λ ns e. omega (arith, one_more ns n, when_less (length (ns ++ n ∷ [])) (length ns) e))))
@@ -119,8 +119,8 @@ other_kept k n o e = rw e refl
 abbrev simple_witness : ℕ → Witness
 simple_witness n = sequence_witness n (other_symbol n)
 
-pub simseq_told : (k n : ℕ) → n < k → Told (simseqs k) (joins k n) (simseq_profile k) (simple_witness n)
-simseq_told k n below = on_all (λ j. Tells (simseqs k) (joins k n) j (bit (simseq_profile k) j) (simple_witness n j))
+pub simseq_stated : (k n : ℕ) → n < k → Reported (simseqs k) (joins k n) (simseq_profile k) (simple_witness n)
+simseq_stated k n below = on_all (λ j. Reports (simseqs k) (joins k n) j (bit (simseq_profile k) j) (simple_witness n j))
     (never (((below, tt), refl), own_gone k n))
     (never ((tt, refl), (symbols (n ∷ []), refl)))
     (always (on_simple k (λ v. ¬ IsPreferred (simseqs k) (joins k n v) (Some v)) (λ ns a. longer_monotone k (has n ns) ns n)))

@@ -15,7 +15,7 @@ use Rattle.command_words.specs.declared.usage.Flag.TheVariants.{Number, Require}
 use Rattle.command_words.specs.declared.usage.NumberFlag.{NumberFlag}
 use Rattle.command_words.specs.declared.usage.NumberFlag.TheVariants.{Workers, Turns}
 use Rattle.command_words.specs.Usages.{PureUsage, usage_of, limits_of, has_word, kinds}
-use Rattle.command_words.specs.Parts.{PurePart, parts_from, places, word_of, is_argument, value_of, lacks_value, gives, is_unknown}
+use Rattle.command_words.specs.Parts.{PurePart, parts_from, places, word_of, is_argument, value_of, misses_value, gives, is_unknown}
 use Rattle.command_words.specs.Numbers.{number_within}
 use Rattle.command_words.specs.Lists.{nothing_required, required_of}
 
@@ -31,7 +31,7 @@ has_bad_flag flags parts = list_any (is_unknown flags) parts || list_any (is_rep
 abbrev pub has_wrong_count : PureUsage → List PurePart → Bool
 has_wrong_count usage parts =
     let count = length (places parts) in
-    list_any lacks_value parts || not (nat_le usage.least count && nat_le count usage.most)
+    list_any misses_value parts || not (nat_le usage.least count && nat_le count usage.most)
 
 -- the value of the flag among these parts, if it is given
 abbrev pub value_given : Flag → List PurePart → Option (List ℕ)

@@ -49,14 +49,14 @@ pub fn take_all<S: Shelf>(
     ensures no_more { (S.now_is shelf.new).taken ≤ limit + greatest_offer }
     ensures too_long { IsErrOf result TakeError.TooLong → limit < (S.now_is shelf.new).taken }
     ensures only_too_long { limit < (S.now_is shelf.new).taken → IsErrOf result TakeError.TooLong }
-    ensures too_long_told { IsErrOf result TakeError.TooLong → IsTrue (S.now_is shelf.old).tells →
+    ensures too_long_reported { IsErrOf result TakeError.TooLong → IsTrue (S.now_is shelf.old).reports →
         ((bytes : List ℕ) × ((S.now_is shelf.old).file name.now ≡ Some bytes) × (limit < length bytes)) }
 
     // What is taken is the file, to its end.
     ensures count { IfOk result (λ bytes. length bytes ≡ (S.now_is shelf.new).taken) }
     ensures end { OnOk result ((S.now_is shelf.new).ended ≡ true) }
     ensures whole { IfOk result (λ bytes.
-        IsTrue (S.now_is shelf.old).tells → (S.now_is shelf.old).file name.now ≡ Some bytes) }
+        IsTrue (S.now_is shelf.old).reports → (S.now_is shelf.old).file name.now ≡ Some bytes) }
 {
     let mut bytes = Vec::new(alloc);
     let mut chunk = [0u8; CHUNK];

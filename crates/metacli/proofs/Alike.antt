@@ -9,13 +9,13 @@ use Rattle.net_graph.specs.Changes.{PureChange, after_all, changed}
 use Rattle.net_graph.specs.Nets.{PureNet}
 use Rattle.net_graph.specs.Tables.{PureRow, NetHas, AreSettledRows}
 use Rattle.path_vector.specs.Node.{PvState, carried}
-use Rattle.report_text.specs.Refusals.{words, expr, network, lacks, read, long, memory}
+use Rattle.report_text.specs.Refusals.{words, expr, network, misses, read, long, memory}
 use Rattle.topology_file.specs.NetText.{PureNetFile, HasOneOutcome, NetText, changed_net}
 use Rattle.vector_runs.specs.Runs.{AreStable, IsRun, PurePhase, RunsFrom, new_nodes}
 use Rattle.vector_runs.specs.Turns.{AreMonotone}
 use Rattle.metacli.specs.Alike.{still, undelivered}
 use Rattle.metacli.specs.Answers.{done, refused, spent}
-use Rattle.metacli.specs.Behind.{nets_after}
+use Rattle.metacli.specs.After.{nets_after}
 use Rattle.metacli.specs.Outcome.{PureOutcome, stopped, checked, coded, routed, wedged, ran, shown, AreRoutesOn, IsRoutedAs, IsRunAs, IsShownAs, answer_in, rows_in}
 use Rattle.metacli.specs.Texts.{TextOf}
 use Rattle.metacli.specs.declared.routing.Solution.TheVariants.{AllStable}
@@ -56,7 +56,7 @@ quiet traced turns a f (stopped b g memory) h e = let no : refused memory ≡ do
 quiet traced turns a f (stopped b g (words n)) h e = absurd h
 quiet traced turns a f (stopped b g (expr x)) h e = absurd h
 quiet traced turns a f (stopped b g (network x)) h e = absurd h
-quiet traced turns a f (stopped b g (lacks arc x)) h e = absurd h
+quiet traced turns a f (stopped b g (misses arc x)) h e = absurd h
 quiet traced turns a f (stopped b g (read w)) h e = absurd h
 quiet traced turns a f (stopped b g (long w)) h e = absurd h
 quiet traced turns a f (checked b g v u) h e = absurd h
@@ -90,7 +90,7 @@ stable_alike traced turns a f o (routed s b g rows) h i d e =
     let one = quiet traced turns a f o h d in
     let settled = last_settled f.net f.changes (new_nodes f.net) turns one.past one.last one.run one.stable in
     ap rows_in one.is ∙ settled_once (changed_net f) one.last.rows rows i.3.0 settled i.4.1
-stable_alike traced turns a f o (stopped b g (lacks arc x)) h i d e = let no : refused (lacks arc x) ≡ done = e in absurd cc
+stable_alike traced turns a f o (stopped b g (misses arc x)) h i d e = let no : refused (misses arc x) ≡ done = e in absurd cc
 stable_alike traced turns a f o (stopped b g memory) h i d e = let no : refused memory ≡ done = e in absurd cc
 stable_alike traced turns a f o (stopped b g (words n)) h i d e = absurd i
 stable_alike traced turns a f o (stopped b g (expr x)) h i d e = absurd i
@@ -118,7 +118,7 @@ summed seed nodes (stopped None None memory) h e = let no : refused memory ≡ d
 summed seed nodes (stopped None None (words n)) h e = absurd h
 summed seed nodes (stopped None None (expr g)) h e = absurd h
 summed seed nodes (stopped None None (network g)) h e = absurd h
-summed seed nodes (stopped None None (lacks arc x)) h e = absurd h
+summed seed nodes (stopped None None (misses arc x)) h e = absurd h
 summed seed nodes (stopped None None (read w)) h e = absurd h
 summed seed nodes (stopped None None (long w)) h e = absurd h
 summed seed nodes (stopped (Some a) f r) h e = absurd h

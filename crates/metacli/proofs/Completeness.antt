@@ -8,14 +8,14 @@ use Rattle.alg_model.specs.Expressions.{PureAlg, PureLabel}
 use Rattle.alg_model.specs.Application.{IsLabel}
 use Rattle.raml_syntax.specs.declared.faults.ExprFault.{ExprFault}
 use Rattle.raml_syntax.specs.ExprText.{ExprText, IsExprFault}
-use Rattle.net_facts.specs.LackLaws.{first_refutes}
+use Rattle.net_facts.specs.MissingLaws.{first_refutes}
 use Rattle.net_graph.specs.Nets.{PureNet}
 use Rattle.topology_file.specs.NetText.{PureNetFile, NetText, HasOneOutcome, changed_net}
-use Rattle.report_text.specs.Refusals.{PureRefusal, words, expr, network, lacks, read, long, memory}
+use Rattle.report_text.specs.Refusals.{PureRefusal, words, expr, network, misses, read, long, memory}
 use Rattle.metacli.specs.Answers.{done, refused}
 use Rattle.metacli.specs.Reading.{Holds, IsUntaken, IsReadAs, IsExprRefusal, IsNetRefusal}
 use Rattle.metacli.specs.Outcome.{PureOutcome, stopped, checked, coded, routed, wedged, ran, shown, answer_in, ComesBy, ComesOf, GoesOnFrom, GoesOnOver, IsCheckedAs, IsCodedAs, IsFit, IsMadeAlone, IsMadeOn, IsOnArc, IsRoutedAs, IsRunAs, IsShownAs, IsWedgedAs, WithNetwork, asked_of, labels_on, word_at}
-use Rattle.metacli.specs.Complete.{CompleteBy, IsAnsweredAlone, IsAnsweredOn, IsCompleteOf, IsDecided, IsDone, IsFitFor, IsJudged, IsNetJudged, IsRunOut, IsTold, IsUnlessMemory}
+use Rattle.metacli.specs.Complete.{CompleteBy, IsAnsweredAlone, IsAnsweredOn, IsCompleteOf, IsDecided, IsDone, IsFitFor, IsJudged, IsNetJudged, IsRunOut, IsReported, IsUnlessMemory}
 use Rattle.command_words.specs.declared.command.Command.{Command}
 use Rattle.command_words.specs.declared.command.Required.{Required}
 use Rattle.command_words.specs.declared.command.WordsFault.{WordsFault}
@@ -36,18 +36,18 @@ pub record Laws : Type 0 where
   pub network : (text : List ℕ) (a : PureAlg) → HasOneOutcome text a
 
 -- what the shelf tells holds of the bytes that it tells
-told : (m new : Moment) (name bytes : List ℕ) (P : List ℕ → Type 0) → Holds m name P new → IsTold m name bytes → P bytes
-told m new name bytes P h t =
+reported : (m new : Moment) (name bytes : List ℕ) (P : List ℕ → Type 0) → Holds m name P new → IsReported m name bytes → P bytes
+reported m new name bytes P h t =
     let f = t.file in
-    let e : h.0 ≡ bytes = cc (h.2.told t.tells) in
+    let e : h.0 ≡ bytes = cc (h.2.reported t.reports) in
     subst P e h.1
 
 -- a file whose bytes are shown is taken, unless memory is refused
-untaken : (which : Which) (name bytes : List ℕ) (old new : Moment) (r : PureRefusal) → IsUntaken which name old new r → IsTold old name bytes
+untaken : (which : Which) (name bytes : List ℕ) (old new : Moment) (r : PureRefusal) → IsUntaken which name old new r → IsReported old name bytes
     → ¬ HasRisen old.faults new.faults → r ≡ memory
 untaken which name bytes old new (read w) h t quiet = absurd (⊎_elim quiet (λ absent. let n = absent.1 in let f = t.file in cc) h.2)
 untaken which name bytes old new (long w) h t quiet =
-    let x = h.2 t.tells in
+    let x = h.2 t.reports in
     let f = t.file in
     let same : x.0 ≡ bytes = cc x.1 in
     absurd (omega (arith, x.2, ap length same, t.short))
@@ -55,15 +55,15 @@ untaken which name bytes old new memory h t quiet = refl
 untaken which name bytes old new (words n) h t quiet = absurd h
 untaken which name bytes old new (expr f) h t quiet = absurd h
 untaken which name bytes old new (network f) h t quiet = absurd h
-untaken which name bytes old new (lacks arc x) h t quiet = absurd h
+untaken which name bytes old new (misses arc x) h t quiet = absurd h
 
 -- where nothing rose before, nothing rose in all
 risen_later : (a b c : ℕ) → a ≤ b → HasRisen b c → HasRisen a c
 risen_later a b c h r = ⊎_elim (λ e. inl (omega (arith, e))) inr r
 
 -- what is shown stays shown
-told_later : (old between : Moment) (name bytes : List ℕ) → Keeps old between → IsTold old name bytes → IsTold between name bytes
-told_later old between name bytes k t = record { tells = rw k.tells t.tells; file = k.file name ∙ t.file; short = t.short }
+reported_later : (old between : Moment) (name bytes : List ℕ) → Keeps old between → IsReported old name bytes → IsReported between name bytes
+reported_later old between name bytes k t = record { reports = rw k.reports t.reports; file = k.file name ∙ t.file; short = t.short }
 
 -- Expression files.
 
@@ -80,7 +80,7 @@ judged_bad laws bytes (expr g) Follows o x e = record {
 }
 judged_bad laws bytes (words n) Follows o x e = absurd x
 judged_bad laws bytes (network f) Follows o x e = absurd x
-judged_bad laws bytes (lacks arc i) Follows o x e = absurd x
+judged_bad laws bytes (misses arc i) Follows o x e = absurd x
 judged_bad laws bytes (read w) Follows o x e = absurd x
 judged_bad laws bytes (long w) Follows o x e = absurd x
 judged_bad laws bytes memory Follows o x e = absurd x
@@ -90,15 +90,15 @@ judged_memory bytes Follows o e all = record { bad = λ f x. inr e; good = λ a 
 
 -- what comes of the expression file is judged, if what comes of its algebra follows
 judged : Laws → (name bytes : List ℕ) (Then : PureAlg → Moment → Moment → PureOutcome → Type 0) (Follows : PureAlg → Type 0) (old between new : Moment) (o : PureOutcome)
-    (r : Result PureAlg PureRefusal) → IsReadAs Expr name ExprText IsExprRefusal old r between → GoesOnFrom Then between new o r → IsTold old name bytes
+    (r : Result PureAlg PureRefusal) → IsReadAs Expr name ExprText IsExprRefusal old r between → GoesOnFrom Then between new o r → IsReported old name bytes
     → ¬ HasRisen old.faults new.faults → ((a : PureAlg) → Then a between new o → Follows a) → (answer_in o ≡ refused memory → (a : PureAlg) → Follows a) → IsJudged bytes Follows o
 judged laws name bytes Then Follows old between new o (Ok a) h on t quiet over without =
-    judged_good laws bytes a Follows o (told old between name bytes (λ b. ExprText b a) h t) (over a on)
+    judged_good laws bytes a Follows o (reported old between name bytes (λ b. ExprText b a) h t) (over a on)
 judged laws name bytes Then Follows old between new o (Err r) h on t quiet over without = ⊎_elim
     (λ u.
     let e : answer_in o ≡ refused memory = ap answer_in on.1 ∙ ap refused (untaken Expr name bytes old between r u t (subst (λ (m : Moment). ¬ HasRisen old.faults m.faults) on.0 quiet)) in
     judged_memory bytes Follows o e (without e))
-    (λ f. judged_bad laws bytes r Follows o (told old between name bytes (λ b. IsExprRefusal b r) f t) (ap answer_in on.1))
+    (λ f. judged_bad laws bytes r Follows o (reported old between name bytes (λ b. IsExprRefusal b r) f t) (ap answer_in on.1))
     h
 
 -- Network files.
@@ -117,7 +117,7 @@ net_judged_bad laws bytes Fits Carries a (network g) o x e = record {
 }
 net_judged_bad laws bytes Fits Carries a (words n) o x e = absurd x
 net_judged_bad laws bytes Fits Carries a (expr f) o x e = absurd x
-net_judged_bad laws bytes Fits Carries a (lacks arc i) o x e = absurd x
+net_judged_bad laws bytes Fits Carries a (misses arc i) o x e = absurd x
 net_judged_bad laws bytes Fits Carries a (read w) o x e = absurd x
 net_judged_bad laws bytes Fits Carries a (long w) o x e = absurd x
 net_judged_bad laws bytes Fits Carries a memory o x e = absurd x
@@ -127,20 +127,20 @@ net_judged_memory bytes Fits Carries o a e of = record { bad = λ f x. inr e; go
 
 -- what comes of the network file is judged, if its network is carried out
 net_judged : Laws → (a : PureAlg) (name bytes : List ℕ) (Fits : PureNet → Type 0) (Carries : PureOutcome → Type 0) (Then : PureNetFile → PureOutcome → Type 0) (old new : Moment) (o : PureOutcome) (r : Result PureNetFile PureRefusal)
-    → IsReadAs Network name (λ text. NetText text a) (IsNetRefusal a) old r new → GoesOnOver a Then o r → IsTold old name bytes → ¬ HasRisen old.faults new.faults
+    → IsReadAs Network name (λ text. NetText text a) (IsNetRefusal a) old r new → GoesOnOver a Then o r → IsReported old name bytes → ¬ HasRisen old.faults new.faults
     → (IsUnlessMemory o done → Carries o) → ((f : PureNetFile) → Then f o → Fits (changed_net f) → Carries o) → IsNetJudged bytes Fits Carries o a
 net_judged laws a name bytes Fits Carries Then old new o (Ok f) h on t quiet of ends =
-    net_judged_good laws bytes Fits Carries a f o (told old new name bytes (λ b. NetText b a f) h t) (ends f on)
+    net_judged_good laws bytes Fits Carries a f o (reported old new name bytes (λ b. NetText b a f) h t) (ends f on)
 net_judged laws a name bytes Fits Carries Then old new o (Err r) h on t quiet of ends = ⊎_elim
     (λ u. net_judged_memory bytes Fits Carries o a (ap answer_in on ∙ ap refused (untaken Network name bytes old new r u t quiet)) of)
-    (λ f. net_judged_bad laws bytes Fits Carries a r o (told old new name bytes (λ b. IsNetRefusal a b r) f t) (ap answer_in on))
+    (λ f. net_judged_bad laws bytes Fits Carries a r o (reported old new name bytes (λ b. IsNetRefusal a b r) f t) (ap answer_in on))
     h
 
 over_network : Laws → (a : PureAlg) (name bytes : List ℕ) (Fits : PureNet → Type 0) (Carries : PureOutcome → Type 0) (Then : PureNetFile → PureOutcome → Type 0) (old between new : Moment) (o : PureOutcome)
-    → Keeps old between → WithNetwork a name Then between new o → IsTold old name bytes → ¬ HasRisen old.faults new.faults
+    → Keeps old between → WithNetwork a name Then between new o → IsReported old name bytes → ¬ HasRisen old.faults new.faults
     → (IsUnlessMemory o done → Carries o) → ((f : PureNetFile) → Then f o → Fits (changed_net f) → Carries o) → IsNetJudged bytes Fits Carries o a
 over_network laws a name bytes Fits Carries Then old between new o k w t quiet of ends =
-    net_judged laws a name bytes Fits Carries Then between new o w.network w.reads.as_read w.goes_on (told_later old between name bytes k t)
+    net_judged laws a name bytes Fits Carries Then between new o w.network w.reads.as_read w.goes_on (reported_later old between name bytes k t)
     (λ r. quiet (risen_later old.faults between.faults new.faults k.faults r)) of ends
 
 -- What was read is carried out.
@@ -152,7 +152,7 @@ checked_done r a file S (stopped b f memory) h = inl (inr refl)
 checked_done r a file S (stopped b f (words n)) h = absurd h
 checked_done r a file S (stopped b f (expr g)) h = absurd h
 checked_done r a file S (stopped b f (network g)) h = absurd h
-checked_done r a file S (stopped b f (lacks arc x)) h = absurd h
+checked_done r a file S (stopped b f (misses arc x)) h = absurd h
 checked_done r a file S (stopped b f (read w)) h = absurd h
 checked_done r a file S (stopped b f (long w)) h = absurd h
 checked_done r a file S (coded b f listing) h = absurd h
@@ -167,7 +167,7 @@ wedged_done a (stopped b None memory) h = inr refl
 wedged_done a (stopped b None (words n)) h = absurd h
 wedged_done a (stopped b None (expr g)) h = absurd h
 wedged_done a (stopped b None (network g)) h = absurd h
-wedged_done a (stopped b None (lacks arc x)) h = absurd h
+wedged_done a (stopped b None (misses arc x)) h = absurd h
 wedged_done a (stopped b None (read w)) h = absurd h
 wedged_done a (stopped b None (long w)) h = absurd h
 wedged_done a (stopped b (Some f) r) h = absurd h
@@ -183,7 +183,7 @@ coded_done a file labels (stopped b f memory) h = inr refl
 coded_done a file labels (stopped b f (words n)) h = absurd h
 coded_done a file labels (stopped b f (expr g)) h = absurd h
 coded_done a file labels (stopped b f (network g)) h = absurd h
-coded_done a file labels (stopped b f (lacks arc x)) h = absurd h
+coded_done a file labels (stopped b f (misses arc x)) h = absurd h
 coded_done a file labels (stopped b f (read w)) h = absurd h
 coded_done a file labels (stopped b f (long w)) h = absurd h
 coded_done a file labels (checked b f v u) h = absurd h
@@ -195,7 +195,7 @@ coded_done a file labels (shown b f last) h = absurd h
 -- a network whose labels are fit has no arc that doesn't have what is asked
 routed_done : (solution : Solution) (a : PureAlg) (file : PureNetFile) (o : PureOutcome) → IsRoutedAs solution a file o → IsFit solution (changed_net file) → IsUnlessMemory o done
 routed_done solution a file (routed s b f rows) h fit = inl refl
-routed_done solution a file (stopped b f (lacks arc x)) h fit = absurd (first_refutes (asked_of solution) (changed_net file) arc x.property h.2.first fit)
+routed_done solution a file (stopped b f (misses arc x)) h fit = absurd (first_refutes (asked_of solution) (changed_net file) arc x.property h.2.first fit)
 routed_done solution a file (stopped b f memory) h fit = inr refl
 routed_done solution a file (stopped b f (words n)) h fit = absurd h
 routed_done solution a file (stopped b f (expr g)) h fit = absurd h
@@ -215,7 +215,7 @@ run_out traced turns a file (stopped b f memory) h = inl (inr refl)
 run_out traced turns a file (stopped b f (words n)) h = absurd h
 run_out traced turns a file (stopped b f (expr g)) h = absurd h
 run_out traced turns a file (stopped b f (network g)) h = absurd h
-run_out traced turns a file (stopped b f (lacks arc x)) h = absurd h
+run_out traced turns a file (stopped b f (misses arc x)) h = absurd h
 run_out traced turns a file (stopped b f (read w)) h = absurd h
 run_out traced turns a file (stopped b f (long w)) h = absurd h
 run_out traced turns a file (checked b f v u) h = absurd h
@@ -230,7 +230,7 @@ shown_out seed nodes (stopped None None memory) h = inr refl
 shown_out seed nodes (stopped None None (words n)) h = absurd h
 shown_out seed nodes (stopped None None (expr g)) h = absurd h
 shown_out seed nodes (stopped None None (network g)) h = absurd h
-shown_out seed nodes (stopped None None (lacks arc x)) h = absurd h
+shown_out seed nodes (stopped None None (misses arc x)) h = absurd h
 shown_out seed nodes (stopped None None (read w)) h = absurd h
 shown_out seed nodes (stopped None None (long w)) h = absurd h
 shown_out seed nodes (stopped (Some a) f r) h = absurd h

@@ -3,10 +3,10 @@ mod Arcs
 mod Codes
 mod Completeness
 mod Found
-mod Lacking
-mod NetsBehind
+mod Missing
+mod NetsAfter
 mod Printable
-mod RowsBehind
+mod RowsAfter
 mod Written
 mod Demos
 mod Tables

@@ -30,8 +30,8 @@ abbrev pub IsUnlessMemory : PureOutcome → PureAnswer → Type 0
 IsUnlessMemory o answer = (answer_in o ≡ answer) ⊎ (answer_in o ≡ refused memory)
 
 -- the shelf tells the bytes of the file of that name, and they aren't too many
-pub record IsTold (m : Moment) (name bytes : List ℕ) : Type 0 where
-  pub tells : IsTrue m.tells
+pub record IsReported (m : Moment) (name bytes : List ℕ) : Type 0 where
+  pub reports : IsTrue m.reports
   pub file : m.file name ≡ Some bytes
   pub short : length bytes ≤ max_file_bytes
 
@@ -81,9 +81,9 @@ IsAnsweredOn (joint.Run workers turns traced) = IsRunOut
 -- where the shelf tells the files that a task reads, and no fault came, they are judged
 abbrev pub IsCompleteOf : List (List ℕ) → Moment → Moment → PureOutcome → Task → Type 0
 IsCompleteOf words old new o (task.Demo seed nodes) = IsDone o
-IsCompleteOf words old new o (task.Alone file asked) = (bytes : List ℕ) → IsTold old (word_at words file) bytes
+IsCompleteOf words old new o (task.Alone file asked) = (bytes : List ℕ) → IsReported old (word_at words file) bytes
     → ¬ HasRisen old.faults new.faults → IsJudged bytes (λ a. IsAnsweredAlone asked o) o
-IsCompleteOf words old new o (task.On file net asked) = (bytes net_bytes : List ℕ) → IsTold old (word_at words file) bytes → IsTold old (word_at words net) net_bytes
+IsCompleteOf words old new o (task.On file net asked) = (bytes net_bytes : List ℕ) → IsReported old (word_at words file) bytes → IsReported old (word_at words net) net_bytes
     → ¬ HasRisen old.faults new.faults → IsJudged bytes (IsNetJudged net_bytes (IsFitFor asked) (IsAnsweredOn asked) o) o
 
 abbrev pub CompleteBy : List (List ℕ) → Moment → Moment → PureOutcome → Result Command WordsFault → Type 0

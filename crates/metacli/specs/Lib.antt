@@ -4,7 +4,7 @@ pub mod Reading
 pub mod Tasks
 pub mod Outcome
 pub mod Complete
-pub mod Behind
+pub mod After
 pub mod Texts
 pub mod Runs
 pub mod Alike

@@ -24,10 +24,10 @@ use Rattle.vector_runs.specs.Runs.{PurePhase, IsRun, AreStable, pure_phase}
 use Rattle.vector_runs.specs.Turns.{AreMonotone, deliveries_left, deliveries_made}
 use Rattle.demo_rest.specs.Most.{demo_turns}
 use Rattle.report_text.specs.Refusals as refusal
-use Rattle.net_facts.specs.Lacks.{IsFirstLack, NetHasAll}
-use Rattle.report_text.specs.Refusals.{PureRefusal, lacks, memory}
+use Rattle.net_facts.specs.Misses.{IsFirstMissing, NetHasAll}
+use Rattle.report_text.specs.Refusals.{PureRefusal, misses, memory}
 use Rattle.metacli.specs.Answers.{PureAnswer, done, refused, spent, unmet, pure_answer}
-use Rattle.metacli.specs.Behind.{nets_after}
+use Rattle.metacli.specs.After.{nets_after}
 use Rattle.metacli.specs.Reading.{ReadsExpression, ReadsNetwork}
 use Rattle.command_words.specs.Words.{Words, words_fault_number}
 use Rattle.command_words.specs.declared.command.Command.{Command}
@@ -229,7 +229,7 @@ AreRoutesOn AllStable net rows = AreRowsOfTables net (BestFirst net) rows × Are
 -- labels are fit for them; else the first arc whose label isn't; unless memory is refused.
 abbrev pub IsRoutedAs : Solution → PureAlg → PureNetFile → PureOutcome → Type 0
 IsRoutedAs solution a file (routed s b f rows) = (s ≡ solution) × (b ≡ a) × (f ≡ file) × IsFit solution (changed_net file) × AreRoutesOn solution (changed_net file) rows
-IsRoutedAs solution a file (stopped b f (lacks arc x)) = (b ≡ Some a) × (f ≡ Some file) × IsFirstLack (asked_of solution) (changed_net file) arc x
+IsRoutedAs solution a file (stopped b f (misses arc x)) = (b ≡ Some a) × (f ≡ Some file) × IsFirstMissing (asked_of solution) (changed_net file) arc x
 IsRoutedAs solution a file (stopped b f memory) = (b ≡ Some a) × (f ≡ Some file)
 IsRoutedAs solution a file _ = ⊥
 

@@ -16,7 +16,7 @@ pub record IsWhole (old : Moment) (name bytes : List ℕ) (new : Moment) : Type 
   pub ended : new.ended ≡ true
   pub taken : new.taken ≡ length bytes
   pub short : length bytes ≤ max_file_bytes
-  pub told : IsTrue old.tells → old.file name ≡ Some bytes
+  pub reported : IsTrue old.reports → old.file name ≡ Some bytes
 
 -- such bytes were taken whole
 abbrev pub Holds : Moment → List ℕ → (List ℕ → Type 0) → Moment → Type 0
@@ -26,7 +26,7 @@ Holds old name P new = (bytes : List ℕ) × P bytes × IsWhole old name bytes n
 abbrev pub IsUntaken : Which → List ℕ → Moment → Moment → PureRefusal → Type 0
 IsUntaken which name old new (read w) = (w ≡ which) × (new.ended ≡ false) × (HasRisen old.faults new.faults ⊎ IsAbsent old name)
 IsUntaken which name old new (long w) = (w ≡ which) × (max_file_bytes < new.taken)
-    × (IsTrue old.tells → (bytes : List ℕ) × (old.file name ≡ Some bytes) × (max_file_bytes < length bytes))
+    × (IsTrue old.reports → (bytes : List ℕ) × (old.file name ≡ Some bytes) × (max_file_bytes < length bytes))
 IsUntaken which name old new memory = Unit {0}
 IsUntaken which name old new _ = ⊥
 

@@ -7,8 +7,8 @@ use Rattle.topology_file.specs.Views.{pure_file}
 use Rattle.property_infer.specs.Views.{pure_verdict, pure_verdicts}
 use Rattle.alg_classes.specs.Instances.{pure_instance, pure_property}
 use Rattle.topology_file.specs.NetText.{changed_net}
-use Rattle.metacli.specs.Behind.{last_of, nets_after}
-use Rattle.report_text.specs.Refusals.{PureRefusal, lacks}
+use Rattle.metacli.specs.After.{last_of, nets_after}
+use Rattle.report_text.specs.Refusals.{PureRefusal, misses}
 use Rattle.vector_runs.specs.Runs.{pure_phase}
 use Rattle.metacli.specs.Answers.{pure_stop}
 use Rattle.metacli.specs.Texts.{IsPrintable}
@@ -20,7 +20,7 @@ use Rattle.metacli.specs.declared.outcome.Outcome.TheVariants as outcome
 
 abbrev pub pure_outcome : Outcome → PureOutcome
 pure_outcome (outcome.Stopped a f r) = stopped a (option_map pure_file f) (pure_stop r)
-pure_outcome (outcome.Lacking it) = stopped (Some it.alg) (Some (pure_file it.file)) (lacks it.lack.arc.0 (pure_instance it.lack.instance))
+pure_outcome (outcome.Missing it) = stopped (Some it.alg) (Some (pure_file it.file)) (misses it.missing.arc.0 (pure_instance it.missing.instance))
 pure_outcome (outcome.Checked it) = checked it.alg (option_map pure_file it.file) (pure_verdicts it.verdicts) (option_map pure_property it.unmet)
 pure_outcome (outcome.Coded it) = coded it.alg (option_map pure_file it.file) it.listing
 pure_outcome (outcome.Routed it) = routed it.solution it.alg (pure_file it.file) (map pure_row it.rows)
@@ -39,21 +39,21 @@ pub record IsMadeIn (made : Made) (o : PureOutcome) : Type 0 where
 
 -- the network whose labels were compiled, if there is one, is that of the file after its changes
 abbrev pub IsListedOn : Option NetFile → Option PureNet → Type 0
-IsListedOn None behind = Unit {0}
-IsListedOn (Some f) behind = last_of behind f.net ≡ changed_net (pure_file f)
+IsListedOn None after = Unit {0}
+IsListedOn (Some f) after = last_of after f.net ≡ changed_net (pure_file f)
 
 -- the network of an arc that doesn't have a property is that of the file after its changes; those of the phases after
 -- the first are those after the first change, the first two, and so on
-abbrev pub IsBehind : Outcome → Type 0
-IsBehind (outcome.Lacking it) = last_of it.behind it.file.net ≡ changed_net (pure_file it.file)
-IsBehind (outcome.Coded it) = IsListedOn it.file it.behind
-IsBehind (outcome.Ran it) = it.changed ≡ nets_after it.file.net (pure_file it.file).changes
-IsBehind _ = Unit {0}
+abbrev pub IsAfter : Outcome → Type 0
+IsAfter (outcome.Missing it) = last_of it.after it.file.net ≡ changed_net (pure_file it.file)
+IsAfter (outcome.Coded it) = IsListedOn it.file it.after
+IsAfter (outcome.Ran it) = it.changed ≡ nets_after it.file.net (pure_file it.file).changes
+IsAfter _ = Unit {0}
 
 -- the text of the outcome can be made
 pub record CanBeWritten (o : Outcome) : Type 0 where
   pub printable : IsPrintable (pure_outcome o)
-  pub behind : IsBehind o
+  pub after : IsAfter o
 
 -- what was read, or why it wasn't
 abbrev pub as_read : {R S : Type 0} → (R → S) → Result R Stop → Result S PureRefusal

@@ -6,7 +6,7 @@ ghost use Rattle.topology_file.specs.NetText.{PureNetFile};
 ghost use Rattle.vector_runs.specs.Turns.{AreMonotone};
 ghost use Rattle.metacli.specs.Alike.{undelivered};
 ghost use Rattle.metacli.specs.Answers.{done};
-ghost use Rattle.metacli.specs.Behind.{nets_after};
+ghost use Rattle.metacli.specs.After.{nets_after};
 ghost use Rattle.metacli.specs.Complete.{IsComplete};
 ghost use Rattle.metacli.specs.Outcome.{ComesTo, IsRoutedAs, IsRunAs, IsShownAs, PureOutcome, answer_in, rows_in};
 ghost use Rattle.metacli.specs.Texts.{TextOf};

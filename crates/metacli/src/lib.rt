@@ -2,7 +2,7 @@
 //! does happens here; `main` only makes the real outside. It stands on every crate below.
 #![tactic(auto)]
 
-mod behind;
+mod after;
 mod checking;
 mod coding;
 mod ended;

@@ -7,7 +7,7 @@ ghost use Rattle.metacli.specs.declared.outcome.Stop.TheVariants.{Memory};
 ghost use Rattle.metacli.specs.Views.{CanBeWritten, IsMadeIn, pure_outcome};
 ghost use Rattle.topology_file.specs.Views.{pure_file};
 ghost use Rattle.alg_classes.specs.Instances.{pure_instance, pure_property};
-ghost use Rattle.report_text.specs.Refusals.{lacks, pure_refusal};
+ghost use Rattle.report_text.specs.Refusals.{misses, pure_refusal};
 
 use crate::routing::Solution;
 use crate::{Answer, Command, Ended, WordsFault};
@@ -15,7 +15,7 @@ use alg_classes::Property;
 use alg_model::Alg;
 use code_gen::Listing;
 use meta_base::{Delivery, List, NoMemory, Which};
-use net_facts::Lack;
+use net_facts::Missing;
 use net_graph::{Net, RouteRow};
 use property_infer::{Verdict, Verdicts};
 use raml_syntax::ExprFault;
@@ -82,7 +82,7 @@ pub enum Outcome {
         file: Option<NetFile>,
         stop: Stop,
     },
-    Lacking(Lacking),
+    Missing(Missing),
     Checked(Checked),
     Coded(Coded),
     Routed(Routed),
@@ -93,11 +93,11 @@ pub enum Outcome {
 
 /// An arc of the network after its changes, which is `None` where there are none, has a label that isn't fit.
 #[derive(Debug, Drop)]
-pub struct Lacking {
+pub struct Missing {
     pub alg: Alg,
     pub file: NetFile,
-    pub behind: Option<Net>,
-    pub lack: Lack,
+    pub after: Option<Net>,
+    pub missing: Missing,
 }
 
 /// The verdicts on an algebra, or on the labels of a network over it, and the first required property that fails.
@@ -110,12 +110,12 @@ pub struct Checked {
 }
 
 /// The code of an algebra's order, and of the labels of a network over it after its changes, where there is one:
-/// `behind` is `None` where there are no changes.
+/// `after` is `None` where there are no changes.
 #[derive(Debug, Drop)]
 pub struct Coded {
     pub alg: Alg,
     pub file: Option<NetFile>,
-    pub behind: Option<Net>,
+    pub after: Option<Net>,
     pub listing: Listing,
 }
 
@@ -204,7 +204,7 @@ impl Outcome {
         let mut made = Made::nothing(alloc);
         let (alg, file, decided) = match self {
             Outcome::Stopped { alg, file, stop } => (alg, file, stop.answer()),
-            Outcome::Lacking(it) => (Some(it.alg), Some(it.file), lack_answer(it.lack)),
+            Outcome::Missing(it) => (Some(it.alg), Some(it.file), missing_answer(it.missing)),
             Outcome::Checked(it) => {
                 made.verdicts = Some(it.verdicts);
                 (Some(it.alg), it.file, checked_answer(it.unmet))
@@ -300,11 +300,11 @@ pub(crate) fn end_answer(is_quiet: bool) -> Answer
 }
 
 // The answer that says so.
-fn lack_answer(lack: Lack) -> Answer
-    ensures { pure_answer result ≡ refused (lacks lack.arc.0 (pure_instance lack.instance)) }
+fn missing_answer(missing: Missing) -> Answer
+    ensures { pure_answer result ≡ refused (misses missing.arc.0 (pure_instance missing.instance)) }
 {
-    Answer::Lacks {
-        arc: lack.arc,
-        instance: lack.instance,
+    Answer::Misses {
+        arc: missing.arc,
+        instance: missing.instance,
     }
 }

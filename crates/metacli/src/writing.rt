@@ -10,7 +10,7 @@ ghost use Rattle.property_infer.specs.Views.{pure_verdict, pure_verdicts};
 ghost use Rattle.topology_file.specs.Views.{pure_file};
 ghost use Rattle.report_text.specs.CodeTexts.{CanList, code_text};
 ghost use Rattle.report_text.specs.VerdictTexts.{CanPrintVerdicts, lines_on, verdicts_text};
-ghost use Rattle.report_text.specs.Refusals.{CanLack, lacks, lacks_text, refusal_text};
+ghost use Rattle.report_text.specs.Refusals.{CanMissing, misses, misses_text, refusal_text};
 ghost use Rattle.report_text.specs.SummaryTexts.{AreSummed, summary_text};
 ghost use Rattle.vector_runs.specs.Runs.{AreOfNetworks, pure_phase};
 ghost use Rattle.wedge_nets.specs.GadgetTexts.{gadget_text};
@@ -21,7 +21,7 @@ ghost use Rattle.metacli.specs.Texts.{PutsText, TextOf, Written, last_net, route
 ghost use Rattle.metacli.specs.Views.{CanBeWritten, IsListedOn, pure_outcome};
 
 use crate::Answer;
-use crate::behind::last_of;
+use crate::after::last_of;
 use crate::outcome::{
     Checked, Coded, Outcome, Ran, Routed, Shown, Stop, Wedged, checked_answer, end_answer,
 };
@@ -33,11 +33,11 @@ use crate::tabling::put_tables;
 use alg_classes::{Instance, Property};
 use alg_model::{Alg, Value};
 use meta_base::{Failed, NoMemory, Sink, Text, put_all};
-use net_facts::Lack;
+use net_facts::Missing;
 use net_graph::{Net, RouteRow};
 use property_infer::Verdicts;
 use report_text::{
-    code_lines, lacks_line, push_row_line, refusal_line, required_line, verdict_line,
+    code_lines, misses_line, push_row_line, refusal_line, required_line, verdict_line,
 };
 use std::alloc::Global;
 use topology_file::NetFile;
@@ -51,7 +51,12 @@ pub fn write<K: Sink>(alloc: Global, out: &mut K, outcome: &Outcome) -> Answer
 {
     match outcome {
         Outcome::Stopped { stop, .. } => write_refusal(alloc, out, *stop),
-        Outcome::Lacking(it) => write_lack(alloc, out, last_of(&it.behind, &it.file.net), &it.lack),
+        Outcome::Missing(it) => write_missing(
+            alloc,
+            out,
+            last_of(&it.after, &it.file.net),
+            &it.missing,
+        ),
         Outcome::Checked(it) => answered(put_checked(alloc, out, it), checked_answer(it.unmet)),
         Outcome::Coded(it) => answered(put_code(alloc, out, it), Answer::Done),
         Outcome::Routed(it) => answered(put_routes(alloc, out, it), Answer::Done),
@@ -64,12 +69,12 @@ pub fn write<K: Sink>(alloc: Global, out: &mut K, outcome: &Outcome) -> Answer
 // Puts the lines of a listing, of the labels on the network's arcs where there is one.
 fn put_code<K: Sink>(alloc: Global, out: &mut K, coded: &Coded) -> Result<(), Cut>
     requires printable { CanList coded.now.alg (last_net (option_map pure_file coded.now.file)) coded.now.listing }
-    requires behind { IsListedOn coded.now.file coded.now.behind }
+    requires after { IsListedOn coded.now.file coded.now.after }
     ensures { PutsText (K.holds out.old)
         (code_text coded.now.alg.expression (last_net (option_map pure_file coded.now.file)) coded.now.listing)
         result (K.holds out.new) }
 {
-    let net = listed_net(&coded.file, &coded.behind);
+    let net = listed_net(&coded.file, &coded.after);
     put_line(out, code_lines(alloc, &coded.alg, net, &coded.listing))
 }
 
@@ -105,12 +110,12 @@ fn put_shown<K: Sink>(alloc: Global, out: &mut K, shown: &Shown) -> Result<(), C
 }
 
 // The network whose labels were compiled: that of the file, or the one after its changes.
-fn listed_net<'a>(file: &'a Option<NetFile>, behind: &'a Option<Net>) -> Option<&'a Net>
-    requires { IsListedOn file.now behind.now }
+fn listed_net<'a>(file: &'a Option<NetFile>, after: &'a Option<Net>) -> Option<&'a Net>
+    requires { IsListedOn file.now after.now }
     ensures { option_map (λ net. net.now) result ≡ last_net (option_map pure_file file.now) }
 {
     match file {
-        Some(file) => Some(last_of(behind, &file.net)),
+        Some(file) => Some(last_of(after, &file.net)),
         None => None,
     }
 }
@@ -137,31 +142,31 @@ fn stop_line(alloc: Global, stop: Stop) -> Result<Text, NoMemory>
 }
 
 // Writes the line of an arc whose label doesn't have a property. Memory for the answer is taken before.
-fn write_lack<K: Sink>(alloc: Global, out: &mut K, net: &Net, lack: &Lack) -> Answer
-    requires { CanLack lack.now.arc.0 (pure_instance lack.now.instance) (Some net.now) }
-    ensures { Written (K.holds out.old) (lacks_text lack.now.arc.0 (pure_instance lack.now.instance) (Some net.now))
-        (K.holds out.new) (refused (lacks lack.now.arc.0 (pure_instance lack.now.instance))) (pure_answer result) }
+fn write_missing<K: Sink>(alloc: Global, out: &mut K, net: &Net, missing: &Missing) -> Answer
+    requires { CanMissing missing.now.arc.0 (pure_instance missing.now.instance) (Some net.now) }
+    ensures { Written (K.holds out.old) (misses_text missing.now.arc.0 (pure_instance missing.now.instance) (Some net.now))
+        (K.holds out.new) (refused (misses missing.now.arc.0 (pure_instance missing.now.instance))) (pure_answer result) }
 {
-    match lack_line(alloc, net, lack) {
+    match missing_line(alloc, net, missing) {
         Ok((line, answer)) => write_line(out, line.as_str().as_bytes(), answer),
         Err(NoMemory) => Answer::NoMemory,
     }
 }
 
 // The line, and the answer that says the same.
-fn lack_line(alloc: Global, net: &Net, lack: &Lack) -> Result<(Text, Answer), NoMemory>
-    requires { CanLack lack.now.arc.0 (pure_instance lack.now.instance) (Some net.now) }
+fn missing_line(alloc: Global, net: &Net, missing: &Missing) -> Result<(Text, Answer), NoMemory>
+    requires { CanMissing missing.now.arc.0 (pure_instance missing.now.instance) (Some net.now) }
     ensures line { IfOk result (λ said.
-        said.0 ≡ lacks_text lack.now.arc.0 (pure_instance lack.now.instance) (Some net.now)) }
+        said.0 ≡ misses_text missing.now.arc.0 (pure_instance missing.now.instance) (Some net.now)) }
     ensures answer { IfOk result (λ said.
-        pure_answer said.1 ≡ refused (lacks lack.now.arc.0 (pure_instance lack.now.instance))) }
+        pure_answer said.1 ≡ refused (misses missing.now.arc.0 (pure_instance missing.now.instance))) }
 {
-    let line = lacks_line(alloc, net, lack.arc, &lack.instance)?;
-    let instance = copy_instance(alloc, &lack.instance)?;
+    let line = misses_line(alloc, net, missing.arc, &missing.instance)?;
+    let instance = copy_instance(alloc, &missing.instance)?;
     Ok((
         line,
-        Answer::Lacks {
-            arc: lack.arc,
+        Answer::Misses {
+            arc: missing.arc,
             instance,
         },
     ))

@@ -76,30 +76,30 @@ abbrev pub IsOwnOffer : PureNet → ℕ → ℕ → PureRoute → Type 0
 IsOwnOffer net dest i r = (origin_value net dest i ≡ Some r.value) × (r.path ≡ i ∷ [])
 
 -- what was reported of a node's route, if it has one: a table's rows tell it, and so does what a node heard
-abbrev pub Told : Type 0
-Told = ℕ → Option PureRoute
+abbrev pub Reported : Type 0
+Reported = ℕ → Option PureRoute
 
 -- what an arc to j makes of the route that is reported of j, where that is a value and the path of j
 -- doesn't pass i
-pub record IsOfferBy (net : PureNet) (told : Told) (i j : ℕ) (r : PureRoute) : Type 0 where
+pub record IsOfferBy (net : PureNet) (reported : Reported) (i j : ℕ) (r : PureRoute) : Type 0 where
   pub next : PureRoute
-  pub is_told : told j ≡ Some next
+  pub is_reported : reported j ≡ Some next
   pub weighs : along net i j (Some next.value) ≡ Some r.value
   pub loopless : is_among next.path i ≡ false
   pub path : r.path ≡ i ∷ next.path
 
 -- an offer to i made by its own origin or by one of these nodes
-abbrev pub IsOfferFrom : PureNet → ℕ → Told → List ℕ → ℕ → PureRoute → Type 0
-IsOfferFrom net dest told nodes i r = IsOwnOffer net dest i r ⊎ ((j : ℕ) × (is_among nodes j ≡ true) × IsOfferBy net told i j r)
+abbrev pub IsOfferFrom : PureNet → ℕ → Reported → List ℕ → ℕ → PureRoute → Type 0
+IsOfferFrom net dest reported nodes i r = IsOwnOffer net dest i r ⊎ ((j : ℕ) × (is_among nodes j ≡ true) × IsOfferBy net reported i j r)
 
 -- an offer to i for the destination
-abbrev pub Offers : PureNet → ℕ → Told → ℕ → PureRoute → Type 0
-Offers net dest told i r = IsOwnOffer net dest i r ⊎ ((j : ℕ) × IsOfferBy net told i j r)
+abbrev pub Offers : PureNet → ℕ → Reported → ℕ → PureRoute → Type 0
+Offers net dest reported i r = IsOwnOffer net dest i r ⊎ ((j : ℕ) × IsOfferBy net reported i j r)
 
 -- the choice is the offer that no other is better than, or none where there is no offer
-abbrev pub IsChoice : PureNet → ℕ → Told → ℕ → Option PureRoute → Type 0
-IsChoice net dest told i (Some r) = Offers net dest told i r × ((s : PureRoute) → Offers net dest told i s → ¬ Better (carrier net) s r)
-IsChoice net dest told i None = (r : PureRoute) → ¬ Offers net dest told i r
+abbrev pub IsChoice : PureNet → ℕ → Reported → ℕ → Option PureRoute → Type 0
+IsChoice net dest reported i (Some r) = Offers net dest reported i r × ((s : PureRoute) → Offers net dest reported i s → ¬ Better (carrier net) s r)
+IsChoice net dest reported i None = (r : PureRoute) → ¬ Offers net dest reported i r
 
 -- each row is its node's choice from what the table tells
 pub record Stable (net : PureNet) (dest : ℕ) (table : List PureRow) : Type 0 where

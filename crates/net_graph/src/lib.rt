@@ -16,7 +16,7 @@ mod route;
 
 pub use change::Change;
 pub use draft::NetDraft;
-pub use laws::{changed_networks_are_networks, networks_behind_changes_are_networks};
+pub use laws::{changed_networks_are_networks, networks_after_changes_are_networks};
 pub use limits::{
     MAX_ARCS, MOST_DESTS, MOST_NODES, editions_are_alike, max_changes, max_dests, max_nodes,
     numbers_are_specified,

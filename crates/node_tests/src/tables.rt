@@ -158,7 +158,7 @@ const OTHER_WALKS: &[Walk] = &[
 ];
 
 #[test]
-fn other_weights_are_told_apart(rt: HostRuntime) -> Result<(), Fail> {
+fn other_weights_are_reported_apart(rt: HostRuntime) -> Result<(), Fail> {
     for (expression, lines, walk, weight) in OTHER_WALKS {
         let is_weight = is_weight_over(rt.alloc(), *expression, *lines, *walk, *weight)?;
         assert!(rt; !is_weight, "{walk} weighs {weight}");

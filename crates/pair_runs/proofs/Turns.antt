@@ -6,7 +6,7 @@ use Rattle.alg_model.specs.Expressions.{PureAlg, PureLabel, PureValue}
 use Rattle.net_graph.specs.Nets.{PureNet, arcs_to}
 use Rattle.net_graph.specs.Routes.{PureRoute}
 use Rattle.node_core.specs.Kinds.{speaker}
-use Rattle.path_vector.specs.Node.{PvState, PureUpdate, Step, choice, fits, heard_with, may_be_of, same_row, told_on}
+use Rattle.path_vector.specs.Node.{PvState, PureUpdate, Step, choice, fits, heard_with, may_be_of, same_row, reported_on}
 use Rattle.settled_laws.specs.Pair.{pair_net}
 use Rattle.pair_runs.specs.ImprovedValues.{AreTested}
 use Rattle.pair_runs.proofs.Choices.{route_of, p_turns, q_turns, p_may_be, q_may_be, p_changes, q_changes}
@@ -31,9 +31,9 @@ module _ (net : PureNet) (s : PvState) (i a b u t : ℕ) (mine theirs next : Pur
   news = update_of theirs u
 
   takes : IsEnd net s i mine → (nat_lt 0 (length net.dests) && option_map_or (λ j. may_be_of net j theirs) (speaker net a) false) ≡ true
-      → choice net 0 i (heard_with s.heard a news) ≡ Some next → same_row (Some next) (Some mine) ≡ false → told_on (arcs_to net i) (update_of next t) ≡ (b, update_of next t) ∷ []
+      → choice net 0 i (heard_with s.heard a news) ≡ Some next → same_row (Some next) (Some mine) ≡ false → reported_on (arcs_to net i) (update_of next t) ≡ (b, update_of next t) ∷ []
       → Takes net s i a b news t next
-  takes e may turns differ to_one = record { is_end = rw fit (record { net_is = e.net_is; number_is = e.number_is; row_is = chosen }); puts = rw (fit, changes) told }
+  takes e may turns differ to_one = record { is_end = rw fit (record { net_is = e.net_is; number_is = e.number_is; row_is = chosen }); puts = rw (fit, changes) reported }
     where
       fit : fits s a news ≡ true
       fit = rw (e.net_is) may
@@ -44,8 +44,8 @@ module _ (net : PureNet) (s : PvState) (i a b u t : ℕ) (mine theirs next : Pur
       changes : same_row (choice s.net 0 s.number (heard_with s.heard a news)) (s.rows 0) ≡ false
       changes = rw (chosen, e.row_is) differ
 
-      told : told_on (arcs_to s.net s.number) (record { dest = 0; route = choice s.net 0 s.number (heard_with s.heard a news); stamp = t }) ≡ (b, update_of next t) ∷ []
-      told = ap (λ z. told_on (arcs_to s.net s.number) (record { dest = 0; route = z; stamp = t })) chosen ∙ rw (e.net_is, e.number_is) to_one
+      reported : reported_on (arcs_to s.net s.number) (record { dest = 0; route = choice s.net 0 s.number (heard_with s.heard a news); stamp = t }) ≡ (b, update_of next t) ∷ []
+      reported = ap (λ z. reported_on (arcs_to s.net s.number) (record { dest = 0; route = z; stamp = t })) chosen ∙ rw (e.net_is, e.number_is) to_one
 
 module _ (alg : PureAlg) (l : PureLabel) (v w : PureValue) (tested : AreTested alg l v w) (s : PvState) (x : Bool) (u t : ℕ) where
   pub p_takes : IsEnd (pair_net alg l v) s 0 (route_of v w 0 1 x) → Takes (pair_net alg l v) s 0 0 1 (update_of (route_of v w 1 0 x) u) t (route_of v w 0 1 (not x))

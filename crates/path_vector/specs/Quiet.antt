@@ -27,19 +27,19 @@ use Rattle.path_vector.specs.Delivering.{node_is}
 
 -- ---- routes that may be a node's are small
 
-lacks : (n : ℕ) (ns : List ℕ) → list_any (λ m. m == n) ns ≡ false → AllByRecursion (λ m. eqb n m ≡ false) ns
-lacks n [] e = tt
-lacks n (k ∷ ns) e =
+misses : (n : ℕ) (ns : List ℕ) → list_any (λ m. m == n) ns ≡ false → AllByRecursion (λ m. eqb n m ≡ false) ns
+misses n [] e = tt
+misses n (k ∷ ns) e =
     let both = either_false (k == n) (list_any (λ m. m == n) ns) e in
     let other : (k == n) ≡ false = both.0 in
-    (grind (arith, nat_tests), lacks n ns both.1)
+    (grind (arith, nat_tests), misses n ns both.1)
 
 apart : (ns : List ℕ) → distinct ns ≡ true → IsDistinct eqb ns
 unfolding IsDistinct
 apart [] e = tt
 apart (n ∷ ns) e =
     let both = and_parts (not (list_any (λ m. m == n) ns)) (distinct ns) e in
-    (lacks n ns (from_not (list_any (λ m. m == n) ns) both.0), apart ns both.1)
+    (misses n ns (from_not (list_any (λ m. m == n) ns) both.0), apart ns both.1)
 
 below : (k : ℕ) (ns : List ℕ) → list_all (λ n. nat_lt n k) ns ≡ true → (q : ℕ) → list_any (eqb q) ns ≡ true → q < k
 below k [] e q f = absurd (cc)
@@ -102,7 +102,7 @@ module _ (net : PureNet) (n : IsNet net) (c : Machine PvState PureUpdate) (k : I
   module _ (drained : Drained c) where
     -- what was heard on an arc is the speaker's row
     pub heard_is_row : (a : PureArc) (s t : PvState) → slice_get net.arcs a.id ≡ Some a → c.node a.tail ≡ Some s → c.node a.head ≡ Some t → s.heard a.id dest ≡ t.rows dest
-    heard_is_row a s t stands e f = ap (last_said dest (s.heard a.id dest)) (sym (drained a.id)) ∙ k.told a s t dest stands e f
+    heard_is_row a s t stands e f = ap (last_said dest (s.heard a.id dest)) (sym (drained a.id)) ∙ k.reported a s t dest stands e f
 
     -- a table of the rows is stable
     pub quiet_is_stable : dest < length net.dests → (table : List PureRow) → AreRowsOf c dest 0 table → length table ≡ length net.nodes → Stable net dest table

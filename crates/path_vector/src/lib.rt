@@ -17,9 +17,9 @@ mod offer;
 mod own;
 mod paths;
 mod rechoosing;
+mod reporting;
 mod rows;
 mod shared;
-mod telling;
 mod update;
 
 pub use laws::{

@@ -187,7 +187,7 @@ impl<'a, A: Algebra> PvNode<'a, A> {
         };
         let dest = update.dest.0 as usize;
         put_row(&mut self.rows, dest, change.row, &mut self.spare);
-        *out = change.told;
+        *out = change.reported;
         Ok(())
     }
 }
@@ -227,7 +227,7 @@ impl<'a, A: Algebra> NodeCore for PvNode<'a, A> {
     }
 
     fn on_start(&mut self, out: &mut Outgoing<Update>) -> Result<(), NoMemory> {
-        let (rows, told) = begun_rows(
+        let (rows, reported) = begun_rows(
             *self.rows.allocator(),
             self.algebra,
             self.net,
@@ -240,7 +240,7 @@ impl<'a, A: Algebra> NodeCore for PvNode<'a, A> {
         self.rows = rows;
         self.is_begun = true;
         self.last = 0;
-        *out = told;
+        *out = reported;
         Ok(())
     }
 

@@ -28,12 +28,12 @@ pub(crate) fn starts_at(path: &[NodeId], node: NodeId) -> bool
 }
 
 // What lies after the first node of the path.
-pub(crate) fn behind(path: &[NodeId]) -> &[NodeId]
+pub(crate) fn after(path: &[NodeId]) -> &[NodeId]
     ensures { (i : ℕ) → begins_with i (numbers path.now) ≡ true → numbers path.now ≡ i ∷ numbers result.now }
 {
     match path {
         [] => path,
-        [_first, behind @ ..] => behind,
+        [_first, after @ ..] => after,
     }
 }
 
@@ -43,7 +43,7 @@ pub(crate) fn is_second(path: &[NodeId], node: NodeId) -> bool
 {
     match path {
         [] => false,
-        [_first, behind @ ..] => starts_at(behind, node),
+        [_first, after @ ..] => starts_at(after, node),
     }
 }
 

@@ -22,7 +22,7 @@ pub(crate) fn ended_with(outcome: Outcome, text: &[u8], status: u8) -> bool {
 }
 
 // Whether the run was refused for a label with a line that begins so.
-pub(crate) fn is_lacking(outcome: Outcome, begins: &str) -> Result<bool, Fail> {
+pub(crate) fn is_missing(outcome: Outcome, begins: &str) -> Result<bool, Fail> {
     let text = str::from_utf8(&outcome.taken)?;
     Ok(outcome.status == 3 && text.starts_with(begins) && text.lines().count() == 1)
 }
@@ -154,7 +154,7 @@ const OTHER_ENDS: &[(&[u8], u8)] = &[
 ];
 
 #[test]
-fn other_ends_are_told_apart(rt: HostRuntime) -> Result<(), Fail> {
+fn other_ends_are_reported_apart(rt: HostRuntime) -> Result<(), Fail> {
     for (taken, status) in OTHER_ENDS {
         let outcome = outcome_of(rt.alloc(), *taken, *status)?;
         assert!(rt; !ended_with(outcome, b"quiet 1\n", 0));
@@ -163,7 +163,7 @@ fn other_ends_are_told_apart(rt: HostRuntime) -> Result<(), Fail> {
 }
 
 // Ends that are no refusal for a label that fails to be strict.
-const NO_LACKS: &[(&[u8], u8)] = &[
+const NO_MISSING: &[(&[u8], u8)] = &[
     (b"strict fails on a b: 0 on 0 gives 0\n", 0),
     (b"isotone fails on a b: 0 on 0 gives 0\n", 3),
     (b"strict fails on a b: 0 on 0 gives 0\na x 0 a\n", 3),
@@ -171,10 +171,10 @@ const NO_LACKS: &[(&[u8], u8)] = &[
 ];
 
 #[test]
-fn other_refusals_are_told_apart(rt: HostRuntime) -> Result<(), Fail> {
-    for (taken, status) in NO_LACKS {
+fn other_refusals_are_reported_apart(rt: HostRuntime) -> Result<(), Fail> {
+    for (taken, status) in NO_MISSING {
         let outcome = outcome_of(rt.alloc(), *taken, *status)?;
-        assert!(rt; !is_lacking(outcome, "strict fails on ")?);
+        assert!(rt; !is_missing(outcome, "strict fails on ")?);
     }
     Ok(())
 }
@@ -392,7 +392,7 @@ fn words_mean_commands(rt: HostRuntime) -> Result<(), Fail> {
 }
 
 #[test]
-fn other_commands_are_told_apart(rt: HostRuntime) -> Result<(), Fail> {
+fn other_commands_are_reported_apart(rt: HostRuntime) -> Result<(), Fail> {
     let check = Command::Check {
         file: 1,
         net: None,
@@ -484,7 +484,7 @@ const NO_STRICT: &[(&[u8], u8)] = &[
 ];
 
 #[test]
-fn other_answers_are_told_apart(rt: HostRuntime) -> Result<(), Fail> {
+fn other_answers_are_reported_apart(rt: HostRuntime) -> Result<(), Fail> {
     for (taken, status) in NO_STRICT {
         let outcome = outcome_of(rt.alloc(), *taken, *status)?;
         assert!(rt; !has_said(outcome, "y-yyy", "strict no: 0 on ")?);

@@ -228,7 +228,7 @@ const OTHER_ENDS: &[(&[u8], &[u8], u8)] = &[
 ];
 
 #[test]
-fn other_ends_are_told_apart(rt: HostRuntime) -> Result<(), Fail> {
+fn other_ends_are_reported_apart(rt: HostRuntime) -> Result<(), Fail> {
     for (taken, other, status) in OTHER_ENDS {
         let outcome = outcome_of(rt.alloc(), *taken, *status)?;
         assert!(rt; !ended_by(outcome, b"quiet 1\n", *other, 0));

@@ -21,8 +21,8 @@ use Rattle.property_infer.specs.SideAnswers.{IsOfEach, IsAcross, side_first, sid
 abbrev pub IsOf : Action → Profile → Type 0
 IsOf x p = IsProfile (carrier_under x) (action_of x) p
 
-lacks : (c : PureCarrier) (f : facts.Action) (p : Profile) (k : Fact) → IsProfile c f p → bit p k ≡ false → ¬ Holds c f k
-lacks c f p k is e h = let g = (is k).1 h in absurd (cc)
+misses : (c : PureCarrier) (f : facts.Action) (p : Profile) (k : Fact) → IsProfile c f p → bit p k ≡ false → ¬ Holds c f k
+misses c f p k is e h = let g = (is k).1 h in absurd (cc)
 
 -- Of a pair.
 
@@ -35,7 +35,7 @@ total_by_second x y p is e = λ u r s a.
 
 pub total_by_first : (x y : Action) (p : Profile) → IsOf x p → p.total ≡ false → MakesPair x y Total OutsideFirst
 total_by_first x y p is e = λ o v a s.
-    pair_total_first (carrier_under x) (carrier_under y) (action_of x) (action_of y) o v (lacks (carrier_under x) (action_of x) p Total is e) a s.0 s.1
+    pair_total_first (carrier_under x) (carrier_under y) (action_of x) (action_of y) o v (misses (carrier_under x) (action_of x) p Total is e) a s.0 s.1
 
 pub worse_by_second : (e : Edition) (x y : Action) (k : Fact) (p : Profile) → IsOfWorse k → IsAction e x → IsOf x p → p.mono ≡ true
     → MakesPair x y k (Both Strict k)
@@ -46,22 +46,22 @@ pub worse_by_first : (e : Edition) (x y : Action) (k : Fact) (p : Profile) → I
     → MakesPair x y k (Both Monotone Dead)
 worse_by_first e x y k p worse action is h = λ o r a b.
     pair_worse_first (carrier_under x) (carrier_under y) (action_of x) (action_of y) k o r worse (action_keeps e x action)
-    (lacks (carrier_under x) (action_of x) p Monotone is h) a b
+    (misses (carrier_under x) (action_of x) p Monotone is h) a b
 
 pub isotone_by_first : (x y : Action) (p : Profile) → IsOf x p → p.iso ≡ false → MakesPair x y Isotone (Both Isotone Dead)
 isotone_by_first x y p is h = λ o r a b.
-    pair_isotone_first (carrier_under x) (carrier_under y) (action_of x) (action_of y) o r (lacks (carrier_under x) (action_of x) p Isotone is h) a b
+    pair_isotone_first (carrier_under x) (carrier_under y) (action_of x) (action_of y) o r (misses (carrier_under x) (action_of x) p Isotone is h) a b
 
 pub isotone_by_second : (e : Edition) (x y : Action) (q : Profile) → IsAction e x → IsOf y q → q.iso ≡ false → MakesPair x y Isotone (Both Dead Isotone)
 isotone_by_second e x y q action is h = λ o r a b.
     pair_isotone_second (carrier_under x) (carrier_under y) (action_of x) (action_of y) o r (action_keeps e x action)
-    (lacks (carrier_under y) (action_of y) q Isotone is h) a b
+    (misses (carrier_under y) (action_of y) q Isotone is h) a b
 
 pub isotone_by_split : (e : Edition) (x y : Action) (p q : Profile) → IsAction e x → IsOf x p → IsOf y q → p.iso ≡ true → q.iso ≡ true → q.total ≡ false
     → MakesPair x y Isotone Split
 isotone_by_split e x y p q action is_x is_y h i t = λ o r s a b d.
     pair_isotone_split (carrier_under x) (carrier_under y) (action_of x) (action_of y) o r s (action_keeps e x action) ((is_x Isotone).0 h) ((is_y Isotone).0 i)
-    (lacks (carrier_under y) (action_of y) q Total is_y t) a b d
+    (misses (carrier_under y) (action_of y) q Total is_y t) a b d
 
 pub isotone_by_ties : (e : Edition) (x y : Action) (p q : Profile) → IsAction e x → IsOf x p → IsOf y q → p.iso ≡ true → q.iso ≡ true → q.total ≡ true
     → MakesPair x y Isotone (Both Cancellative Condensed)
@@ -78,13 +78,13 @@ pub alike_by_first : (e : Edition) (x y : Action) (k : Fact) (p : Profile) → I
     → MakesPair x y k (Both k Dead)
 alike_by_first e x y k p alike action is h = λ o r a b.
     pair_alike_first (carrier_under x) (carrier_under y) (action_of x) (action_of y) k o r alike (action_keeps e y action)
-    (lacks (carrier_under x) (action_of x) p k is h) a b
+    (misses (carrier_under x) (action_of x) p k is h) a b
 
 -- Of two sides.
 
 pub by_first_side : (x y : Action) (k : Fact) (p : Profile) → IsOf x p → bit p k ≡ false → MakesSides x y k First
 by_first_side x y k p is h = λ o a.
-    side_first (carrier_under x) (carrier_under y) (action_of x) (action_of y) k o (lacks (carrier_under x) (action_of x) p k is h) a
+    side_first (carrier_under x) (carrier_under y) (action_of x) (action_of y) k o (misses (carrier_under x) (action_of x) p k is h) a
 
 pub each_by_second_side : (x y : Action) (k : Fact) (p : Profile) → IsOfEach k → IsOf x p → bit p k ≡ true → MakesSides x y k Second
 each_by_second_side x y k p each is h = λ r a.
@@ -92,7 +92,7 @@ each_by_second_side x y k p each is h = λ r a.
 
 pub by_second_side : (x y : Action) (k : Fact) (q : Profile) → IsOf y q → bit q k ≡ false → MakesSides x y k Second
 by_second_side x y k q is h = λ r a.
-    side_second (carrier_under x) (carrier_under y) (action_of x) (action_of y) k r (lacks (carrier_under y) (action_of y) q k is h) a
+    side_second (carrier_under x) (carrier_under y) (action_of x) (action_of y) k r (misses (carrier_under y) (action_of y) q k is h) a
 
 pub by_both_sides : (x y : Action) (k m : Fact) (p q : Profile) → IsAcross k m → IsOf x p → IsOf y q → bit p k ≡ true
     → bit q k ≡ true → MakesSides x y k (Across m)

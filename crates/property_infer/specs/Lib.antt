@@ -3,7 +3,7 @@ pub mod Answers
 pub mod PairAnswers
 pub mod SideAnswers
 pub mod Asked
-pub mod Told
+pub mod Reported
 pub mod Labels
-pub mod ToldLaws
+pub mod ReportedLaws
 pub mod LabelLaws

@@ -19,9 +19,9 @@ use Rattle.property_infer.specs.Answers.{Answers}
 
 -- What an answer tells: that the fact holds, or an example that refutes it, whose numbers are small.
 
-told : (c : PureCarrier) (f : Action) (k : Fact) (o : Option PureExample) → Answers c f k o → o ≡ None → Holds c f k
-told c f k None a e = a
-told c f k (Some x) a e = absurd (cc)
+reported : (c : PureCarrier) (f : Action) (k : Fact) (o : Option PureExample) → Answers c f k o → o ≡ None → Holds c f k
+reported c f k None a e = a
+reported c f k (Some x) a e = absurd (cc)
 
 shown : (c : PureCarrier) (f : Action) (k : Fact) (o : Option PureExample) → Answers c f k o → OnExample (Refutes c f k) o
 shown c f k None a = tt
@@ -75,13 +75,13 @@ answer_by : (c d : PureCarrier) (f g : Action) (k kx ky : Fact) (o r : Option Pu
     → (Holds c f kx → Holds (pairs c d) (paired f g) k) → (Holds d g ky → Holds (pairs c d) (paired f g) k) → Joins c d f g (Refutes c f kx) (Refutes d g ky) k
     → Answers c f kx o → Answers d g ky r → Answers (pairs c d) (paired f g) k (beside o r)
 answer_by c d f g k kx ky o r h i rule a b = answer_joined c d f g (Refutes c f kx) (Refutes d g ky) k o r
-    (λ e. h (told c f kx o a e)) (λ e. i (told d g ky r b e)) rule (shown c f kx o a) (shown d g ky r b) (small c f kx o a) (small d g ky r b)
+    (λ e. h (reported c f kx o a e)) (λ e. i (reported d g ky r b e)) rule (shown c f kx o a) (shown d g ky r b) (small c f kx o a) (small d g ky r b)
 
 -- where the first part doesn't have a fact, its example and a value of the second part with an image show it of the
 -- pair
 first_fails : (c d : PureCarrier) (f g : Action) (k kx : Fact) (o r : Option PureExample) → ¬ (k ≡ Total) → ¬ Holds c f kx
     → Joins c d f g (Refutes c f kx) (Refutes d g Dead) k → Answers c f kx o → Answers d g Dead r → Answers (pairs c d) (paired f g) k (beside o r)
-first_fails c d f g k kx o r other lacks rule a b = answer_by c d f g k kx Dead o r (λ h. absurd (lacks h)) (λ h. dead_pair c d f g (inr h) k other) rule a b
+first_fails c d f g k kx o r other misses rule a b = answer_by c d f g k kx Dead o r (λ h. absurd (misses h)) (λ h. dead_pair c d f g (inr h) k other) rule a b
 
 -- and so do an example of the second part and a value of the first with an image
 second_fails : (c d : PureCarrier) (f g : Action) (k ky : Fact) (o r : Option PureExample) → ¬ (k ≡ Total) → (Holds d g ky → Holds (pairs c d) (paired f g) k)
@@ -95,19 +95,19 @@ pair_dead c d f g o r a b = answer_by c d f g Dead Dead Dead o r (first_dead c d
 
 pub pair_total_first : (c d : PureCarrier) (f g : Action) (o : Option PureExample) (v : PureValue) → ¬ Holds c f Total → Answers c f Total o → In d v → AtMost max_instance_number v
     → Answers (pairs c d) (paired f g) Total (beside o (Some (at v)))
-pair_total_first c d f g o v lacks a i b = answer_joined c d f g (Refutes c f Total) (IsValue d) Total o (Some (at v))
-    (λ e. absurd (lacks (told c f Total o a e))) (λ e. absurd (cc)) (total_with_any c d f g) (shown c f Total o a) i (small c f Total o a) b
+pair_total_first c d f g o v misses a i b = answer_joined c d f g (Refutes c f Total) (IsValue d) Total o (Some (at v))
+    (λ e. absurd (misses (reported c f Total o a e))) (λ e. absurd (cc)) (total_with_any c d f g) (shown c f Total o a) i (small c f Total o a) b
 
 pub pair_total_second : (c d : PureCarrier) (f g : Action) (u : PureValue) (r : Option PureExample) → Holds c f Total → In c u → AtMost max_instance_number u → Answers d g Total r
     → Answers (pairs c d) (paired f g) Total (beside (Some (at u)) r)
 pair_total_second c d f g u r holds i b a = answer_joined c d f g (IsValue c) (Refutes d g Total) Total (Some (at u)) r
-    (λ e. absurd (cc)) (λ e. both_total c d f g holds (told d g Total r a e)) (any_with_total c d f g) i (shown d g Total r a) b (small d g Total r a)
+    (λ e. absurd (cc)) (λ e. both_total c d f g holds (reported d g Total r a e)) (any_with_total c d f g) i (shown d g Total r a) b (small d g Total r a)
 
 -- Whether no value's image is preferred to it, and whether each image is worse.
 
 pair_monotone_first : (c d : PureCarrier) (f g : Action) (o r : Option PureExample) → ¬ Holds c f Monotone → Answers c f Monotone o → Answers d g Dead r
     → Answers (pairs c d) (paired f g) Monotone (beside o r)
-pair_monotone_first c d f g o r lacks a b = first_fails c d f g Monotone Monotone o r (λ e. absurd (cc)) lacks (monotone_with_dead c d f g) a b
+pair_monotone_first c d f g o r misses a b = first_fails c d f g Monotone Monotone o r (λ e. absurd (cc)) misses (monotone_with_dead c d f g) a b
 
 pair_monotone_second : (c d : PureCarrier) (f g : Action) (o r : Option PureExample) → Keeps c f → Holds c f Monotone → Answers c f Strict o → Answers d g Monotone r
     → Answers (pairs c d) (paired f g) Monotone (beside o r)
@@ -115,7 +115,7 @@ pair_monotone_second c d f g o r kept holds a b = answer_by c d f g Monotone Str
 
 pair_strict_first : (c d : PureCarrier) (f g : Action) (o r : Option PureExample) → Keeps c f → ¬ Holds c f Monotone → Answers c f Monotone o → Answers d g Dead r
     → Answers (pairs c d) (paired f g) Strict (beside o r)
-pair_strict_first c d f g o r kept lacks a b = first_fails c d f g Strict Monotone o r (λ e. absurd (cc)) lacks (monotone_with_dead_strict c d f g kept) a b
+pair_strict_first c d f g o r kept misses a b = first_fails c d f g Strict Monotone o r (λ e. absurd (cc)) misses (monotone_with_dead_strict c d f g kept) a b
 
 pair_strict_second : (c d : PureCarrier) (f g : Action) (o r : Option PureExample) → Keeps c f → Holds c f Monotone → Answers c f Strict o → Answers d g Strict r
     → Answers (pairs c d) (paired f g) Strict (beside o r)
@@ -128,9 +128,9 @@ IsOfWorse _ = ⊥
 
 pub pair_worse_first : (c d : PureCarrier) (f g : Action) (k : Fact) (o r : Option PureExample) → IsOfWorse k → Keeps c f → ¬ Holds c f Monotone → Answers c f Monotone o
     → Answers d g Dead r → Answers (pairs c d) (paired f g) k (beside o r)
-pair_worse_first c d f g Monotone o r worse kept lacks a b = pair_monotone_first c d f g o r lacks a b
-pair_worse_first c d f g Strict o r worse kept lacks a b = pair_strict_first c d f g o r kept lacks a b
-pair_worse_first c d f g _ o r worse kept lacks a b = absurd worse
+pair_worse_first c d f g Monotone o r worse kept misses a b = pair_monotone_first c d f g o r misses a b
+pair_worse_first c d f g Strict o r worse kept misses a b = pair_strict_first c d f g o r kept misses a b
+pair_worse_first c d f g _ o r worse kept misses a b = absurd worse
 
 pub pair_worse_second : (c d : PureCarrier) (f g : Action) (k : Fact) (o r : Option PureExample) → IsOfWorse k → Keeps c f → Holds c f Monotone → Answers c f Strict o
     → Answers d g k r → Answers (pairs c d) (paired f g) k (beside o r)
@@ -142,25 +142,25 @@ pair_worse_second c d f g _ o r worse kept holds a b = absurd worse
 
 pub pair_isotone_first : (c d : PureCarrier) (f g : Action) (o r : Option PureExample) → ¬ Holds c f Isotone → Answers c f Isotone o → Answers d g Dead r
     → Answers (pairs c d) (paired f g) Isotone (beside o r)
-pair_isotone_first c d f g o r lacks a b = first_fails c d f g Isotone Isotone o r (λ e. absurd (cc)) lacks (isotone_with_dead c d f g) a b
+pair_isotone_first c d f g o r misses a b = first_fails c d f g Isotone Isotone o r (λ e. absurd (cc)) misses (isotone_with_dead c d f g) a b
 
 pub pair_isotone_second : (c d : PureCarrier) (f g : Action) (o r : Option PureExample) → Keeps c f → ¬ Holds d g Isotone → Answers c f Dead o → Answers d g Isotone r
     → Answers (pairs c d) (paired f g) Isotone (beside o r)
-pair_isotone_second c d f g o r kept lacks a b = second_fails c d f g Isotone Isotone o r (λ e. absurd (cc)) (λ h. absurd (lacks h)) (dead_with_isotone c d f g kept) a b
+pair_isotone_second c d f g o r kept misses a b = second_fails c d f g Isotone Isotone o r (λ e. absurd (cc)) (λ h. absurd (misses h)) (dead_with_isotone c d f g kept) a b
 
 -- where the two values to span aren't both there, and some value has no image, none has one
 spanned_none : (d : PureCarrier) (g : Action) (r s : Option PureExample) → ¬ Holds d g Total → Answers d g Dead r → Answers d g Total s → spanned r s ≡ None → Holds d g Dead
-spanned_none d g (Some (at u)) (Some (at v)) lacks a b e = absurd (cc)
-spanned_none d g (Some (at u)) (Some (between v w)) lacks a b e = absurd b.0.1
-spanned_none d g (Some (at u)) None lacks a b e = absurd (lacks b)
-spanned_none d g (Some (between u v)) s lacks a b e = absurd a.0.1
-spanned_none d g None s lacks a b e = a
+spanned_none d g (Some (at u)) (Some (at v)) misses a b e = absurd (cc)
+spanned_none d g (Some (at u)) (Some (between v w)) misses a b e = absurd b.0.1
+spanned_none d g (Some (at u)) None misses a b e = absurd (misses b)
+spanned_none d g (Some (between u v)) s misses a b e = absurd a.0.1
+spanned_none d g None s misses a b e = a
 
 pub pair_isotone_split : (c d : PureCarrier) (f g : Action) (o r s : Option PureExample) → Keeps c f → Holds c f Isotone → Holds d g Isotone → ¬ Holds d g Total
     → Answers c f Narrow o → Answers d g Dead r → Answers d g Total s → Answers (pairs c d) (paired f g) Isotone (beside o (spanned r s))
-pair_isotone_split c d f g o r s kept h i lacks a b t = answer_joined c d f g (Refutes c f Narrow) (Splits d g) Isotone o (spanned r s)
-    (λ e. both_isotone c d f g kept h i (inl (told c f Narrow o a e)))
-    (λ e. dead_pair c d f g (inr (spanned_none d g r s lacks b t e)) Isotone (λ e. absurd (cc)))
+pair_isotone_split c d f g o r s kept h i misses a b t = answer_joined c d f g (Refutes c f Narrow) (Splits d g) Isotone o (spanned r s)
+    (λ e. both_isotone c d f g kept h i (inl (reported c f Narrow o a e)))
+    (λ e. dead_pair c d f g (inr (spanned_none d g r s misses b t e)) Isotone (λ e. absurd (cc)))
     (narrow_with_split c d f g) (shown c f Narrow o a) (splits d g r s (shown d g Dead r b) (shown d g Total s t))
     (small c f Narrow o a) (small_spanned max_instance_number r s (small d g Dead r b) (small d g Total s t))
 
@@ -179,10 +179,10 @@ IsAlike _ = ⊥
 
 pub pair_alike_first : (c d : PureCarrier) (f g : Action) (k : Fact) (o r : Option PureExample) → IsAlike k → Keeps d g → ¬ Holds c f k → Answers c f k o → Answers d g Dead r
     → Answers (pairs c d) (paired f g) k (beside o r)
-pair_alike_first c d f g Cancellative o r alike kept lacks a b = first_fails c d f g Cancellative Cancellative o r (λ e. absurd (cc)) lacks (cancellative_with_dead c d f g kept) a b
-pair_alike_first c d f g Condensed o r alike kept lacks a b = first_fails c d f g Condensed Condensed o r (λ e. absurd (cc)) lacks (condensed_with_dead c d f g) a b
-pair_alike_first c d f g Narrow o r alike kept lacks a b = first_fails c d f g Narrow Narrow o r (λ e. absurd (cc)) lacks (narrow_with_dead c d f g) a b
-pair_alike_first c d f g _ o r alike kept lacks a b = absurd alike
+pair_alike_first c d f g Cancellative o r alike kept misses a b = first_fails c d f g Cancellative Cancellative o r (λ e. absurd (cc)) misses (cancellative_with_dead c d f g kept) a b
+pair_alike_first c d f g Condensed o r alike kept misses a b = first_fails c d f g Condensed Condensed o r (λ e. absurd (cc)) misses (condensed_with_dead c d f g) a b
+pair_alike_first c d f g Narrow o r alike kept misses a b = first_fails c d f g Narrow Narrow o r (λ e. absurd (cc)) misses (narrow_with_dead c d f g) a b
+pair_alike_first c d f g _ o r alike kept misses a b = absurd alike
 
 pub pair_alike_second : (c d : PureCarrier) (f g : Action) (k : Fact) (o r : Option PureExample) → IsAlike k → Keeps c f → Holds c f k → Answers c f Dead o → Answers d g k r
     → Answers (pairs c d) (paired f g) k (beside o r)

@@ -26,8 +26,8 @@ on_second_side c d f g k e a = (refuted_on_second c d f g k e a.0, second_bound 
 -- where the first side hasn't the fact, its example is one of both
 pub side_first : (c d : PureCarrier) (f g : Action) (k : Fact) (o : Option PureExample) → ¬ Holds c f k → Answers c f k o
     → Answers (sides c d) (beside f g) k (option_map on_first o)
-side_first c d f g k None lacks a = absurd (lacks a)
-side_first c d f g k (Some e) lacks a = (refuted_on_first c d f g k e a.0, first_bound max_instance_number e a.1)
+side_first c d f g k None misses a = absurd (misses a)
+side_first c d f g k (Some e) misses a = (refuted_on_first c d f g k e a.0, first_bound max_instance_number e a.1)
 
 -- a fact that both have where each side has it; where the first side has it, the second tells
 abbrev pub IsOfEach : Fact → Type 0
@@ -54,8 +54,8 @@ side_of_each c d f g k (Some e) each h a = on_second_side c d f g k e a
 -- where the second side hasn't the fact, its example is one of both
 pub side_second : (c d : PureCarrier) (f g : Action) (k : Fact) (r : Option PureExample) → ¬ Holds d g k → Answers d g k r
     → Answers (sides c d) (beside f g) k (option_map on_second r)
-side_second c d f g k None lacks a = absurd (lacks a)
-side_second c d f g k (Some e) lacks a = on_second_side c d f g k e a
+side_second c d f g k None misses a = absurd (misses a)
+side_second c d f g k (Some e) misses a = on_second_side c d f g k e a
 
 -- where both have it, a value of each side may show that it fails between them
 side_isotone_across : (c d : PureCarrier) (f g : Action) (o r : Option PureExample) → Holds c f Isotone → Holds d g Isotone → Answers c f Total o → Answers d g Dead r

@@ -1,6 +1,6 @@
 // The longest fronts of one kind of bytes.
 ghost use Rattle.std.specs.Prelude.{◌≡◌, ◌+◌, ◌-◌, ◌*◌, ◌<◌, ◌≤◌, take, drop, length, nat_le, Some, None, if◌then◌else◌};
-ghost use Rattle.meta_base.specs.Bytes.{is_digit, is_word_byte, front, behind};
+ghost use Rattle.meta_base.specs.Bytes.{is_digit, is_word_byte, front, after_front};
 ghost use Rattle.raml_lex.specs.Numbers.{SpellsAtMost, at_most};
 
 use meta_base::bytes::{is_digit, is_word_byte};
@@ -9,7 +9,7 @@ use meta_base::bytes::{is_digit, is_word_byte};
 pub fn word_len(text: &[u8]) -> usize
     ensures within { result ≤ length text.now }
     ensures front { take result text.now ≡ front is_word_byte text.now }
-    ensures behind { drop result text.now ≡ behind is_word_byte text.now }
+    ensures after_front { drop result text.now ≡ after_front is_word_byte text.now }
 {
     let mut len = 0;
     for byte in text {

@@ -39,7 +39,7 @@ impl Cursor {
     }
 
     // So many bytes on, none of which is a line feed.
-    pub fn behind(self, count: usize) -> Cursor
+    pub fn after(self, count: usize) -> Cursor
         requires { FitsPlace (self.at + count) }
         ensures { result ≡ record self { at = self.at + count } }
     {

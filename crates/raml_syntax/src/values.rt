@@ -7,7 +7,7 @@ ghost use Rattle.raml_syntax.specs.Marks.{own_name};
 ghost use Rattle.raml_syntax.specs.Sequences.{One, Reads};
 ghost use Rattle.raml_syntax.specs.Syntax.{is_among, is_none};
 ghost use Rattle.raml_syntax.specs.Tested.{Tested};
-ghost use Rattle.raml_syntax.specs.Values.{Values, after_value, rank_behind};
+ghost use Rattle.raml_syntax.specs.Values.{Values, after_value, rank_following};
 
 use crate::expect::{refused, take, take_word};
 use crate::{AlgError, ExprKind};
@@ -98,9 +98,9 @@ fn take_after_value(tokens: &mut Tokens<'_>) -> Result<AfterValue, AlgError>
 }
 
 // The rank of a value after one of this rank.
-fn rank_behind(rank: u8, is_tied: bool) -> u8
+fn rank_following(rank: u8, is_tied: bool) -> u8
     requires { rank + 1 < 2 ^ 8 }
-    ensures { result ≡ rank_behind rank is_tied }
+    ensures { result ≡ rank_following rank is_tied }
 {
     if is_tied { rank } else { rank + 1 }
 }
@@ -121,7 +121,7 @@ pub fn read_values(alloc: Global, tokens: &mut Tokens<'_>) -> Result<ValueList, 
     while let AfterValue::Value { is_tied } = take_after_value(tokens)? {
         let name = read_value_name(alloc, tokens, names.as_slice())?;
         names.push(name)?;
-        rank = rank_behind(rank, is_tied);
+        rank = rank_following(rank, is_tied);
         ranks.push(rank)?;
     }
     Ok(ValueList { names, ranks })

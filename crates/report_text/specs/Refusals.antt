@@ -18,7 +18,7 @@ pub data PureRefusal : Type 0 where
   words : ℕ → PureRefusal
   expr : ExprFault → PureRefusal
   network : NetFault → PureRefusal
-  lacks : ℕ → PureInstance → PureRefusal
+  misses : ℕ → PureInstance → PureRefusal
   read : Which → PureRefusal
   long : Which → PureRefusal
   memory : PureRefusal
@@ -45,9 +45,9 @@ abbrev pub arc_text : PureNet → ℕ → List ℕ
 arc_text net n = ends_text net (slice_get net.arcs n)
 
 -- PROPERTY fails on LISTENER SPEAKER: INSTANCE
-abbrev pub lacks_text : ℕ → PureInstance → Option PureNet → List ℕ
-lacks_text n x None = []
-lacks_text n x (Some net) =
+abbrev pub misses_text : ℕ → PureInstance → Option PureNet → List ℕ
+misses_text n x None = []
+misses_text n x (Some net) =
     property_word x.property ++ codes " fails on " ++ arc_text net n ++ codes ": "
     ++ instance_text net.alg.expression x ++ codes "\n"
 
@@ -60,17 +60,17 @@ refusal_text (expr f) net =
 refusal_text (network f) net =
     codes "network refused: N" ++ decimal (net_kind_number f.kind) ++ codes " at line "
     ++ decimal f.line ++ codes "\n"
-refusal_text (lacks n x) net = lacks_text n x net
+refusal_text (misses n x) net = misses_text n x net
 refusal_text (read w) net = codes "read fault on the " ++ which_text w ++ codes "\n"
 refusal_text (long w) net = codes "too long: the " ++ which_text w ++ codes "\n"
 refusal_text memory net = codes "out of memory\n"
 
 -- an arc is one of the network's, and the instance can be printed
-abbrev pub CanLack : ℕ → PureInstance → Option PureNet → Type 0
-CanLack n x None = ⊥
-CanLack n x (Some net) = (n < length net.arcs) × CanPrint net.alg.expression x
+abbrev pub CanMissing : ℕ → PureInstance → Option PureNet → Type 0
+CanMissing n x None = ⊥
+CanMissing n x (Some net) = (n < length net.arcs) × CanPrint net.alg.expression x
 
 -- the line can be printed: an arc that doesn't have a property is of a network, which is given
 abbrev pub CanRefuse : PureRefusal → Option PureNet → Type 0
-CanRefuse (lacks n x) net = CanLack n x net
+CanRefuse (misses n x) net = CanMissing n x net
 CanRefuse _ net = Unit {0}

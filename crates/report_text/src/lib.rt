@@ -12,7 +12,7 @@ mod tables;
 mod verdicts;
 
 pub use code::{Operation, arc_line, code_lines, operation_line, order_line};
-pub use refusals::{Refusal, lacks_line, refusal_line};
+pub use refusals::{Refusal, misses_line, refusal_line};
 pub use rows::{push_row_line, row_line};
 pub use runs::{end_line, phase_line, push_delivery_line};
 pub use summary::{

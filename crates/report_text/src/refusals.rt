@@ -4,7 +4,7 @@ ghost use Rattle.meta_base.specs.Appending.{Gains};
 ghost use Rattle.alg_classes.specs.Instances.{pure_instance};
 ghost use Rattle.net_graph.specs.Views.{pure_arc};
 ghost use Rattle.report_text.specs.VerdictTexts.{CanPrint};
-ghost use Rattle.report_text.specs.Refusals.{words, expr, network, lacks, read, long, memory, pure_refusal, which_text, arc_text, ends_text, refusal_text};
+ghost use Rattle.report_text.specs.Refusals.{words, expr, network, misses, read, long, memory, pure_refusal, which_text, arc_text, ends_text, refusal_text};
 ghost use Rattle.net_graph.specs.Nets.{PureNet};
 
 use crate::rows::push_node;
@@ -17,7 +17,7 @@ use std::alloc::Global;
 use topology_file::NetFault;
 
 /// Why the program does nothing of what it is asked, but for an arc whose label doesn't have a property:
-/// [`lacks_line`].
+/// [`misses_line`].
 #[derive(Clone, Copy, Debug)]
 pub enum Refusal {
     /// The words mean no command: the number of what is wrong with them; printed after a C.
@@ -91,7 +91,7 @@ pub(crate) fn push_ends(out: &mut String, net: &Net, arc: &Arc) -> Result<(), No
 
 /// The one line of an arc of the network whose label doesn't have a property, which the instance shows: it names the
 /// listener and then the speaker. It is refused for want of memory alone.
-pub fn lacks_line(
+pub fn misses_line(
     alloc: Global,
     net: &Net,
     arc: ArcId,
@@ -99,7 +99,7 @@ pub fn lacks_line(
 ) -> Result<Text, NoMemory>
     requires arc { arc.0 < length net.now.arcs }
     requires instance { CanPrint net.now.alg.expression (pure_instance instance.now) }
-    ensures { IfOk result (λ text. text ≡ refusal_text (lacks arc.0 (pure_instance instance.now)) (Some net.now)) }
+    ensures { IfOk result (λ text. text ≡ refusal_text (misses arc.0 (pure_instance instance.now)) (Some net.now)) }
 {
     let mut out = String::new(alloc);
     out.push_str(word_of(instance.property))?;

@@ -6,16 +6,16 @@ use Rattle.alg_model.specs.Expressions.{PureAlg, PureLabel, PureValue}
 use Rattle.sig_text.specs.declared.faults.LitFault.{LitFault}
 use Rattle.sig_text.specs.Literals.{Spelling, SpellsLabel, SpellsValue, IsSpelling}
 use Rattle.sig_text.specs.Spelled.{spelled, spelled_label, spelled_value}
-use Rattle.sig_text.proofs.Meant.{value_tells}
-use Rattle.sig_text.proofs.MeantLabels.{label_tells}
+use Rattle.sig_text.proofs.Meant.{value_states}
+use Rattle.sig_text.proofs.MeantLabels.{label_states}
 
 label_spelled : (a : PureAlg) (text : List ℕ) (r : Result PureLabel LitFault) → spelled_label a text ≡ r → SpellsLabel a text r
-label_spelled a text (Ok l) e = (label_tells (greatest_number a.edition) a.expression text).is_spelled l e
-label_spelled a text (Err f) e = (label_tells (greatest_number a.edition) a.expression text).is_refused f e
+label_spelled a text (Ok l) e = (label_states (greatest_number a.edition) a.expression text).is_spelled l e
+label_spelled a text (Err f) e = (label_states (greatest_number a.edition) a.expression text).is_refused f e
 
 value_spelled : (a : PureAlg) (text : List ℕ) (r : Result PureValue LitFault) → spelled_value a text ≡ r → SpellsValue a text r
-value_spelled a text (Ok v) e = (value_tells (greatest_number a.edition) a.expression text).is_spelled v e
-value_spelled a text (Err f) e = (value_tells (greatest_number a.edition) a.expression text).is_refused f e
+value_spelled a text (Ok v) e = (value_states (greatest_number a.edition) a.expression text).is_spelled v e
+value_spelled a text (Err f) e = (value_states (greatest_number a.edition) a.expression text).is_refused f e
 
 pub is_spelling : IsSpelling spelled
 is_spelling = record {
@@ -24,12 +24,12 @@ is_spelling = record {
 }
 
 same_label : (a : PureAlg) (text : List ℕ) (r : Result PureLabel LitFault) → SpellsLabel a text r → r ≡ spelled_label a text
-same_label a text (Ok l) t = sym ((label_tells (greatest_number a.edition) a.expression text).spells l t)
-same_label a text (Err f) t = sym ((label_tells (greatest_number a.edition) a.expression text).refuses f t)
+same_label a text (Ok l) t = sym ((label_states (greatest_number a.edition) a.expression text).spells l t)
+same_label a text (Err f) t = sym ((label_states (greatest_number a.edition) a.expression text).refuses f t)
 
 same_value : (a : PureAlg) (text : List ℕ) (r : Result PureValue LitFault) → SpellsValue a text r → r ≡ spelled_value a text
-same_value a text (Ok v) t = sym ((value_tells (greatest_number a.edition) a.expression text).spells v t)
-same_value a text (Err f) t = sym ((value_tells (greatest_number a.edition) a.expression text).refuses f t)
+same_value a text (Ok v) t = sym ((value_states (greatest_number a.edition) a.expression text).spells v t)
+same_value a text (Err f) t = sym ((value_states (greatest_number a.edition) a.expression text).refuses f t)
 
 pub only_spelling : (s : Spelling) → IsSpelling s → s ≡ spelled
 only_spelling s i =

@@ -40,7 +40,7 @@ abbrev pub spelled : Spelling
 spelled = record { label = spelled_label; value = spelled_value }
 
 -- the outcome is what is spelled, or the fault that refuses it
-pub record Tells {A : Type 0} (outcome : Result A LitFault) (Spells : A → Type 0)
+pub record Reports {A : Type 0} (outcome : Result A LitFault) (Spells : A → Type 0)
     (Refuses : LitFault → Type 0) : Type 0 where
   pub spells : (a : A) → Spells a → outcome ≡ Ok a
   pub is_spelled : (a : A) → outcome ≡ Ok a → Spells a

@@ -121,14 +121,14 @@ fn push_form_label(out: &mut String, form: LabelForm<'_>, label: &Label) -> Resu
         (LabelForm::Sum(a, b), Label::Both(l, m)) => push_pair(out, a, l, "|", b, m),
         (LabelForm::Scoped(a, b), Label::Outer(l, v)) => push_outer(out, a, l, b, v),
         (LabelForm::Scoped(_, b), Label::Inner(m)) => {
-            push_behind(out, "in(", b, m)?;
+            push_after(out, "in(", b, m)?;
             Ok(out.push(')')?)
         }
         (LabelForm::Union(a, _) | LabelForm::Plus(a, _), Label::First(l)) => {
-            push_behind(out, "l:", a, l)
+            push_after(out, "l:", a, l)
         }
         (LabelForm::Union(_, b) | LabelForm::Plus(_, b), Label::Second(m)) => {
-            push_behind(out, "r:", b, m)
+            push_after(out, "r:", b, m)
         }
         (LabelForm::Left(a), Label::Const(v)) => push_tree_value(out, a, v),
         _ => unreachable!(),
@@ -162,7 +162,7 @@ fn push_pair(
 
 // A label after what begins it.
 #[cycle(push_tree_label)]
-fn push_behind(out: &mut String, start: &str, tree: &Tree, label: &Label) -> Result<(), NoMemory>
+fn push_after(out: &mut String, start: &str, tree: &Tree, label: &Label) -> Result<(), NoMemory>
     requires ranges { MeetsRanges (expression_of tree.now) }
     requires label { IsLabel (expression_of tree.now) (pure_label label.now) }
     ensures { OnOk result (Gains out.old

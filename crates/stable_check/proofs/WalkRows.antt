@@ -59,8 +59,8 @@ all_relaxed net dest n rows t e h = record {
     walk_of i o r e w = rw e at w
 
     walks : HasWalks net dest rows
-    walks i r told = elim (cases_lt i (length net.nodes)) [
-      | inl within ↦ let w = walk_of i (route_at rows i) r told (h i (rw e at within)).walk in (w.walk, w.weight, w.begins)
+    walks i r reported = elim (cases_lt i (length net.nodes)) [
+      | inl within ↦ let w = walk_of i (route_at rows i) r reported (h i (rw e at within)).walk in (w.walk, w.weight, w.begins)
       | inr past ↦ absurd (let n = no_route_past net dest rows t i past in cc)
     ]
 

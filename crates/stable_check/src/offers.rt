@@ -21,12 +21,12 @@ use std::alloc::Global;
 use std::cmp::Ordering;
 
 // The path of the node and the nodes after it.
-fn path_from(alloc: Global, node: NodeId, behind: &[NodeId]) -> Result<List<NodeId>, NoMemory>
-    ensures { IfOk result (λ path. path ≡ node ∷ behind.now) }
+fn path_from(alloc: Global, node: NodeId, after: &[NodeId]) -> Result<List<NodeId>, NoMemory>
+    ensures { IfOk result (λ path. path ≡ node ∷ after.now) }
 {
-    let mut path = Vec::with_capacity(alloc, behind.len().saturating_add(1))?;
+    let mut path = Vec::with_capacity(alloc, after.len().saturating_add(1))?;
     path.push(node)?;
-    path.extend_from_slice(behind)?;
+    path.extend_from_slice(after)?;
     Ok(List::from_vec(path))
 }
 

@@ -12,7 +12,7 @@ use Rattle.net_graph.specs.Nets.{PureNet, IsNet, has_arc, has_origin, is_name}
 use Rattle.net_graph.specs.NetLaws.{none_past}
 use Rattle.net_graph.specs.Lines.{with_dest}
 use Rattle.net_graph.specs.Changes.{PureChange, link, drop, changed, MayChange}
-use Rattle.net_graph.specs.ChangeSteps.{is_there_behind_all}
+use Rattle.net_graph.specs.ChangeSteps.{is_there_after_all}
 use Rattle.net_graph.specs.Laws.{after_all_is_net, after_all_has_arc, linked_count, added_count, dropped_count, after_all_more, are_changes_more, after_all_keeps}
 use Rattle.net_graph.specs.Views.{pure_change}
 use Rattle.sig_text.specs.Spelled.{spelled}
@@ -34,7 +34,7 @@ new_dest_has_none net name dest node n e = rw e (none_past net.alg (length net.n
 
 -- what the changes say of an arc
 pub draft_has_arc : (net : PureNet) (changes : List Change) (tail head : ℕ)
-    → is_there_behind_all tail head (map pure_change changes) (has_arc net tail head) ≡ has_arc (changed_net (file_with net changes)) tail head
+    → is_there_after_all tail head (map pure_change changes) (has_arc net tail head) ≡ has_arc (changed_net (file_with net changes)) tail head
 draft_has_arc net changes tail head = sym (after_all_has_arc net (map pure_change changes) tail head)
 
 pub draft_is_net : (net : PureNet) (changes : List Change) (count : ℕ) → IsNet net → IsDraft (file_with net changes) count → IsNet (changed_net (file_with net changes))

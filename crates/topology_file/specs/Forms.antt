@@ -2,7 +2,7 @@
 use Rattle.std.specs.Prelude.{ℕ, List, [], ◌∷◌, Bool, ◌&&◌, if◌then◌else◌, codes}
 use Rattle.std.specs.List.{list_all}
 use Rattle.std.specs.Str.{bytes_eq}
-use Rattle.meta_base.specs.Bytes.{front, behind}
+use Rattle.meta_base.specs.Bytes.{front, after_front}
 use Rattle.net_graph.specs.Nets.{is_name}
 use Rattle.topology_file.specs.Texts.{words_of, is_not}
 
@@ -76,4 +76,4 @@ line_from words (colon ∷ literal) = colon_line words literal
 
 -- what a line asks for that says this
 abbrev pub line_of : List ℕ → PureLine
-line_of said = line_from (words_of (front (is_not 58) said)) (behind (is_not 58) said)
+line_of said = line_from (words_of (front (is_not 58) said)) (after_front (is_not 58) said)

@@ -31,8 +31,8 @@ pub record AreEnds (net : PureNet) (tail head : ℕ) : Type 0 where
   pub apart : tail ≢ head
 
 -- a fault of a line with these words for names: a word that is no name comes before any other fault
-abbrev pub fault_behind : NetKind → List (List ℕ) → NetKind
-fault_behind kind words = if list_all is_name words then kind else BadLine
+abbrev pub fault_after : NetKind → List (List ℕ) → NetKind
+fault_after kind words = if list_all is_name words then kind else BadLine
 
 -- what words after `node` make of a network
 abbrev pub after_names : PureNet → List (List ℕ) → Result PureNet NetKind
@@ -47,7 +47,7 @@ after_net_line net (lines.Origin dest node value) = after_origin spelled net des
 
 -- the fault of a line of the network after a change
 abbrev pub late_fault : NetLine → NetKind
-late_fault (lines.Nodes names) = fault_behind AfterThen (words_of names.now)
+late_fault (lines.Nodes names) = fault_after AfterThen (words_of names.now)
 late_fault (lines.Link listener speaker label) = AfterThen
 late_fault (lines.Both listener speaker label) = AfterThen
 late_fault (lines.Origin dest node value) = AfterThen

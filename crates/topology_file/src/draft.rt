@@ -3,7 +3,7 @@ ghost use Rattle.std.specs.Prelude.{◌≡◌, true, false, length, map, Ok, IfO
 ghost use Rattle.alg_model.specs.Expressions.{PureLabel};
 ghost use Rattle.net_graph.specs.Nets.{IsNet, has_arc};
 ghost use Rattle.net_graph.specs.Changes.{AreChanges, MayChange, changed, link};
-ghost use Rattle.net_graph.specs.ChangeSteps.{is_there_behind, is_there_behind_all};
+ghost use Rattle.net_graph.specs.ChangeSteps.{is_there_after, is_there_after_all};
 ghost use Rattle.net_graph.specs.Views.{pure_change};
 ghost use Rattle.sig_text.specs.Spelled.{spelled};
 ghost use Rattle.topology_file.specs.NetText.{changed_net, empty_file, has_room_to_link, with_change, after_then_link, after_then_drop, after_form, after_line};
@@ -15,7 +15,7 @@ ghost use Rattle.topology_file.specs.declared.faults.What.TheVariants.{Arcs};
 
 use crate::errors::{LineError, label_of};
 use crate::forms::{Line, NetLine, line_form};
-use crate::lines::{add_net_line, fault_behind, nodes_of};
+use crate::lines::{add_net_line, fault_after, nodes_of};
 use crate::texts::said;
 use crate::{MAX_LINE_BYTES, NetFile, NetKind, What};
 use alg_model::Alg;
@@ -179,7 +179,7 @@ impl FileDraft {
         ensures there { result ≡ has_arc (changed_net self.now) tail.0 head.0 }
         ensures net { IsNet (changed_net self.now) }
     {
-        is_there_behind_all(
+        is_there_after_all(
             self.draft.has_arc(tail, head),
             self.changes.as_slice(),
             tail,
@@ -189,21 +189,21 @@ impl FileDraft {
 }
 
 // Whether the arc is there after these changes, by whether it is there before them.
-fn is_there_behind_all(is_there: bool, changes: &[Change], tail: NodeId, head: NodeId) -> bool
-    ensures { result ≡ is_there_behind_all tail.0 head.0 (map pure_change changes.now) is_there }
+fn is_there_after_all(is_there: bool, changes: &[Change], tail: NodeId, head: NodeId) -> bool
+    ensures { result ≡ is_there_after_all tail.0 head.0 (map pure_change changes.now) is_there }
 {
     let mut is_there = is_there;
     let mut rest = changes;
     while let [change, later @ ..] = rest {
-        is_there = is_there_behind(is_there, change, tail, head);
+        is_there = is_there_after(is_there, change, tail, head);
         rest = later;
     }
     is_there
 }
 
 // The same of one change.
-fn is_there_behind(is_there: bool, change: &Change, tail: NodeId, head: NodeId) -> bool
-    ensures { result ≡ is_there_behind tail.0 head.0 (pure_change change.now) is_there }
+fn is_there_after(is_there: bool, change: &Change, tail: NodeId, head: NodeId) -> bool
+    ensures { result ≡ is_there_after tail.0 head.0 (pure_change change.now) is_there }
 {
     match change {
         Change::Link {
@@ -220,7 +220,7 @@ fn late_fault(line: NetLine<'_>) -> LineError
     ensures { result ≡ Bad (late_fault_of line.entry) }
 {
     match line {
-        NetLine::Nodes(names) => fault_behind(NetKind::AfterThen, names),
+        NetLine::Nodes(names) => fault_after(NetKind::AfterThen, names),
         NetLine::Link { .. } | NetLine::Both { .. } | NetLine::Origin { .. } => {
             LineError::Bad(NetKind::AfterThen)
         }

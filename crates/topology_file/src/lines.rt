@@ -8,7 +8,7 @@ ghost use Rattle.net_graph.specs.Limits.{max_nodes};
 ghost use Rattle.sig_text.specs.Spelled.{spelled};
 ghost use Rattle.topology_file.specs.Texts.{words_of};
 ghost use Rattle.topology_file.specs.NetText.{ends_in, node_in, names_twice, has_origin_of, one_origin, after_link, after_both, after_origin};
-ghost use Rattle.topology_file.specs.LineErrors.{AreEnds, IsRefusedAs, fault_behind as fault_behind_names, after_names, after_net_line};
+ghost use Rattle.topology_file.specs.LineErrors.{AreEnds, IsRefusedAs, fault_after as fault_after_names, after_names, after_net_line};
 ghost use Rattle.topology_file.specs.Views.{NamesDest};
 ghost use Rattle.topology_file.specs.declared.errors.LineError.TheVariants.{Bad};
 
@@ -76,8 +76,8 @@ pub fn nodes_of(
 }
 
 /// The fault of a line with these names, if they are names: else it is a bad line.
-pub fn fault_behind(kind: NetKind, names: &[u8]) -> LineError
-    ensures { result ≡ Bad (fault_behind_names kind (words_of names.now)) }
+pub fn fault_after(kind: NetKind, names: &[u8]) -> LineError
+    ensures { result ≡ Bad (fault_after_names kind (words_of names.now)) }
 {
     if are_all_names(names) {
         LineError::Bad(kind)
@@ -109,9 +109,9 @@ fn fault_of_full(draft: &NetDraft, name: &[u8], others: &[u8]) -> LineError
     ensures { IsRefusedAs (after_names draft.now (name.now ∷ words_of others.now)) result }
 {
     if has_word(others, name) || has_twice(draft, others) {
-        fault_behind(NetKind::NodeTwice, others)
+        fault_after(NetKind::NodeTwice, others)
     } else {
-        fault_behind(NetKind::TooMany(What::Nodes), others)
+        fault_after(NetKind::TooMany(What::Nodes), others)
     }
 }
 
@@ -126,7 +126,7 @@ fn add_first(draft: &mut NetDraft, name: &[u8], others: &[u8]) -> Result<(), Lin
         return Err(LineError::Bad(NetKind::BadLine));
     }
     if draft.node_named(name).is_some() {
-        return Err(fault_behind(NetKind::NodeTwice, others));
+        return Err(fault_after(NetKind::NodeTwice, others));
     }
     if draft.node_count() >= max_nodes(draft.edition()) {
         return Err(fault_of_full(draft, name, others));

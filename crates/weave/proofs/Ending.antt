@@ -17,7 +17,7 @@ use Rattle.quiet_ledger.specs.declared.book.TheConstants.{MAX_BASE}
 use Rattle.quiet_ledger.specs.declared.totals.Totals.{Totals}
 use Rattle.journal_merge.specs.declared.log.NodeLog.{NodeLog}
 use Rattle.journal_merge.specs.Merging.{AreOfDifferentNodes, ClocksAscend, IsMerged}
-use Rattle.woven_laws.specs.Histories.{Taken, entry_of, put_out, option_out, option_behind}
+use Rattle.woven_laws.specs.Histories.{Taken, entry_of, put_out, option_out, option_after}
 use Rattle.woven_laws.specs.HistoryLaws.{option_out_join, woven_same, woven_then}
 use Rattle.woven_laws.specs.Woven.{Woven, IsMergeOf}
 use Rattle.woven_laws.specs.Counts.{total, sent_by_all, taken_by_all, waiting_on}
@@ -66,7 +66,7 @@ module _ {S M : Type 0} (k : Kind S M) (lawful : IsLawful k) (net : PureNet) (is
     both_out : (i : ℕ) → length (option_out k (c.node i) (h i ++ g i)) ≡ length (option_out k (c.node i) (h i)) + length (option_out k (d.node i) (g i))
     both_out i =
         ap length (option_out_join k (c.node i) (h i) (g i))
-        ∙ (length-append (option_out k (c.node i) (h i)) (option_out k (option_behind k (c.node i) (h i)) (g i))
+        ∙ (length-append (option_out k (c.node i) (h i)) (option_out k (option_after k (c.node i) (h i)) (g i))
         ∙ ap (λ o. length (option_out k (c.node i) (h i)) + length (option_out k o (g i))) (sym (w.node_is i)))
 
     sent_on : sent_by_all k net c.node (λ i. h i ++ g i) ≡ sent_by_all k net c.node h + sent_by_all k net d.node g

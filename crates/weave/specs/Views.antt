@@ -5,7 +5,7 @@ use Rattle.meta_base.specs.declared.ids.Delivery.{Delivery}
 use Rattle.net_graph.specs.Nets.{PureNet}
 use Rattle.node_core.specs.Kinds.{Kind, listener, speaker, on_arc}
 use Rattle.node_core.specs.Machine.{changed_at}
-use Rattle.woven_laws.specs.Histories.{Taken, entry_of, taken_on, clock_behind, IsTimed, option_behind, option_out}
+use Rattle.woven_laws.specs.Histories.{Taken, entry_of, taken_on, clock_past, IsTimed, option_after, option_out}
 use Rattle.weave.specs.Lanes.{PureLane, HasPassed}
 
 -- the block's nodes with their clocks and logs, and what it has of each arc
@@ -48,9 +48,9 @@ module _ {S M : Type 0} (k : Kind S M) (net : PureNet) where
 
   -- Each node took what its history says, one message after another, and sent what its steps put out.
   pub record HasRun (v : View S M) (history : ℕ → List (Taken M)) (w : View S M) : Type 0 where
-    pub node_is : (i : ℕ) → w.node i ≡ option_behind k (v.node i) (history i)
+    pub node_is : (i : ℕ) → w.node i ≡ option_after k (v.node i) (history i)
     pub none_takes : (i : ℕ) → v.node i ≡ None → history i ≡ []
-    pub clock_is : (i : ℕ) → w.clock i ≡ clock_behind (v.clock i) (history i)
+    pub clock_is : (i : ℕ) → w.clock i ≡ clock_past (v.clock i) (history i)
     pub timed : (i : ℕ) → IsTimed k (v.clock i) (history i)
     pub heard : (i : ℕ) → AllByRecursion (λ h. listener net h.arc ≡ Some i) (history i)
     pub spoken : (i : ℕ) → AllByRecursion (λ p. speaker net p.0 ≡ Some i) (option_out k (v.node i) (history i))

@@ -17,7 +17,7 @@ use Rattle.settled_laws.specs.Pair.{Fits}
 use Rattle.settled_laws.specs.Wedge.{wedge_net}
 use Rattle.sig_text.specs.Parts.{Part, step_of, Splits}
 use Rattle.sig_text.specs.Literals.{ValueText, ValueTextTo, LabelText, LabelTextTo, IsValueFaultTo, IsLabelFaultTo}
-use Rattle.sig_text.specs.Spelled.{Tells, spelled, spelled_value, spelled_value_to, spelled_label, spelled_label_to}
+use Rattle.sig_text.specs.Spelled.{Reports, spelled, spelled_value, spelled_value_to, spelled_label, spelled_label_to}
 use Rattle.topology_file.specs.LineLaws.{IsLine, line_after}
 use Rattle.topology_file.specs.NetText.{PureNetFile, empty_file, after_line, Lead}
 use Rattle.wedge_nets.specs.Gadgets.{wedge_file}
@@ -37,10 +37,10 @@ value_after_space alg text v t = record { shape = t.shape; has = t.has; splits =
 
 -- what the laws of literals say
 abbrev pub LabelsAreSpelled : Type 0
-LabelsAreSpelled = (greatest : ℕ) (a : Expression) (text : List ℕ) → Tells (spelled_label_to greatest a text) (LabelTextTo greatest a text) (IsLabelFaultTo greatest a text)
+LabelsAreSpelled = (greatest : ℕ) (a : Expression) (text : List ℕ) → Reports (spelled_label_to greatest a text) (LabelTextTo greatest a text) (IsLabelFaultTo greatest a text)
 
 abbrev pub ValuesAreSpelled : Type 0
-ValuesAreSpelled = (greatest : ℕ) (a : Expression) (text : List ℕ) → Tells (spelled_value_to greatest a text) (ValueTextTo greatest a text) (IsValueFaultTo greatest a text)
+ValuesAreSpelled = (greatest : ℕ) (a : Expression) (text : List ℕ) → Reports (spelled_value_to greatest a text) (ValueTextTo greatest a text) (IsValueFaultTo greatest a text)
 
 abbrev pub LabelsAreReadBack : Type 0
 LabelsAreReadBack = (a : PureAlg) (l : PureLabel) → IsFormed a.expression → IsLabel a.expression l → LabelAtMost (greatest_number a.edition) l → LabelText a (label_text a.expression l) l

@@ -8,8 +8,8 @@ ghost use Rattle.wedge_nets.specs.Gadgets.{wedge_file, IsGadget};
 ghost use Rattle.wedge_nets.specs.GadgetTexts.{gadget_lines, are_short, gadget_text};
 
 use sig_text::{
-    labels_are_told, printed_labels_are_read_back, printed_values_are_read_back,
-    texts_have_one_spelling, values_are_told,
+    labels_are_reported, printed_labels_are_read_back, printed_values_are_read_back,
+    texts_have_one_spelling, values_are_reported,
 };
 use topology_file::one_text_one_network;
 
@@ -26,8 +26,8 @@ pub fn gadget_texts_are_networks()
 {
     // The label and the value stand in the lines as they are printed.
     texts_have_one_spelling();
-    labels_are_told();
-    values_are_told();
+    labels_are_reported();
+    values_are_reported();
     printed_labels_are_read_back();
     printed_values_are_read_back();
 }

@@ -3,7 +3,7 @@ use Rattle.std.proofs.lemmas.Result.{IfOk-weaker}
 use Rattle.alg_model.specs.Views.{pure_label}
 use Rattle.property_infer.specs.Labels.{CoversLabels}
 use Rattle.property_infer.specs.LabelLaws.{covers_none}
-use Rattle.property_infer.specs.ToldLaws.{told_bounded, told_of_label}
+use Rattle.property_infer.specs.ReportedLaws.{reported_bounded, stated_of_label}
 use Rattle.property_infer.specs.Views.{pure_verdicts}
 use Rattle.property_infer.proofs.decided.label_verdicts.Goals as goal
 
@@ -13,8 +13,8 @@ returns-clause-exact c =
     let l = pure_label c.args.label.now in
     let none = subst (CoversLabels a []) (sym c.new-labels.ensures) (covers_none a) in
     let covers = subst (CoversLabels a (l ∷ [])) (sym c.as_slice.ensures) (c.in_ok-add_label.ensures.covers [] none) in
-    IfOk-weaker c.verdicts_of.result _ _ (λ v told. told_of_label a l c.as_slice.result.now (pure_verdicts v) covers told) c.verdicts_of.ensures
+    IfOk-weaker c.verdicts_of.result _ _ (λ v reported. stated_of_label a l c.as_slice.result.now (pure_verdicts v) covers reported) c.verdicts_of.ensures
 
 pub returns-clause-bound : goal.returns-clause-bound
 returns-clause-bound c = IfOk-weaker c.verdicts_of.result _ _
-    (λ v told. told_bounded c.args.alg.now c.as_slice.result.now (pure_verdicts v) told) c.verdicts_of.ensures
+    (λ v reported. reported_bounded c.args.alg.now c.as_slice.result.now (pure_verdicts v) reported) c.verdicts_of.ensures

@@ -16,5 +16,5 @@ decreases-push_pair l = 3 * (node_count (expression_of l.a.now) + node_count (ex
 abbrev pub decreases-push_outer : goal.decreases-push_outer
 decreases-push_outer l = 3 * node_count (expression_of l.a.now) + 2
 
-abbrev pub decreases-push_behind : goal.decreases-push_behind
-decreases-push_behind l = 3 * node_count (expression_of l.tree.now) + 2
+abbrev pub decreases-push_after : goal.decreases-push_after
+decreases-push_after l = 3 * node_count (expression_of l.tree.now) + 2
