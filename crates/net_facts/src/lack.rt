@@ -43,7 +43,7 @@ pub fn first_lack(
     let Some((arc, property)) = first_lacked(net, properties) else {
         return Ok(None);
     };
-    let instance = instance_against(alloc, net.alg(), &net.arc(arc).label, property)?;
+    let instance = instance_against(alloc, net.alg(), net.arc(arc).label, property)?;
     Ok(Some(Lack { arc, instance }))
 }
 
@@ -55,7 +55,7 @@ fn first_lacked(net: &Net, properties: &[Property]) -> Option<(ArcId, Property)>
 {
     for arc in 0..net.arc_count() {
         let id = ArcId(arc as u32);
-        if let Some(property) = earliest_lacked(net.alg(), &net.arc(id).label, properties) {
+        if let Some(property) = earliest_lacked(net.alg(), net.arc(id).label, properties) {
             return Some((id, property));
         }
     }

@@ -4,5 +4,6 @@ pub mod Faults
 pub mod NetText
 pub mod LineErrors
 pub mod Views
+pub mod LabelTexts
 pub mod LineTexts
 pub mod LineLaws
