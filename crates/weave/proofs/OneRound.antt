@@ -3,10 +3,12 @@ use Rattle.std.proofs.Common.{◌≡◌, ℕ, ◌+◌, ◌<◌, ◌≤◌, Bool,
 use Rattle.std.specs.Prelude.{◌==◌}
 use Rattle.std.specs.List.{AllByRecursion}
 use Rattle.std.proofs.lemmas.Bool.{eqb-true, eqb-false, false_from_ne_true}
+use Rattle.std.proofs.lemmas.List.{length-map}
 use Rattle.std.proofs.lemmas.Option.{same_Some, slice_get_past}
 use Rattle.meta_base.specs.declared.ids.ArcId.{ArcId}
 use Rattle.meta_base.specs.declared.ids.Delivery.{Delivery}
 use Rattle.net_graph.specs.Nets.{PureNet, IsNet}
+use Rattle.net_graph.specs.declared.limits.TheConstants.{MAX_ARCS}
 use Rattle.node_core.specs.declared.node.TheConstants.{MAX_CLOCK}
 use Rattle.node_core.specs.Configs.{noted}
 use Rattle.node_core.specs.Kinds.{Kind, IsLawful, listener, speaker, on_arc}
@@ -26,11 +28,21 @@ use Rattle.weave.specs.Views.{View, IsSeated, AreSeated, HasTaken, IsLate}
 use Rattle.weave.proofs.Linking.{keeps_then}
 use Rattle.weave.proofs.Places.{turned}
 use Rattle.weave.proofs.Round.{inside_passed}
+use Rattle.weave.proofs.Working.{few_sent}
 use Rattle.weave.proofs.Runs.{one, run_taken, sent_taken, one_taken}
 
 all_unmapped : {X Y : Type 0} (P : Y → Type 0) (f : X → Y) (xs : List X) → AllByRecursion P (map f xs) → AllByRecursion (λ x. P (f x)) xs
 all_unmapped P f [] all = tt
 all_unmapped P f (x ∷ xs) all = (all.0, all_unmapped P f xs all.1)
+
+-- a node puts out no more messages than there are arcs
+pub few_out : {X S M : Type 0} (note : X → M) (k : Kind S M) → IsLawful k → (net : PureNet) → IsNet net → (v w : View S M) (e : Delivery) (out : List (ArcId × X)) → AreSeated k net v
+    → HasTaken k net v e (map (noted note) out) [] w → length out ≤ MAX_ARCS
+few_out note k lawful net is_net v w e out seated x =
+    let few = few_sent k net lawful is_net x.node e.arc.0 x.message e.clock (seated x.number x.node x.was).net_is in
+    let is = ap length x.out_is in
+    let len = length-map out (noted note) in
+    omega (arith, few, is, len)
 
 -- what a node puts out goes on arcs of the network
 pub out_within : {X S M : Type 0} (note : X → M) (k : Kind S M) → IsLawful k → (net : PureNet) → IsNet net → (v w : View S M) (e : Delivery) (out : List (ArcId × X)) → AreSeated k net v

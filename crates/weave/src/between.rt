@@ -2,6 +2,7 @@
 ghost use Rattle.std.specs.Prelude.{◌≡◌, ◌<◌, ◌≤◌, ◌==◌, ℕ, [], ◌∷◌, false, length, map, vec_len, IfOk, OnOk, IfNone, IfSome, Some};
 ghost use Rattle.std.specs.List.{AllByRecursion};
 ghost use Rattle.net_graph.specs.Nets.{IsNet};
+ghost use Rattle.net_graph.specs.declared.limits.TheConstants.{MAX_ARCS};
 ghost use Rattle.node_core.specs.declared.node.TheConstants.{MAX_CLOCK};
 ghost use Rattle.node_core.specs.Configs.{noted};
 ghost use Rattle.node_core.specs.Machine.{front_clock};
@@ -110,6 +111,7 @@ pub(crate) fn deliver_between<N: NodeCore, G: Gate>(
     ensures count { vec_len blocks.new ≡ vec_len blocks.old }
     ensures made { IfOk result (IsOneRound N.kind net.now (vec_len blocks.old)
         (view_at N.state N.note blocks.old.items) (view_at N.state N.note blocks.new.items)) }
+    ensures few { IfOk result (λ sent. sent ≤ MAX_ARCS) }
 {
     keeps_laws::<N>();
     let block = block_at(net.arc(arc).tail, blocks.len());

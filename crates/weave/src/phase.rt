@@ -108,7 +108,7 @@ fn block_count(net: &Net, workers: u32) -> usize
     net.node_count().clamp(1, workers as usize)
 }
 
-// Rounds, until nothing is on its way or all turns are used up.
+// Rounds, until nothing is on its way or all turns are used up. Each but the first begins with a delivery.
 fn run_rounds<N: NodeCore + Send, G: Gate, R: Threads + Wait + Sync>(
     rt: &R,
     alloc: Global,
@@ -136,9 +136,15 @@ where
 {
     keeps_laws::<N>();
     histories_count::<N>();
-    let mut blocks = blocks;
-    let mut totals = totals;
-    let mut is_later = false;
+    if totals.sent == totals.taken || totals.taken == turns {
+        return Ok((blocks, totals));
+    }
+    let plan = Plan {
+        totals,
+        turns: turns - totals.taken,
+        arc: first_waiting(net, &blocks),
+    };
+    let (mut blocks, mut totals) = run_round(rt, alloc, net, blocks, plan, gate)?;
     loop {
         if totals.sent == totals.taken || totals.taken == turns {
             return Ok((blocks, totals));
@@ -146,23 +152,22 @@ where
         let Some(arc) = first_waiting(net, &blocks) else {
             unreachable!()
         };
-        if is_later {
-            totals.sent += deliver_between(alloc, net, &mut blocks, arc, workers, gate)?;
-            totals.taken += 1;
-        }
+        let sent = deliver_between(alloc, net, &mut blocks, arc, workers, gate)?;
+        totals.sent += sent;
+        totals.taken += 1;
         let plan = Plan {
             totals,
             turns: turns - totals.taken,
-            arc,
+            arc: Some(arc),
         };
         (blocks, totals) = run_round(rt, alloc, net, blocks, plan, gate)?;
-        is_later = true;
     }
 }
 
 // The first arc on which a message waits, if one waits anywhere.
 fn first_waiting<N: NodeCore>(net: &Net, blocks: &[Block<N>]) -> Option<ArcId>
     requires { 0 < length blocks.now }
+    ensures arc { IfSome result (λ arc. arc.0 < length net.now.arcs) }
     ensures some { IfSome result (λ arc. 0 < length ((machine_across net.now (length blocks.now)
         (view_at N.state N.note blocks.now)).link arc.0)) }
     ensures first { IfSome result (λ arc. (a : ℕ) → a < arc.0 → (machine_across net.now (length blocks.now)

@@ -11,7 +11,7 @@ ghost use Rattle.weave.specs.Gathered.{AreGathered, machine_across, view_at};
 ghost use Rattle.weave.specs.Rounds.{AreLent, IsRound, share_of};
 
 use crate::block::Block;
-use crate::links::{link_blocks, settle_blocks};
+use crate::links::{block_at, link_blocks, settle_blocks};
 use crate::part::Part;
 use crate::worker::work;
 use meta_base::{ArcId, Gate, List, NoMemory};
@@ -31,8 +31,8 @@ pub(crate) struct Plan {
     pub(crate) totals: Totals,
     /// How many deliveries may still be made.
     pub(crate) turns: u64,
-    /// The first arc on which a message waits.
-    pub(crate) arc: ArcId,
+    /// The first arc on which a message waits, or waited before the delivery that came first.
+    pub(crate) arc: Option<ArcId>,
 }
 
 // What a worker is lent: a block, a share of the book in which nothing is entered, and turns.
@@ -180,12 +180,12 @@ where
 }
 
 // The block in which the listener of the arc stands; the first, where there is no such arc.
-fn block_with(net: &Net, arc: ArcId, count: usize) -> usize
+fn block_with(net: &Net, arc: Option<ArcId>, count: usize) -> usize
     requires { 0 < count }
     ensures { result < count }
 {
-    if arc.0 as usize >= net.arc_count() {
-        return 0;
+    match arc {
+        Some(arc) if (arc.0 as usize) < net.arc_count() => block_at(net.arc(arc).tail, count),
+        _ => 0,
     }
-    net.arc(arc).tail.0 as usize % count
 }

@@ -1,13 +1,14 @@
-use Rattle.std.proofs.Common.{◌≡◌, ◌∙◌, Some, ap, map, option_map, subst, sym, length, vec_len}
+use Rattle.std.proofs.Common.{◌≡◌, ◌≤◌, ◌∙◌, Some, ap, map, option_map, subst, sym, length, vec_len}
 use Rattle.std.proofs.lemmas.List.{length-map}
 use Rattle.net_graph.specs.Nets.{PureArc}
+use Rattle.net_graph.specs.declared.limits.TheConstants.{MAX_ARCS}
 use Rattle.net_graph.specs.Views.{pure_arc}
 use Rattle.node_core.specs.Configs.{noted}
 use Rattle.node_core.specs.Kinds.{listener}
 use Rattle.weave.specs.Between.{IsOneRound, IsPut}
 use Rattle.weave.specs.Gathered.{AreGathered, view_at}
 use Rattle.weave.specs.Views.{IsLate}
-use Rattle.weave.proofs.OneRound.{block_seated, not_late, one_round, out_within, taken_gathered}
+use Rattle.weave.proofs.OneRound.{block_seated, few_out, not_late, one_round, out_within, taken_gathered}
 use Rattle.weave.proofs.Linking.{stands_at}
 use Rattle.weave.proofs.between.deliver_between.Goals as goal
 
@@ -66,3 +67,16 @@ returns-clause-made g c =
     let put = subst (λ m. IsPut net m out mid new) c.hear_in.ensures.count c.in_ok-put_all.ensures.put in
     subst (IsOneRound k.kind net n old new) (length-map c.hear_in.new.out (noted k.note) ∙ ap length (sym c.as_slice.ensures))
     (one_round net n k.kind old mid c.block_at-block.result c.in-Some.made out c.requires.gathered heard c.hear_in.ensures.others new put c.keeps_laws.ensures c.requires.net c.requires.running)
+
+pub returns-clause-few : goal.returns-clause-few
+returns-clause-few g c =
+    let k = g.N.NodeCore in
+    let net = c.args.net.now in
+    let blocks = c.args.blocks.now in
+    let view = view_at k.state k.note in
+    let at = c.block_at-block.result in
+    let heard = rw c.in-Some.is at c.in_ok-made.ensures.some in
+    let few = few_out k.note k.kind c.keeps_laws.ensures net c.requires.net (view blocks.items at) (view c.hear_in.new.blocks.items at) c.in-Some.made c.hear_in.new.out
+    (block_seated net (vec_len blocks) k.kind (view blocks.items) c.requires.gathered c.requires.running at) heard in
+    let len = c.as_slice.ensures in
+    subst (λ l. length l ≤ MAX_ARCS) (sym len) few

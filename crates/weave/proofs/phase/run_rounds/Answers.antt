@@ -1,5 +1,27 @@
-use Rattle.std.proofs.Common.{◌≡◌, ◌+◌, ◌-◌, ◌∙◌, subst, vec_len, arith}
-use Rattle.weave.specs.Gathered.{view_at}
+use Rattle.std.proofs.Common.{◌≡◌, ◌≤◌, ◌+◌, ◌-◌, ◌∙◌, ap, sym, subst, length, vec_len, arith}
+use Rattle.quiet_ledger.specs.declared.totals.Totals.{Totals}
+use Rattle.node_core.specs.Machine.{Drained}
+use Rattle.weave.specs.Between.{IsOneRound}
+use Rattle.weave.specs.Gathered.{machine_across, view_at}
 use Rattle.weave.specs.Rounds.{IsRound}
-use Rattle.weave.proofs.Ending.{come_on, sent_small}
+use Rattle.weave.proofs.Ending.{come_on, next_early, sent_small, something_waits}
 use Rattle.weave.proofs.phase.run_rounds.Goals as goal
+
+pub run_round-requires-clause-base : goal.run_round-requires-clause-base
+run_round-requires-clause-base g c _ _ =
+    let k = g.N.NodeCore in
+    let began = c.requires.begun in
+    sent_small k.kind c.keeps_laws.ensures c.args.net.now c.requires.net (vec_len c.args.blocks) c.args.turns began.0 (view_at k.state k.note c.args.blocks.items) c.args.totals began.1 began.3 c.requires.turns began.2
+
+pub loop-blocks-init : goal.loop-blocks-init
+loop-blocks-init g c =
+    let k = g.N.NodeCore in
+    let n = vec_len c.args.blocks in
+    let round = c.in_ok-blocks.ensures.round in
+    record {
+      count = c.in_ok-blocks.ensures.count;
+      come = λ machine running few first.
+          let most = first.few in
+          come_on k.kind c.keeps_laws.ensures c.args.net.now c.requires.net n c.args.turns machine (view_at k.state k.note c.args.blocks.items) (view_at k.state k.note c.in_ok-blocks.blocks.items) c.args.totals c.in_ok-blocks.totals
+          (c.args.turns - c.args.totals.taken) first (omega (arith, most)) round;
+    }

@@ -1,4 +1,4 @@
-use Rattle.std.proofs.Common.{◌≡◌, ◌≤◌, ◌^◌, ◌+◌, ◌-◌, cond, vec_len}
+use Rattle.std.proofs.Common.{◌≡◌, ◌≤◌, ◌^◌, ◌-◌, vec_len}
 use Rattle.node_core.specs.Machine.{Machine}
 use Rattle.node_core.specs.Running.{IsRunning}
 use Rattle.woven_laws.specs.Counts.{waiting_on}
@@ -19,4 +19,4 @@ invariant-loop-blocks g l =
 
 -- each round after the first takes a message
 abbrev pub decreases-loop-blocks : goal.decreases-loop-blocks
-decreases-loop-blocks g l = l.turns - l.totals.taken + cond l.is_later 0 1
+decreases-loop-blocks g l = l.turns - l.totals.taken
