@@ -3,7 +3,7 @@ use Rattle.std.specs.Prelude.{◌≡◌, ℕ, ◌+◌, ◌<◌, ◌==◌, max, t
 use Rattle.std.specs.List.{AllByRecursion}
 use Rattle.meta_base.specs.declared.ids.Delivery.{Delivery}
 use Rattle.net_graph.specs.Nets.{PureNet}
-use Rattle.node_core.specs.declared.node.TheConstants.{MAX_CLOCK}
+use Rattle.meta_base.specs.Numbers.{max_turns}
 use Rattle.node_core.specs.Kinds.{Kind, listener, speaker, on_arc}
 use Rattle.node_core.specs.Machine.{changed_at}
 use Rattle.woven_laws.specs.Histories.{Taken, entry_of, taken_on, clock_behind, IsTimed, option_behind, option_out}
@@ -46,7 +46,7 @@ module _ {S M : Type 0} (k : Kind S M) (net : PureNet) where
   -- where a message waits in front of an arc for a node of the block, its clock is above the greatest
   abbrev pub IsLate : View S M → ℕ → Type 0
   IsLate v a = (i : ℕ) (s : S) (m : M) (rest : List M) → listener net a ≡ Some i → v.node i ≡ Some s
-      → v.lane a ≡ inside (m ∷ rest) → MAX_CLOCK < max (v.clock i) (k.stamp m) + 1
+      → v.lane a ≡ inside (m ∷ rest) → max_turns < max (v.clock i) (k.stamp m) + 1
 
   -- a message was taken, and all that its listener put out, so many messages, was sent
   abbrev pub TakesOne : View S M → ℕ → View S M → Type 0
