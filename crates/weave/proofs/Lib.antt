@@ -9,5 +9,6 @@ mod Deals
 mod Parting
 mod Round
 mod OneRound
+mod Waiting
 mod Returns
 mod Ending
