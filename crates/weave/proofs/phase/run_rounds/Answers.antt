@@ -25,3 +25,18 @@ loop-blocks-init g c =
           come_on k.kind c.keeps_laws.ensures c.args.net.now c.requires.net n c.args.turns machine (view_at k.state k.note c.args.blocks.items) (view_at k.state k.note c.in_ok-blocks.blocks.items) c.args.totals c.in_ok-blocks.totals
           (c.args.turns - c.args.totals.taken) first (omega (arith, most)) round;
     }
+
+pub unreachable-requires : goal.unreachable-requires
+unreachable-requires g c =
+    let k = g.N.NodeCore in
+    let net = c.args.net.now in
+    let n = vec_len c.args.blocks in
+    let view = view_at k.state k.note in
+    let began = c.requires.begun in
+    let blocks = c.loop-blocks.blocks in
+    let come = c.loop-blocks.invariant.come began.0 began.1 began.2 began.3 in
+    let len : length blocks.items ≡ n = sym blocks.ok.0 ∙ c.loop-blocks.invariant.count in
+    let none = rw c.in-None.is at c.first_waiting.ensures.none in
+    something_waits k.kind c.keeps_laws.ensures net c.requires.net n c.args.turns began.0 (view blocks.items) c.loop-blocks.totals come
+    (λ d history w. c.histories_count.ensures net began.0 d history c.requires.net w) c.if-sent-taken.false
+    (subst (λ m. Drained (machine_across net m (view blocks.items))) len none)
