@@ -14,14 +14,19 @@ use Rattle.topology_file.specs.NetText.{PureNetFile, NetText, HasOneOutcome, cha
 use Rattle.report_text.specs.Refusals.{PureRefusal, words, expr, network, lacks, read, long, memory}
 use Rattle.metacli.specs.Answers.{done, refused}
 use Rattle.metacli.specs.Reading.{Holds, IsUntaken, IsReadAs, IsExprRefusal, IsNetRefusal}
-use Rattle.metacli.specs.Outcome.{PureOutcome, stopped, checked, coded, routed, wedged, ran, shown, answer_in, IsCheckedAs, IsWedgedAs, IsAlgebraChecked, IsAlgebraWedged, IsNetworkChecked, IsOnArc, IsCodedAs, IsAlgebraCoded, IsNetworkCoded, labels_on, IsRoutedAs, IsNetworkRouted, IsRunAs, IsNetworkRun, IsRunOn, IsShownAs, IsFit, IsRouted, asked_of, GoesOnFrom, GoesOnOver, WithNetwork, ComesBy, word_at}
-use Rattle.metacli.specs.Complete.{IsUnlessMemory, IsTold, IsJudged, IsNetJudged, IsAny, IsDecided, IsDone, IsRunOut, IsRoutedWholly, CompleteBy}
+use Rattle.metacli.specs.Outcome.{PureOutcome, stopped, checked, coded, routed, wedged, ran, shown, answer_in, ComesBy, ComesOf, GoesOnFrom, GoesOnOver, IsCheckedAs, IsCodedAs, IsFit, IsMadeAlone, IsMadeOn, IsOnArc, IsRoutedAs, IsRunAs, IsShownAs, IsWedgedAs, WithNetwork, asked_of, labels_on, word_at}
+use Rattle.metacli.specs.Complete.{CompleteBy, IsAnsweredAlone, IsAnsweredOn, IsCompleteOf, IsDecided, IsDone, IsFitFor, IsJudged, IsNetJudged, IsRunOut, IsTold, IsUnlessMemory}
 use Rattle.command_words.specs.declared.command.Command.{Command}
-use Rattle.command_words.specs.declared.command.Command.TheVariants.{Check, Code, Route, Settle, Stable, Run, Trace, Gadget, Demo}
 use Rattle.command_words.specs.declared.command.Required.{Required}
 use Rattle.command_words.specs.declared.command.WordsFault.{WordsFault}
 use Rattle.metacli.specs.declared.routing.Solution.{Solution}
-use Rattle.metacli.specs.declared.routing.Solution.TheVariants.{Unbeaten, Settled, AllStable}
+use Rattle.metacli.specs.Tasks.{task_of}
+use Rattle.metacli.specs.declared.task.AlgebraTask.{AlgebraTask}
+use Rattle.metacli.specs.declared.task.AlgebraTask.TheVariants as alone
+use Rattle.metacli.specs.declared.task.NetworkTask.{NetworkTask}
+use Rattle.metacli.specs.declared.task.NetworkTask.TheVariants as joint
+use Rattle.metacli.specs.declared.task.Task.{Task}
+use Rattle.metacli.specs.declared.task.Task.TheVariants as task
 
 -- the laws of texts
 pub record Laws : Type 0 where
@@ -236,46 +241,43 @@ shown_out seed nodes (routed s b f rows) h = absurd h
 shown_out seed nodes (wedged b v) h = absurd h
 shown_out seed nodes (ran b f t past last quiet) h = absurd h
 
--- what route or settle comes to is judged
-routed_wholly : Laws → (solution : Solution) (file net : List ℕ) (old new : Moment) (o : PureOutcome) → IsRouted solution file net old new o → IsRoutedWholly solution file net old new o
-routed_wholly laws solution file net old new o h = λ bytes net_bytes t u quiet.
-    judged laws file bytes (IsNetworkRouted solution net) (IsNetJudged net_bytes (IsFit solution) IsDone o) old h.between new o h.expression h.reads.as_read h.goes_on t quiet
-    (λ a x. over_network laws a net net_bytes (IsFit solution) IsDone (IsRoutedAs solution a) old h.between new o h.reads.keeps x u quiet (λ d. d) (λ f y fit. routed_done solution a f o y fit))
-    (λ e a. net_judged_memory net_bytes (IsFit solution) IsDone o a e (λ d. d))
+-- what is made of an algebra answers what was asked
+alone_answered : (asked : AlgebraTask) (a : PureAlg) (o : PureOutcome) → IsMadeAlone asked a o → IsAnsweredAlone asked o
+alone_answered (alone.Check r) a o h = checked_done r a None (IsLabel a.expression) o h.0
+alone_answered alone.Code a o h = coded_done a None [] o h
+alone_answered alone.Gadget a o h = wedged_done a o h
 
--- what run or trace comes to is judged
-ran_complete : Laws → (file net : List ℕ) (traced : Bool) (turns : ℕ) (old new : Moment) (o : PureOutcome) → IsRunOn traced turns file net old new o → (bytes net_bytes : List ℕ) → IsTold old file bytes → IsTold old net net_bytes
-    → ¬ HasRisen old.faults new.faults → IsJudged bytes (IsNetJudged net_bytes IsAny IsRunOut o) o
-ran_complete laws file net traced turns old new o h bytes net_bytes t u quiet =
-    judged laws file bytes (IsNetworkRun traced turns net) (IsNetJudged net_bytes IsAny IsRunOut o) old h.between new o h.expression h.reads.as_read h.goes_on t quiet
-    (λ a x. over_network laws a net net_bytes IsAny IsRunOut (IsRunAs traced turns a) old h.between new o h.reads.keeps x u quiet inl (λ f y any. run_out traced turns a f o y))
-    (λ e a. net_judged_memory net_bytes IsAny IsRunOut o a e inl)
+-- and so does want of memory
+alone_unless : (asked : AlgebraTask) (o : PureOutcome) → answer_in o ≡ refused memory → IsAnsweredAlone asked o
+alone_unless (alone.Check r) o e = inl (inr e)
+alone_unless alone.Code o e = inr e
+alone_unless alone.Gadget o e = inr e
 
-pub complete : Laws → (text : List (List ℕ)) (old new : Moment) (c : Option Command) (o : PureOutcome) (r : Result Command WordsFault)
-    → ComesBy text r old new c o → CompleteBy text old new o r
-complete laws text old new c o (Ok (Check file None r)) h = λ bytes t quiet.
-    judged laws (word_at text file) bytes (IsAlgebraChecked r) (λ a. IsDecided o) old h.1.between new o h.1.expression h.1.reads.as_read h.1.goes_on t quiet
-    (λ a x. checked_done r a None (IsLabel a.expression) o x.1) (λ e a. inl (inr e))
-complete laws text old new c o (Ok (Check file (Some net) r)) h = λ bytes net_bytes t u quiet.
-    judged laws (word_at text file) bytes (IsNetworkChecked r (word_at text net)) (IsNetJudged net_bytes IsAny IsDecided o) old h.1.between new o h.1.expression h.1.reads.as_read h.1.goes_on t quiet
-    (λ a x. over_network laws a (word_at text net) net_bytes IsAny IsDecided (λ f. IsCheckedAs r a (Some f) (IsOnArc (changed_net f))) old h.1.between new o h.1.reads.keeps x u quiet inl
-    (λ f y any. checked_done r a (Some f) (IsOnArc (changed_net f)) o y))
-    (λ e a. net_judged_memory net_bytes IsAny IsDecided o a e inl)
-complete laws text old new c o (Ok (Code file None)) h = λ bytes t quiet.
-    judged laws (word_at text file) bytes IsAlgebraCoded (λ a. IsUnlessMemory o done) old h.1.between new o h.1.expression h.1.reads.as_read h.1.goes_on t quiet
-    (λ a x. coded_done a None [] o x.1) (λ e a. inr e)
-complete laws text old new c o (Ok (Code file (Some net))) h = λ bytes net_bytes t u quiet.
-    judged laws (word_at text file) bytes (IsNetworkCoded (word_at text net)) (IsNetJudged net_bytes IsAny IsDone o) old h.1.between new o h.1.expression h.1.reads.as_read h.1.goes_on t quiet
-    (λ a x. over_network laws a (word_at text net) net_bytes IsAny IsDone (λ f. IsCodedAs a (Some f) (labels_on (changed_net f))) old h.1.between new o h.1.reads.keeps x u quiet (λ d. d)
-    (λ f y any. coded_done a (Some f) (labels_on (changed_net f)) o y))
-    (λ e a. net_judged_memory net_bytes IsAny IsDone o a e (λ d. d))
-complete laws text old new c o (Ok (Route file net workers)) h = routed_wholly laws Unbeaten (word_at text file) (word_at text net) old new o h.1
-complete laws text old new c o (Ok (Settle file net)) h = routed_wholly laws Settled (word_at text file) (word_at text net) old new o h.1
-complete laws text old new c o (Ok (Stable file net)) h = routed_wholly laws AllStable (word_at text file) (word_at text net) old new o h.1
-complete laws text old new c o (Ok (Run file net workers turns)) h = ran_complete laws (word_at text file) (word_at text net) false turns old new o h.1
-complete laws text old new c o (Ok (Trace file net workers turns)) h = ran_complete laws (word_at text file) (word_at text net) true turns old new o h.1
-complete laws text old new c o (Ok (Gadget file)) h = λ bytes t quiet.
-    judged laws (word_at text file) bytes IsAlgebraWedged (λ a. IsUnlessMemory o done) old h.1.between new o h.1.expression h.1.reads.as_read h.1.goes_on t quiet
-    (λ a x. wedged_done a o x.1) (λ e a. inr e)
-complete laws text old new c o (Ok (Demo seed nodes)) h = shown_out seed nodes o h.2
-complete laws text old new c o (Err f) h = tt
+-- what is made of a network file answers what was asked, where the network is fit
+on_answered : (asked : NetworkTask) (a : PureAlg) (f : PureNetFile) (o : PureOutcome) → IsMadeOn asked a f o → IsFitFor asked (changed_net f) → IsAnsweredOn asked o
+on_answered (joint.Check r) a f o h fit = checked_done r a (Some f) (IsOnArc (changed_net f)) o h
+on_answered joint.Code a f o h fit = coded_done a (Some f) (labels_on (changed_net f)) o h
+on_answered (joint.Route solution workers) a f o h fit = routed_done solution a f o h fit
+on_answered (joint.Run workers turns traced) a f o h fit = run_out traced turns a f o h
+
+on_unless : (asked : NetworkTask) (o : PureOutcome) → IsUnlessMemory o done → IsAnsweredOn asked o
+on_unless (joint.Check r) o d = inl d
+on_unless joint.Code o d = d
+on_unless (joint.Route solution workers) o d = d
+on_unless (joint.Run workers turns traced) o d = inl d
+
+complete_of : Laws → (text : List (List ℕ)) (old new : Moment) (o : PureOutcome) (t : Task) → ComesOf text t old new o → IsCompleteOf text old new o t
+complete_of laws text old new o (task.Demo seed nodes) h = shown_out seed nodes o h.1
+complete_of laws text old new o (task.Alone file asked) h = λ bytes t quiet.
+    judged laws (word_at text file) bytes (λ a old new o. (new ≡ old) × IsMadeAlone asked a o) (λ a. IsAnsweredAlone asked o) old h.between new o h.expression h.reads.as_read h.goes_on t quiet
+    (λ a x. alone_answered asked a o x.1) (λ e a. alone_unless asked o e)
+complete_of laws text old new o (task.On file net asked) h = λ bytes net_bytes t u quiet.
+    judged laws (word_at text file) bytes (λ a. WithNetwork a (word_at text net) (IsMadeOn asked a)) (IsNetJudged net_bytes (IsFitFor asked) (IsAnsweredOn asked) o)
+    old h.between new o h.expression h.reads.as_read h.goes_on t quiet
+    (λ a x. over_network laws a (word_at text net) net_bytes (IsFitFor asked) (IsAnsweredOn asked) (IsMadeOn asked a) old h.between new o h.reads.keeps x u quiet (on_unless asked o)
+    (λ f y fit. on_answered asked a f o y fit))
+    (λ e a. net_judged_memory net_bytes (IsFitFor asked) (IsAnsweredOn asked) o a e (on_unless asked o))
+
+pub complete : Laws → (text : List (List ℕ)) (old new : Moment) (o : PureOutcome) (r : Result Command WordsFault) → ComesBy text r old new o → CompleteBy text old new o r
+complete laws text old new o (Ok c) h = complete_of laws text old new o (task_of c) h
+complete laws text old new o (Err f) h = tt

@@ -1,3 +1,4 @@
+mod Alike
 mod Arcs
 mod Codes
 mod Completeness
@@ -5,9 +6,9 @@ mod Found
 mod Lacking
 mod NetsBehind
 mod Printable
-mod Refused
 mod RowsBehind
 mod Written
 mod Demos
 mod Tables
 mod Wedges
+mod Tasks

@@ -13,7 +13,7 @@ ghost use Rattle.property_infer.specs.Views.{pure_verdict};
 ghost use Rattle.metacli.specs.Views.{CanBeWritten, pure_outcome};
 
 use crate::behind::{last_of, net_behind};
-use crate::outcome::{Outcome, Stop};
+use crate::outcome::{Checked, Outcome, Stop};
 use alg_classes::Property;
 use alg_model::Alg;
 use command_words::Required;
@@ -36,12 +36,12 @@ pub fn check(alloc: Global, alg: Alg, require: Required) -> Outcome
     match verdicts(alloc, &alg) {
         Ok(verdicts) => {
             let unmet = first_unmet(require, &verdicts);
-            Outcome::Checked {
+            Outcome::Checked(Checked {
                 alg,
                 file: None,
                 verdicts,
                 unmet,
-            }
+            })
         }
         Err(NoMemory) => Outcome::Stopped {
             alg: Some(alg),
@@ -62,12 +62,12 @@ pub fn check_network(alloc: Global, alg: Alg, file: NetFile, require: Required) 
     match verdicts_behind(alloc, &file) {
         Ok(verdicts) => {
             let unmet = first_unmet(require, &verdicts);
-            Outcome::Checked {
+            Outcome::Checked(Checked {
                 alg,
                 file: Some(file),
                 verdicts,
                 unmet,
-            }
+            })
         }
         Err(NoMemory) => Outcome::Stopped {
             alg: Some(alg),

@@ -10,7 +10,7 @@ ghost use Rattle.metacli.specs.Outcome.{IsCodedAs, labels_on};
 ghost use Rattle.metacli.specs.Views.{CanBeWritten, pure_outcome};
 
 use crate::behind::{last_of, net_behind};
-use crate::outcome::{Outcome, Stop};
+use crate::outcome::{Coded, Outcome, Stop};
 use alg_model::Alg;
 use code_gen::{Listing, compile_label, compile_order};
 use meta_base::{ArcId, List, NoMemory};
@@ -24,12 +24,12 @@ pub fn code(alloc: Global, alg: Alg) -> Outcome
     ensures printable { CanBeWritten result }
 {
     match order_listing(alloc, &alg) {
-        Ok(listing) => Outcome::Coded {
+        Ok(listing) => Outcome::Coded(Coded {
             alg,
             file: None,
             behind: None,
             listing,
-        },
+        }),
         Err(NoMemory) => Outcome::Stopped {
             alg: Some(alg),
             file: None,
@@ -47,12 +47,12 @@ pub fn code_network(alloc: Global, alg: Alg, file: NetFile) -> Outcome
     ensures printable { CanBeWritten result }
 {
     match listing_behind(alloc, &file) {
-        Ok((behind, listing)) => Outcome::Coded {
+        Ok((behind, listing)) => Outcome::Coded(Coded {
             alg,
             file: Some(file),
             behind,
             listing,
-        },
+        }),
         Err(NoMemory) => Outcome::Stopped {
             alg: Some(alg),
             file: Some(file),

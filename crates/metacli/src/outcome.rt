@@ -2,9 +2,10 @@
 ghost use Rattle.std.specs.Prelude.{◌≡◌, ◌≢◌, None, if◌then◌else◌};
 ghost use Rattle.metacli.specs.Answers.{done, memory_refused, pure_answer, pure_stop, refused, spent, write_fault};
 ghost use Rattle.std.specs.Prelude.{option_map};
-ghost use Rattle.metacli.specs.Outcome.{Shows, met_or, stopped};
+ghost use Rattle.metacli.specs.Outcome.{Shows, algebra_in, answer_in, file_in, met_or, stopped};
 ghost use Rattle.metacli.specs.declared.outcome.Stop.TheVariants.{Memory};
-ghost use Rattle.metacli.specs.Views.{pure_outcome};
+ghost use Rattle.metacli.specs.Views.{CanBeWritten, IsMadeIn, pure_outcome};
+ghost use Rattle.topology_file.specs.Views.{pure_file};
 ghost use Rattle.alg_classes.specs.Instances.{pure_instance, pure_property};
 ghost use Rattle.report_text.specs.Refusals.{lacks, pure_refusal};
 
@@ -81,62 +82,84 @@ pub enum Outcome {
         file: Option<NetFile>,
         stop: Stop,
     },
-    /// An arc of the network after its changes, which is `None` where there are none, has a label that isn't fit.
-    Lacking {
-        alg: Alg,
-        file: NetFile,
-        behind: Option<Net>,
-        lack: Lack,
-    },
-    /// The verdicts on an algebra, or on the labels of a network over it, and the first required property that fails.
-    Checked {
-        alg: Alg,
-        file: Option<NetFile>,
-        verdicts: Verdicts,
-        unmet: Option<Property>,
-    },
-    /// The code of an algebra's order, and of the labels of a network over it after its changes, where there is one:
-    /// `behind` is `None` where there are no changes.
-    Coded {
-        alg: Alg,
-        file: Option<NetFile>,
-        behind: Option<Net>,
-        listing: Listing,
-    },
-    /// The routes of a network over an algebra that were asked for.
-    Routed {
-        solution: Solution,
-        alg: Alg,
-        file: NetFile,
-        rows: List<RouteRow>,
-    },
-    /// The verdict on monotone of an algebra, with an instance that a network file can hold.
-    Gadget {
-        alg: Alg,
-        verdict: Verdict,
-    },
-    /// The phases of path-vector nodes on the network of a file, and on those after its changes.
-    Ran {
-        alg: Alg,
-        file: NetFile,
-        /// The networks after the first change, the first two, and so on.
-        changed: List<Net>,
-        /// Deliveries are printed.
-        is_traced: bool,
-        run: Run,
-    },
-    /// The phase of path-vector nodes on a generated network, which is quiet.
-    Shown {
-        alg: Alg,
-        file: NetFile,
-        last: Phase,
-    },
+    Lacking(Lacking),
+    Checked(Checked),
+    Coded(Coded),
+    Routed(Routed),
+    Wedged(Wedged),
+    Ran(Ran),
+    Shown(Shown),
+}
+
+/// An arc of the network after its changes, which is `None` where there are none, has a label that isn't fit.
+#[derive(Debug, Drop)]
+pub struct Lacking {
+    pub alg: Alg,
+    pub file: NetFile,
+    pub behind: Option<Net>,
+    pub lack: Lack,
+}
+
+/// The verdicts on an algebra, or on the labels of a network over it, and the first required property that fails.
+#[derive(Debug, Drop)]
+pub struct Checked {
+    pub alg: Alg,
+    pub file: Option<NetFile>,
+    pub verdicts: Verdicts,
+    pub unmet: Option<Property>,
+}
+
+/// The code of an algebra's order, and of the labels of a network over it after its changes, where there is one:
+/// `behind` is `None` where there are no changes.
+#[derive(Debug, Drop)]
+pub struct Coded {
+    pub alg: Alg,
+    pub file: Option<NetFile>,
+    pub behind: Option<Net>,
+    pub listing: Listing,
+}
+
+/// The routes of a network over an algebra that were asked for.
+#[derive(Debug, Drop)]
+pub struct Routed {
+    pub solution: Solution,
+    pub alg: Alg,
+    pub file: NetFile,
+    pub rows: List<RouteRow>,
+}
+
+/// The verdict on monotone of an algebra, with an instance that a network file can hold.
+#[derive(Debug, Drop)]
+pub struct Wedged {
+    pub alg: Alg,
+    pub verdict: Verdict,
+}
+
+/// The phases of path-vector nodes on the network of a file, and on those after its changes.
+#[derive(Debug, Drop)]
+pub struct Ran {
+    pub alg: Alg,
+    pub file: NetFile,
+    /// The networks after the first change, the first two, and so on.
+    pub changed: List<Net>,
+    /// Deliveries are printed.
+    pub is_traced: bool,
+    pub run: Run,
+}
+
+/// The phase of path-vector nodes on a generated network, which is quiet.
+#[derive(Debug, Drop)]
+pub struct Shown {
+    pub alg: Alg,
+    pub file: NetFile,
+    pub last: Phase,
 }
 
 impl Outcome {
     /// What comes of a refusal before anything was read.
     pub fn refused(stop: Stop) -> Outcome
-        ensures { pure_outcome result ≡ stopped None None (pure_stop stop) }
+        ensures is { pure_outcome result ≡ stopped None None (pure_stop stop) }
+        ensures printable { CanBeWritten result }
     {
         Outcome::Stopped {
             alg: None,
@@ -145,89 +168,12 @@ impl Outcome {
         }
     }
 
-    /// The end that shows the outcome of the command, with this answer.
+    /// The end that shows it, with the command and the answer to writing it.
     pub fn ended(self, alloc: Global, command: Option<Command>, answer: Answer) -> Ended
         ensures shows { Shows result command (pure_outcome self) }
         ensures answer { result.answer ≡ answer }
     {
-        let (alg, file, made, decided) = match self {
-            Outcome::Stopped { alg, file, stop } => {
-                (alg, file, Made::nothing(alloc), stop.answer())
-            }
-            Outcome::Lacking {
-                alg,
-                file,
-                behind,
-                lack,
-            } => {
-                drop(behind);
-                (
-                    Some(alg),
-                    Some(file),
-                    Made::nothing(alloc),
-                    lack_answer(lack),
-                )
-            }
-            Outcome::Checked {
-                alg,
-                file,
-                verdicts,
-                unmet,
-            } => (
-                Some(alg),
-                file,
-                Made::of_verdicts(alloc, verdicts),
-                checked_answer(unmet),
-            ),
-            Outcome::Coded {
-                alg,
-                file,
-                behind,
-                listing,
-            } => {
-                drop(behind);
-                (
-                    Some(alg),
-                    file,
-                    Made::of_listing(alloc, listing),
-                    Answer::Done,
-                )
-            }
-            Outcome::Routed {
-                alg,
-                file,
-                rows,
-                ..
-            } => (
-                Some(alg),
-                Some(file),
-                Made::of_rows(alloc, rows),
-                Answer::Done,
-            ),
-            Outcome::Gadget { alg, verdict } => (
-                Some(alg),
-                None,
-                Made::of_gadget(alloc, verdict),
-                Answer::Done,
-            ),
-            Outcome::Ran {
-                alg,
-                file,
-                changed,
-                run,
-                ..
-            } => {
-                drop(changed);
-                let decided = end_answer(run.is_quiet);
-                (Some(alg), Some(file), Made::of_run(run), decided)
-            }
-            Outcome::Shown { alg, file, last } => (
-                Some(alg),
-                Some(file),
-                Made::of_phase(alloc, last),
-                Answer::Done,
-            ),
-        };
+        let (alg, file, made, decided) = self.parts(alloc);
         let (net, changes) = match file {
             Some(NetFile { net, changes }) => (Some(net), changes),
             None => (None, List::new(alloc)),
@@ -247,11 +193,54 @@ impl Outcome {
             answer,
         }
     }
+
+    // What was read, what was made of it, and the answer to that.
+    fn parts(self, alloc: Global) -> (Option<Alg>, Option<NetFile>, Made, Answer)
+        ensures alg { result.0 ≡ algebra_in (pure_outcome self) }
+        ensures file { option_map pure_file result.1 ≡ file_in (pure_outcome self) }
+        ensures made { IsMadeIn result.2 (pure_outcome self) }
+        ensures decided { pure_answer result.3 ≡ answer_in (pure_outcome self) }
+    {
+        let mut made = Made::nothing(alloc);
+        let (alg, file, decided) = match self {
+            Outcome::Stopped { alg, file, stop } => (alg, file, stop.answer()),
+            Outcome::Lacking(it) => (Some(it.alg), Some(it.file), lack_answer(it.lack)),
+            Outcome::Checked(it) => {
+                made.verdicts = Some(it.verdicts);
+                (Some(it.alg), it.file, checked_answer(it.unmet))
+            }
+            Outcome::Coded(it) => {
+                made.listing = Some(it.listing);
+                (Some(it.alg), it.file, Answer::Done)
+            }
+            Outcome::Routed(it) => {
+                made.rows = it.rows;
+                (Some(it.alg), Some(it.file), Answer::Done)
+            }
+            Outcome::Wedged(it) => {
+                made.gadget = Some(it.verdict);
+                (Some(it.alg), None, Answer::Done)
+            }
+            Outcome::Ran(it) => {
+                let decided = end_answer(it.run.is_quiet);
+                made.past = it.run.past;
+                made.rows = it.run.last.rows;
+                made.journal = it.run.last.journal;
+                (Some(it.alg), Some(it.file), decided)
+            }
+            Outcome::Shown(it) => {
+                made.rows = it.last.rows;
+                made.journal = it.last.journal;
+                (Some(it.alg), Some(it.file), Answer::Done)
+            }
+        };
+        (alg, file, made, decided)
+    }
 }
 
-// What a command made.
+/// What a command made: a field that it doesn't make is `None` or empty.
 #[derive(Drop)]
-struct Made {
+pub struct Made {
     verdicts: Option<Verdicts>,
     listing: Option<Listing>,
     gadget: Option<Verdict>,
@@ -261,9 +250,9 @@ struct Made {
 }
 
 impl Made {
-    ghost use Rattle.std.specs.Prelude.{[], Some};
+    ghost use Rattle.std.specs.Prelude.{[]};
 
-    // Nothing.
+    // Nothing yet.
     fn nothing(alloc: Global) -> Made
         ensures { result ≡ record {
           verdicts = None;
@@ -281,132 +270,6 @@ impl Made {
             rows: List::new(alloc),
             journal: List::new(alloc),
             past: List::new(alloc),
-        }
-    }
-
-    // Verdicts.
-    fn of_verdicts(alloc: Global, verdicts: Verdicts) -> Made
-        ensures { result ≡ record {
-          verdicts = Some verdicts;
-          listing = None;
-          gadget = None;
-          rows = [];
-          journal = [];
-          past = [];
-        } }
-    {
-        Made {
-            verdicts: Some(verdicts),
-            listing: None,
-            gadget: None,
-            rows: List::new(alloc),
-            journal: List::new(alloc),
-            past: List::new(alloc),
-        }
-    }
-
-    // Code.
-    fn of_listing(alloc: Global, listing: Listing) -> Made
-        ensures { result ≡ record {
-          verdicts = None;
-          listing = Some listing;
-          gadget = None;
-          rows = [];
-          journal = [];
-          past = [];
-        } }
-    {
-        Made {
-            verdicts: None,
-            listing: Some(listing),
-            gadget: None,
-            rows: List::new(alloc),
-            journal: List::new(alloc),
-            past: List::new(alloc),
-        }
-    }
-
-    // A verdict that a network shows.
-    fn of_gadget(alloc: Global, verdict: Verdict) -> Made
-        ensures { result ≡ record {
-          verdicts = None;
-          listing = None;
-          gadget = Some verdict;
-          rows = [];
-          journal = [];
-          past = [];
-        } }
-    {
-        Made {
-            verdicts: None,
-            listing: None,
-            gadget: Some(verdict),
-            rows: List::new(alloc),
-            journal: List::new(alloc),
-            past: List::new(alloc),
-        }
-    }
-
-    // Routes.
-    fn of_rows(alloc: Global, rows: List<RouteRow>) -> Made
-        ensures { result ≡ record {
-          verdicts = None;
-          listing = None;
-          gadget = None;
-          rows = rows;
-          journal = [];
-          past = [];
-        } }
-    {
-        Made {
-            verdicts: None,
-            listing: None,
-            gadget: None,
-            rows,
-            journal: List::new(alloc),
-            past: List::new(alloc),
-        }
-    }
-
-    // One phase.
-    fn of_phase(alloc: Global, phase: Phase) -> Made
-        ensures { result ≡ record {
-          verdicts = None;
-          listing = None;
-          gadget = None;
-          rows = phase.rows;
-          journal = phase.journal;
-          past = [];
-        } }
-    {
-        Made {
-            verdicts: None,
-            listing: None,
-            gadget: None,
-            rows: phase.rows,
-            journal: phase.journal,
-            past: List::new(alloc),
-        }
-    }
-
-    // The phases of a run.
-    fn of_run(run: Run) -> Made
-        ensures { result ≡ record {
-          verdicts = None;
-          listing = None;
-          gadget = None;
-          rows = run.last.rows;
-          journal = run.last.journal;
-          past = run.past;
-        } }
-    {
-        Made {
-            verdicts: None,
-            listing: None,
-            gadget: None,
-            rows: run.last.rows,
-            journal: run.last.journal,
-            past: run.past,
         }
     }
 }

@@ -18,7 +18,7 @@ ghost use Rattle.alg_classes.specs.Instances.{pure_property};
 ghost use Rattle.metacli.specs.Views.{CanBeWritten, pure_outcome};
 
 use crate::behind::{last_of, net_behind};
-use crate::outcome::{Outcome, Stop};
+use crate::outcome::{Lacking, Outcome, Routed, Stop};
 use alg_classes::Property;
 use alg_model::Alg;
 use best_first::{best_first_is_optimal, best_first_rows_are_the_networks};
@@ -99,19 +99,19 @@ fn outcome_of(
     match found {
         Ok(rows) => {
             drop(behind);
-            Outcome::Routed {
+            Outcome::Routed(Routed {
                 solution,
                 alg,
                 file,
                 rows,
-            }
+            })
         }
-        Err(lack) => Outcome::Lacking {
+        Err(lack) => Outcome::Lacking(Lacking {
             alg,
             file,
             behind,
             lack,
-        },
+        }),
     }
 }
 

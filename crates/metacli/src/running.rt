@@ -14,7 +14,7 @@ ghost use Rattle.metacli.specs.Views.{CanBeWritten, pure_outcome};
 ghost use Rattle.vector_runs.specs.Runs.{AreLater, IsRun, pure_phase};
 
 use crate::behind::nets_behind;
-use crate::outcome::{Outcome, Stop};
+use crate::outcome::{Outcome, Ran, Stop};
 use alg_model::Alg;
 use code_gen::{CodeAlgebra, row_width, rows_have_their_width};
 use label_code::{FixedRow, HeldRow, Words};
@@ -48,13 +48,13 @@ pub fn run<R: AllocGlobal + Threads + Wait + Sync, G: Gate>(
     ensures printable { CanBeWritten result }
 {
     match run_through(rt, &file, workers, turns, gate) {
-        Ok((changed, run)) => Outcome::Ran {
+        Ok((changed, run)) => Outcome::Ran(Ran {
             alg,
             file,
             changed,
             is_traced,
             run,
-        },
+        }),
         Err(NoMemory) => Outcome::Stopped {
             alg: Some(alg),
             file: Some(file),

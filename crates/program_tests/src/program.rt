@@ -1,6 +1,6 @@
 // Tests of `metacli`: whole runs over memory, from words and files to the status and what was written.
 use meta_base::{
-    List, MAX_FILE_BYTES, MemFile, MemShelf, MemSink, NoMemory, OpenGate, Shelf, Sink, Text,
+    Gate, List, MAX_FILE_BYTES, MemFile, MemShelf, MemSink, NoMemory, OpenGate, Shelf, Sink, Text,
 };
 use metacli::{Command, Required, read_words, run_meta, status};
 use std::alloc::Global;
@@ -49,13 +49,14 @@ fn list_of<T: Copy>(alloc: Global, items: &[T]) -> Result<List<T>, NoMemory> {
 }
 
 // The status of a run. It promises nothing of what was taken, so tests are quick to prove.
-fn status_of_run<S: Shelf, K: Sink>(
+fn status_of_run<S: Shelf, K: Sink, G: Gate>(
     rt: &(impl AllocGlobal + Threads + Wait + Sync),
     words: &[Text],
     shelf: &mut S,
     out: &mut K,
+    gate: &G,
 ) -> u8 {
-    let ended = run_meta(rt, words, shelf, out, &OpenGate);
+    let ended = run_meta(rt, words, shelf, out, gate);
     let status = status(&ended.answer);
     drop(ended);
     status
@@ -66,6 +67,16 @@ fn run_around(
     rt: &(impl AllocGlobal + Threads + Wait + Sync),
     words: &[&str],
     around: Around,
+) -> Result<Outcome, Fail> {
+    run_watched(rt, words, around, &OpenGate)
+}
+
+// The same with a gate.
+fn run_watched<G: Gate>(
+    rt: &(impl AllocGlobal + Threads + Wait + Sync),
+    words: &[&str],
+    around: Around,
+    gate: &G,
 ) -> Result<Outcome, Fail> {
     let alloc = rt.alloc();
     let mut files = List::new(alloc);
@@ -84,7 +95,7 @@ fn run_around(
     for word in words {
         texts.push(Text::copy(alloc, *word)?)?;
     }
-    let status = status_of_run(rt, &texts, &mut shelf, &mut out);
+    let status = status_of_run(rt, &texts, &mut shelf, &mut out, gate);
     Ok(Outcome {
         status,
         taken: out.taken().to_vec(alloc)?,
@@ -107,17 +118,25 @@ pub(crate) fn run_on(
     file: &[u8],
     net: &[u8],
 ) -> Result<Outcome, Fail> {
-    run_around(
-        rt,
-        words,
-        Around {
-            file,
-            net,
-            failing_calls: &[],
-            failing_writes: &[],
-            bite: BITE,
-        },
-    )
+    run_at(rt, words, file, net, &OpenGate)
+}
+
+// The same with a gate.
+pub(crate) fn run_at<G: Gate>(
+    rt: &(impl AllocGlobal + Threads + Wait + Sync),
+    words: &[&str],
+    file: &[u8],
+    net: &[u8],
+    gate: &G,
+) -> Result<Outcome, Fail> {
+    let around = Around {
+        file,
+        net,
+        failing_calls: &[],
+        failing_writes: &[],
+        bite: BITE,
+    };
+    run_watched(rt, words, around, gate)
 }
 
 // What a run with this status would come to that wrote this text.

@@ -267,7 +267,7 @@ fn flags_may_be_left_out(rt: HostRuntime) -> Result<(), Fail> {
 }
 
 // No table of this network is stable, so its nodes never come to rest.
-const GADGET: &[u8] = b"node z p q r
+pub(crate) const GADGET: &[u8] = b"node z p q r
 link p z : D
 link q z : D
 link r z : D

@@ -3,7 +3,6 @@ use Rattle.std.specs.Prelude.{◌<◌, ℕ, List, [], ◌++◌, Option, Some, No
 use Rattle.meta_base.specs.declared.ids.Which.{Which}
 use Rattle.meta_base.specs.declared.ids.Which.TheVariants as which
 use Rattle.alg_model.specs.Verdicts.{PureInstance}
-use Rattle.alg_classes.specs.Instances.{pure_instance}
 use Rattle.raml_syntax.specs.declared.faults.ExprFault.{ExprFault}
 use Rattle.raml_syntax.specs.Faults.{fault_number}
 use Rattle.net_graph.specs.Nets.{PureArc, PureNet}
@@ -11,7 +10,7 @@ use Rattle.net_graph.specs.RowTexts.{node_text}
 use Rattle.topology_file.specs.declared.faults.NetFault.{NetFault}
 use Rattle.topology_file.specs.Faults.{net_kind_number}
 use Rattle.report_text.specs.declared.refusals.Refusal.{Refusal}
-use Rattle.report_text.specs.declared.refusals.Refusal.TheVariants.{Words, Expr, Network, Lacks, Read, Long, Memory}
+use Rattle.report_text.specs.declared.refusals.Refusal.TheVariants.{Words, Expr, Network, Read, Long, Memory}
 use Rattle.report_text.specs.VerdictTexts.{CanPrint, instance_text, property_word}
 
 -- why nothing was done, by pure values: an arc by its number
@@ -28,7 +27,6 @@ abbrev pub pure_refusal : Refusal → PureRefusal
 pure_refusal (Words number) = words number
 pure_refusal (Expr fault) = expr fault
 pure_refusal (Network fault) = network fault
-pure_refusal (Lacks arc instance) = lacks arc.0 (pure_instance instance)
 pure_refusal (Read file) = read file
 pure_refusal (Long file) = long file
 pure_refusal Memory = memory
@@ -74,10 +72,5 @@ CanLack n x (Some net) = (n < length net.arcs) × CanPrint net.alg.expression x
 
 -- the line can be printed: an arc that doesn't have a property is of a network, which is given
 abbrev pub CanRefuse : PureRefusal → Option PureNet → Type 0
-CanRefuse (words number) net = Unit {0}
-CanRefuse (expr f) net = Unit {0}
-CanRefuse (network f) net = Unit {0}
 CanRefuse (lacks n x) net = CanLack n x net
-CanRefuse (read w) net = Unit {0}
-CanRefuse (long w) net = Unit {0}
-CanRefuse memory net = Unit {0}
+CanRefuse _ net = Unit {0}
