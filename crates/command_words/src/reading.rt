@@ -162,8 +162,7 @@ fn route_of(file: usize, net: usize, rest: &[Text]) -> Result<Command, WordsFaul
 fn run_of(file: usize, net: usize, rest: &[Text]) -> Result<Command, WordsFault>
     ensures { result ≡ ok_or (with_numbers (Run file net) (parts_from 1 rest.now)) BadNumber }
 {
-    let workers = number_of(NumberFlag::Workers, rest)? as u32;
-    let turns = number_of(NumberFlag::Turns, rest)?;
+    let (workers, turns) = numbers_of(rest)?;
     Ok(Command::Run {
         file,
         net,
@@ -175,14 +174,22 @@ fn run_of(file: usize, net: usize, rest: &[Text]) -> Result<Command, WordsFault>
 fn trace_of(file: usize, net: usize, rest: &[Text]) -> Result<Command, WordsFault>
     ensures { result ≡ ok_or (with_numbers (Trace file net) (parts_from 1 rest.now)) BadNumber }
 {
-    let workers = number_of(NumberFlag::Workers, rest)? as u32;
-    let turns = number_of(NumberFlag::Turns, rest)?;
+    let (workers, turns) = numbers_of(rest)?;
     Ok(Command::Trace {
         file,
         net,
         workers,
         turns,
     })
+}
+
+// How many workers run the nodes, and with how many turns, or that one of these numbers is bad.
+fn numbers_of(rest: &[Text]) -> Result<(u32, u64), WordsFault>
+    ensures { result ≡ ok_or (with_numbers (λ workers turns. (workers, turns)) (parts_from 1 rest.now)) BadNumber }
+{
+    let workers = number_of(NumberFlag::Workers, rest)? as u32;
+    let turns = number_of(NumberFlag::Turns, rest)?;
+    Ok((workers, turns))
 }
 
 fn demo_of(rest: &[Text]) -> Result<Command, WordsFault>
