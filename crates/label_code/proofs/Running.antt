@@ -2,7 +2,7 @@
 use Rattle.std.proofs.Common.{◌≡◌, ◌≢◌, ℕ, zero, suc, ◌≤◌, List, [], ◌∷◌, ◌++◌, length, drop, Bool, true, false, None, Some, if◌then◌else◌, refl, sym, ap, ◌∙◌, arith}
 use Rattle.label_code.specs.declared.operations.Op.{Op}
 use Rattle.label_code.specs.Effects.{Effect, goes_on, writes, denies, misses, effect}
-use Rattle.label_code.specs.Machine.{Outcome, made, prohibited, stuck, after_front, outcome, run_over, RunCode, Fits}
+use Rattle.label_code.specs.Machine.{Outcome, made, prohibited, stuck, after_written, outcome, run_over, RunCode, Fits}
 use Rattle.label_code.specs.Steps.{left_by, writes_in_place, effect_in_place}
 use Rattle.label_code.specs.CodeLaws.{after_both}
 
@@ -19,7 +19,7 @@ jumped (suc n) [] row i = absurd (omega arith)
 jumped (suc n) (op ∷ code) row i = jumped n code row (omega arith)
 
 -- what is stuck is stuck after words
-pub not_stuck : (w : List ℕ) (o : Outcome) → after_front w o ≢ stuck → o ≢ stuck
+pub not_stuck : (w : List ℕ) (o : Outcome) → after_written w o ≢ stuck → o ≢ stuck
 not_stuck w (made row) fits = λ e. absurd (cc)
 not_stuck w prohibited fits = λ e. absurd (cc)
 not_stuck w stuck fits = λ e. fits refl
@@ -28,12 +28,12 @@ not_stuck w stuck fits = λ e. fits refl
 pub record IsStep (op : Op) (code : List Op) (row left old new : List ℕ) (jump : ℕ) : Type 0 where
   pub within : jump ≤ length code
   pub fits : Fits (drop jump code) left
-  pub same : after_front new (RunCode (drop jump code) left) ≡ after_front old (RunCode (op ∷ code) row)
+  pub same : after_written new (RunCode (drop jump code) left) ≡ after_written old (RunCode (op ∷ code) row)
 
 -- the same of what the operation does
 pub going : (op : Op) (code : List Op) (row written rest old : List ℕ) (jump : ℕ) → effect op row ≡ goes_on written rest jump → Fits (op ∷ code) row → IsStep op code row rest old (old ++ written) jump
 going op code row written rest old jump e fits =
-    let whole : RunCode (op ∷ code) row ≡ after_front written (run_over jump code rest) = ap (λ f. outcome f (λ j r. run_over j code r)) e in
+    let whole : RunCode (op ∷ code) row ≡ after_written written (run_over jump code rest) = ap (λ f. outcome f (λ j r. run_over j code r)) e in
     let free : run_over jump code rest ≢ stuck = not_stuck written _ (λ s. fits (cc)) in
     let within : jump ≤ length code = jump_within jump code rest free in
     let there : run_over jump code rest ≡ RunCode (drop jump code) rest = jumped jump code rest within in

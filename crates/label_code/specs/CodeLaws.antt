@@ -3,17 +3,17 @@ use Rattle.std.proofs.Common.{◌≡◌, ℕ, suc, ◌+◌, List, [], ◌∷◌,
 use Rattle.std.proofs.lemmas.List.{append_assoc}
 use Rattle.label_code.specs.declared.operations.Op.{Op}
 use Rattle.label_code.specs.declared.operations.OrdOp.{OrdOp}
-use Rattle.label_code.specs.Machine.{Outcome, made, prohibited, stuck, after_front, run_over}
+use Rattle.label_code.specs.Machine.{Outcome, made, prohibited, stuck, after_written, run_over}
 use Rattle.label_code.specs.Orders.{compare_over}
 
 -- words after words
-pub after_both : (v w : List ℕ) (o : Outcome) → after_front v (after_front w o) ≡ after_front (v ++ w) o
+pub after_both : (v w : List ℕ) (o : Outcome) → after_written v (after_written w o) ≡ after_written (v ++ w) o
 after_both v w (made row) = ap made (sym (append_assoc v w row))
 after_both v w prohibited = refl
 after_both v w stuck = refl
 
 -- no words
-pub after_none : (o : Outcome) → after_front [] o ≡ o
+pub after_none : (o : Outcome) → after_written [] o ≡ o
 after_none (made row) = refl
 after_none prohibited = refl
 after_none stuck = refl

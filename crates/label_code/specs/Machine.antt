@@ -12,14 +12,14 @@ pub data Outcome : Type 0 where
   stuck : Outcome
 
 -- the outcome with these words written before its row
-abbrev pub after_front : List ℕ → Outcome → Outcome
-after_front written (made row) = made (written ++ row)
-after_front written prohibited = prohibited
-after_front written stuck = stuck
+abbrev pub after_written : List ℕ → Outcome → Outcome
+after_written written (made row) = made (written ++ row)
+after_written written prohibited = prohibited
+after_written written stuck = stuck
 
 -- what comes of an effect, where the rest of the code makes of a jump and a row what `next` says
 abbrev pub outcome : Effect → (ℕ → List ℕ → Outcome) → Outcome
-outcome (goes_on written row jump) next = after_front written (next jump row)
+outcome (goes_on written row jump) next = after_written written (next jump row)
 outcome denies next = prohibited
 outcome misses next = stuck
 

@@ -1,7 +1,7 @@
 ghost use Rattle.std.specs.Prelude.{◌≡◌, ◌≤◌, [], ◌∷◌, ◌++◌, length, take, IfOk, OnOk};
 ghost use Rattle.label_code.specs.declared.words.TheConstants.{HERE};
 ghost use Rattle.label_code.specs.Rows.{has_width, MakesOnly, Reports};
-ghost use Rattle.label_code.specs.Machine.{Fits, RunCode, after_front};
+ghost use Rattle.label_code.specs.Machine.{Fits, RunCode, after_written};
 
 use crate::in_place::{InPlace, in_place};
 use crate::{HeldRow, Op, Output, Run, Word, Words, execute};
@@ -56,10 +56,10 @@ impl<const N: usize> FixedRow<N> {
             let Some((op, others)) = code.split_first() else {
                 return self.write_left(alloc, count, code, row);
             };
-            let Some((word, after_front)) = row.split_first() else {
+            let Some((word, left)) = row.split_first() else {
                 return self.write_left(alloc, count, code, row);
             };
-            match in_place(op, *word, after_front) {
+            match in_place(op, *word, left) {
                 InPlace::Writes(word, rest) => {
                     self.words[count] = word;
                     code = others;
@@ -87,9 +87,9 @@ impl<const N: usize> FixedRow<N> {
         requires count { count ≤ N }
         requires fits { Fits code.now row.now }
         requires holds { MakesOnly (λ row. has_width N row)
-            (after_front (take count self.old.words) (RunCode code.now row.now)) }
+            (after_written (take count self.old.words) (RunCode code.now row.now)) }
         ensures { IfOk result (λ run. Reports run self.new.words
-            (after_front (take count self.old.words) (RunCode code.now row.now))) }
+            (after_written (take count self.old.words) (RunCode code.now row.now))) }
     {
         let mut written = Written::<N>::new(alloc, self.words, count);
         let run = execute(alloc, code, row, &mut written)?;

@@ -1,13 +1,13 @@
 ghost use Rattle.std.specs.Prelude.{◌≡◌, ◌≢◌, ◌+◌, ◌<◌, ◌≤◌, ◌==◌, [], ◌∷◌, ◌++◌, length, take, drop, None, if◌then◌else◌, IfOk, OnErr};
 ghost use Rattle.std.specs.List.{list_any};
 ghost use Rattle.label_code.specs.Effects.{effect, goes_on, writes, turns, denies, misses};
-ghost use Rattle.label_code.specs.Machine.{RunCode, Fits, after_front};
+ghost use Rattle.label_code.specs.Machine.{RunCode, Fits, after_written};
 ghost use Rattle.label_code.specs.Rows.{Reports};
 ghost use Rattle.label_code.specs.Steps.{Does, effect_in_place};
 ghost use Rattle.label_code.specs.declared.machine.Halt.TheVariants as halts;
 
 use crate::in_place::{InPlace, in_place};
-use crate::pieces::{after_front, sequence};
+use crate::pieces::{after, sequence};
 use crate::{LabelCode, Op, Output, Row, Run, Word};
 use meta_base::{List, NoMemory};
 use std::alloc::Global;
@@ -42,7 +42,7 @@ pub fn execute<W: Output>(
 ) -> Result<Run, NoMemory>
     requires { Fits code.now row.now }
     ensures { IfOk result (λ run.
-        Reports run (W.written out.new) (after_front (W.written out.old) (RunCode code.now row.now))) }
+        Reports run (W.written out.new) (after_written (W.written out.old) (RunCode code.now row.now))) }
 {
     let mut code = code;
     let mut row = row;
@@ -53,7 +53,7 @@ pub fn execute<W: Output>(
         match step(alloc, op, row, out) {
             Ok(next) => {
                 row = next.row;
-                code = after_front(rest, next.jump);
+                code = after(rest, next.jump);
             }
             Err(Halt::Prohibited) => return Ok(Run::Prohibited),
             Err(Halt::NoMemory) => return Err(NoMemory),
@@ -119,9 +119,9 @@ fn step_otherwise<'a, W: Output>(
     ensures { Does result (W.written out.old) (W.written out.new) (effect op.now (word ∷ rest.now)) }
 {
     match op {
-        Op::Drop => Ok(Next::after_front(rest)),
+        Op::Drop => Ok(Next::after(rest)),
         Op::CopySeq => copy_sequence(alloc, word, rest, out),
-        Op::DropSeq => Ok(Next::after_front(sequence(word, rest).1)),
+        Op::DropSeq => Ok(Next::after(sequence(word, rest).1)),
         Op::Emit(word) => write(alloc, *word, row, out),
         Op::Append(symbol) => append(alloc, word, rest, *symbol, out),
         Op::Fresh(symbol) => append_fresh(alloc, word, rest, *symbol, out),
@@ -161,7 +161,7 @@ fn write<'a, W: Output>(
     ensures { Does result (W.written out.old) (W.written out.new) (writes word row.now) }
 {
     out.push(alloc, word)?;
-    Ok(Next::after_front(row))
+    Ok(Next::after(row))
 }
 
 // Writes the side and leaves the row, with this jump after the second side.
@@ -193,7 +193,7 @@ fn copy_sequence<'a, W: Output>(
     let (words, rest) = sequence(count, row);
     out.push(alloc, count)?;
     out.extend(alloc, words)?;
-    Ok(Next::after_front(rest))
+    Ok(Next::after(rest))
 }
 
 // Writes the length and one, so many words from the front of the row, and the symbol, and leaves what is after them.
@@ -212,7 +212,7 @@ fn append<'a, W: Output>(
     out.push(alloc, count + 1)?;
     out.extend(alloc, words)?;
     out.push(alloc, symbol)?;
-    Ok(Next::after_front(rest))
+    Ok(Next::after(rest))
 }
 
 // The same, or prohibits where the symbol is among the words.
@@ -236,7 +236,7 @@ fn append_fresh<'a, W: Output>(
 
 impl<'a> Next<'a> {
     // This row, with no jump.
-    fn after_front(row: &'a [Word]) -> Next<'a>
+    fn after(row: &'a [Word]) -> Next<'a>
         ensures row { result.row.now ≡ row.now }
         ensures jump { result.jump ≡ 0 }
     {

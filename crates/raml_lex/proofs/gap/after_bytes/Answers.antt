@@ -16,4 +16,4 @@ pub returns-in-None-clause-cursor : goal.returns-in-None-clause-cursor
 returns-in-None-clause-cursor c =
     let bytes = c.args.bytes.now in
     let line : list_all (λ b. not (is_line_feed b)) bytes ≡ true = none_from bytes 0 (λ k l m e. c.in-None.ensures k l m e) in
-    rw c.later.ensures (IsCursor-line c.args.source.now c.args.here (length bytes) c.requires.cursor c.requires.within (rw c.requires.bytes line))
+    rw c.after.ensures (IsCursor-line c.args.source.now c.args.here (length bytes) c.requires.cursor c.requires.within (rw c.requires.bytes line))

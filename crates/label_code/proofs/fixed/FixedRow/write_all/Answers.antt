@@ -1,6 +1,6 @@
 use Rattle.std.proofs.Common.{rules, ◌≡◌, ◌++◌, ◌∷◌, [], ◌+◌, ◌<◌, length, take, slice_set, subst, sym, ◌∙◌, ap, IfOk, arith}
 use Rattle.std.proofs.lemmas.List.{take_more_set}
-use Rattle.label_code.specs.Machine.{RunCode, Fits, after_front as after}
+use Rattle.label_code.specs.Machine.{RunCode, Fits, after_written as after}
 use Rattle.label_code.specs.CodeLaws.{after_none}
 use Rattle.label_code.specs.Effects.{effect, goes_on}
 use Rattle.label_code.specs.Steps.{effect_of}
@@ -25,9 +25,9 @@ loop-count-preserved g c =
     let is : c.loop-count.code.now ≡ op ∷ others = search rules in
     let fits : Fits (op ∷ others) row = subst (λ code. Fits code row) is c.loop-count.invariant.fits in
     let word = c.in-Some-split_first.word.now in
-    let after_front = c.in-Some-split_first.after_front.now in
-    let split : row ≡ word ∷ after_front = search rules in
-    let does : effect op row ≡ goes_on (c.in-Writes.word ∷ []) rest 0 = rw split (does_in_place op (word ∷ after_front) c.in-Writes.word rest (sym c.in_place.ensures ∙ ap effect_of c.in-Writes.is)) in
+    let left = c.in-Some-split_first.left.now in
+    let split : row ≡ word ∷ left = search rules in
+    let does : effect op row ≡ goes_on (c.in-Writes.word ∷ []) rest 0 = rw split (does_in_place op (word ∷ left) c.in-Writes.word rest (sym c.in_place.ensures ∙ ap effect_of c.in-Writes.is)) in
     let step : IsStep op others row rest stand (stand ++ c.in-Writes.word ∷ []) 0 = going op others row (c.in-Writes.word ∷ []) rest stand 0 does fits in
     let within : c.loop-count.count < length c.loop-count.self.words = rw c.loop-count.invariant.width (search rules) in
     let placed : take (c.loop-count.count + 1) (slice_set c.loop-count.self.words c.loop-count.count c.in-Writes.word) ≡ stand ++ c.in-Writes.word ∷ [] = take_more_set c.loop-count.self.words c.loop-count.count c.in-Writes.word within in
