@@ -144,8 +144,9 @@ fn stop_line(alloc: Global, stop: Stop) -> Result<Text, NoMemory>
 // Writes the line of an arc whose label doesn't have a property. Memory for the answer is taken before.
 fn write_missing<K: Sink>(alloc: Global, out: &mut K, net: &Net, missing: &Missing) -> Answer
     requires { CanMissing missing.now.arc.0 (pure_instance missing.now.instance) (Some net.now) }
-    ensures { Written (K.holds out.old) (misses_text missing.now.arc.0 (pure_instance missing.now.instance) (Some net.now))
-        (K.holds out.new) (refused (misses missing.now.arc.0 (pure_instance missing.now.instance))) (pure_answer result) }
+    ensures { Written (K.holds out.old)
+        (misses_text missing.now.arc.0 (pure_instance missing.now.instance) (Some net.now)) (K.holds out.new)
+        (refused (misses missing.now.arc.0 (pure_instance missing.now.instance))) (pure_answer result) }
 {
     match missing_line(alloc, net, missing) {
         Ok((line, answer)) => write_line(out, line.as_str().as_bytes(), answer),

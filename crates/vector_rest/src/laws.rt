@@ -23,8 +23,8 @@ ghost use Rattle.vector_rest.specs.Left.{AreCarried, left_at_start, left_from};
 /// label makes no value better (Sobrinho 2005) and the path gets longer. Levels by rank and length are this project's
 /// own.
 pub fn levels_rise()
-    ensures { (net : PureNet) (values : List PureValue) (n dest i j : ℕ) (reported other : Reported) (r s : Option PureRoute)
-        → NetHas monotone net → ((v : PureValue) → IsItem v values → In (carrier net) v)
+    ensures { (net : PureNet) (values : List PureValue) (n dest i j : ℕ) (reported other : Reported)
+        (r s : Option PureRoute) → NetHas monotone net → ((v : PureValue) → IsItem v values → In (carrier net) v)
         → ChangesByOne net (Occurs values n) dest i j reported other r s
         → min (level (carrier net) values n (reported j)) (level (carrier net) values n (other j))
         < min (level (carrier net) values n r) (level (carrier net) values n s) }
