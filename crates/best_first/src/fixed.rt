@@ -24,7 +24,7 @@ pub(crate) struct Fixed<S> {
 }
 
 impl<S: Drop> Fixed<S> {
-    // So many nodes, none of which is fixed.
+    /// So many nodes, none of which is fixed.
     pub fn new(alloc: Global, count: usize) -> Result<Fixed<S>, NoMemory>
         ensures rows { IfOk result (λ fixed. fixed.rows.items ≡ replicate count None) }
         ensures paths { IfOk result (λ fixed. fixed.paths ≡ []) }
@@ -37,7 +37,7 @@ impl<S: Drop> Fixed<S> {
         Ok(Fixed { rows, paths })
     }
 
-    // Fixes the node of the route.
+    /// Fixes the node of the route.
     pub fn fix(&mut self, route: OpenRoute<S>) -> Result<(), NoMemory>
         requires node { route.place.node.0 < vec_len self.old.rows }
         requires next { route.place.next.0 < vec_len self.old.rows }
@@ -55,7 +55,7 @@ impl<S: Drop> Fixed<S> {
         Ok(())
     }
 
-    // Lends the route of a node that is fixed.
+    /// Lends the route of a node that is fixed.
     pub fn route(&self, node: NodeId) -> &FixedRoute<S>
         requires { is_some (found_at self.now.rows.items node.0) ≡ true }
         ensures { found_at self.now.rows.items node.0 ≡ Some result.now }

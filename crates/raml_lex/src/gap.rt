@@ -98,7 +98,7 @@ fn after_blocks(source: &[u8], from: Cursor) -> Cursor
     here
 }
 
-// Where the spaces and comments end that stand from here on.
+/// Where the spaces and comments end that stand from here on.
 pub fn gap_end(source: &[u8], from: Cursor) -> Cursor
     requires { IsCursor source.now from }
     ensures cursor { IsCursor source.now result }

@@ -21,7 +21,7 @@ use raml_lex::{Token, TokenKind, Tokens};
 use std::alloc::Global;
 use std::marker::Model;
 
-// What the mark after a row leads to.
+/// What the mark after a row leads to.
 #[derive(Clone, Copy, Debug)]
 pub enum AfterRow {
     // `;`
@@ -30,7 +30,7 @@ pub enum AfterRow {
     End,
 }
 
-// What the mark after a map leads to.
+/// What the mark after a map leads to.
 #[derive(Clone, Copy, Debug)]
 pub enum AfterMap {
     // `,`
@@ -39,7 +39,7 @@ pub enum AfterMap {
     After(AfterRow),
 }
 
-// `source -> target`
+/// `source -> target`
 #[derive(Debug, Drop)]
 pub struct Map<'a> {
     source: &'a [u8],
@@ -106,7 +106,7 @@ fn image_place(names: &[Text], maps: &[Map<'_>], name: &[u8]) -> Option<u8>
     place_of(names, map.target())
 }
 
-// The places of the images of all values.
+/// The places of the images of all values.
 pub fn images(alloc: Global, names: &[Text], maps: &[Map<'_>]) -> Result<List<Option<u8>>, NoMemory>
     requires { length names.now ≤ MAX_TABLE_NAMES }
     ensures { IfOk result (λ images. images ≡ map (image_place names.now maps.now) names.now) }
@@ -181,7 +181,7 @@ fn read_map<'a>(
     })
 }
 
-// Reads what stands after a row's colon, and the mark after the row.
+/// Reads what stands after a row's colon, and the mark after the row.
 pub fn read_maps<'a>(
     alloc: Global,
     tokens: &mut Tokens<'a>,
