@@ -1,7 +1,7 @@
 // The lines of a text, what a line says, and the words of that.
 ghost use Rattle.std.specs.Prelude.{◌≡◌, ◌<◌, [], ◌∷◌, drop, length, MatchOption, IfSome};
 ghost use Rattle.meta_base.specs.Bytes.{front, after_front};
-ghost use Rattle.topology_file.specs.Texts.{is_not, is_no_blank, lines_of, said_of, words_of};
+ghost use Rattle.topology_file.specs.Texts.{is_not, is_no_blank, lines_of, said_of, without_return, words_of};
 
 use memchr::memchr;
 use meta_base::bytes::{after_blanks, is_blank};
@@ -28,7 +28,7 @@ fn after_one(text: &[u8]) -> &[u8]
     }
 }
 
-/// The first line, without its line feed, and the text of the other lines.
+/// The first line, without its line feed, and the text of the other lines; `None` where there is no line.
 #[tactic(auto, using(crate::proofs::Splits::lines_first, crate::proofs::Splits::line_shorter))]
 pub fn split_line(text: &[u8]) -> Option<(&[u8], &[u8])>
     ensures lines { MatchOption result (lines_of text.now ≡ []) (λ split.
@@ -42,15 +42,21 @@ pub fn split_line(text: &[u8]) -> Option<(&[u8], &[u8])>
     Some((line, after_one(rest)))
 }
 
+/// The line without one carriage return at its end.
+pub fn without_return(line: &[u8]) -> &[u8]
+    ensures { result.now ≡ without_return line.now }
+{
+    match line {
+        [front @ .., b'\r'] => front,
+        _ => line,
+    }
+}
+
 /// What a line says: it loses one carriage return at its end, and its comment.
 pub fn said(line: &[u8]) -> &[u8]
     ensures { result.now ≡ said_of line.now }
 {
-    let line = match line {
-        [front @ .., b'\r'] => front,
-        _ => line,
-    };
-    let (said, _) = split_at_byte(line, b'#');
+    let (said, _) = split_at_byte(without_return(line), b'#');
     said
 }
 
@@ -69,7 +75,7 @@ fn split_at_blank(text: &[u8]) -> (&[u8], &[u8])
     text.split_at(len)
 }
 
-/// The first word, and the text of the other words.
+/// The first word of a line, and the text of the other words; `None` where there is no word. Blanks separate them.
 #[tactic(auto, using(crate::proofs::Splits::words_first, crate::proofs::Splits::words_none, crate::proofs::Splits::word_shorter))]
 pub fn split_word(text: &[u8]) -> Option<(&[u8], &[u8])>
     ensures words { MatchOption result (words_of text.now ≡ []) (λ split.
