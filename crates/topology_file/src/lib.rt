@@ -1,5 +1,6 @@
 //! Reads network files: the nodes, arcs, origins and changes that a text gives to an algebra, or the
-//! first line that breaks a rule; and the lines and words of any text that is cut as they are. It stands on `net_graph`, `sig_text`, `alg_model` and `meta_base`.
+//! first line that breaks a rule; and the lines and words of any text that is cut as they are. It stands on
+//! `net_graph`, `sig_text`, `alg_model` and `meta_base`.
 #![tactic(auto)]
 
 mod draft;
