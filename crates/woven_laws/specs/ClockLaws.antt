@@ -1,6 +1,6 @@
 -- How high the clocks get of nodes that take messages each by itself: no higher than the number of messages that all of
 -- them took. Lemmas, so that proofs of other crates may cite them.
-use Rattle.std.proofs.Common.{◌≡◌, ℕ, zero, suc, ◌+◌, ◌<◌, ◌≤◌, ◌-◌, ◌⊎◌, inl, inr, Bool, true, false, cond, List, [], ◌∷◌, ◌++◌, Option, Some, None, max, ltb, length, subst, refl, sym, ap, ◌∙◌, arith}
+use Rattle.std.proofs.Common.{◌≡◌, ℕ, zero, suc, ◌+◌, ◌<◌, ◌≤◌, ◌-◌, ◌⊎◌, inl, inr, Bool, true, false, cond, List, [], ◌∷◌, ◌++◌, Option, Some, None, max, length, subst, refl, sym, ap, ◌∙◌, arith}
 use Rattle.std.specs.Prelude.{◌==◌}
 use Rattle.std.specs.List.{AllByRecursion}
 use Rattle.std.proofs.lemmas.Bool.{cases_lt, eqb-true, false_from_ne_true}
@@ -19,11 +19,11 @@ use Rattle.woven_laws.specs.Woven.{Woven}
 -- a part of a sum is no more than the sum, and a sum that isn't 0 has such a part
 part_below : (n : ℕ) (f : ℕ → ℕ) (i : ℕ) → i < n → f i ≤ total n f
 part_below zero f i lt = absurd (omega (arith, lt))
-part_below (suc n) f i lt = by (i == n) refl
+part_below (suc n) f i lt = by (λ less. part_below n f i less) (i == n) refl
   where
-    by : (b : Bool) → (i == n) ≡ b → f i ≤ total (suc n) f
-    by true e = let same : f i ≡ f n = ap f (eqb-true i n e) in omega (arith, same)
-    by false e = let less : i < n = grind (arith, nat_tests) in let rest = part_below n f i less in omega (arith, rest)
+    by : (i < n → f i ≤ total n f) → (b : Bool) → (i == n) ≡ b → f i ≤ total (suc n) f
+    by rest true e = let same : f i ≡ f n = ap f (eqb-true i n e) in omega (arith, same)
+    by rest false e = let less : i < n = grind (arith, nat_tests) in let part = rest less in omega (arith, part)
 
 some_part : (n : ℕ) (f : ℕ → ℕ) → 1 ≤ total n f → (i : ℕ) × (i < n) × (1 ≤ f i)
 some_part zero f some = absurd (omega (arith, some))
@@ -62,11 +62,11 @@ module _ {M : Type 0} where
   -- what holds of the clock of each message that was taken holds of each that is counted
   of_counted : (P : ℕ → Type 0) (t : ℕ) (hs : List (Taken M)) → AllByRecursion (λ (h : Taken M). P h.clock) hs → 1 ≤ clock_count t hs → P t
   of_counted P t [] all some = absurd (omega (arith, some))
-  of_counted P t (h ∷ hs) all some = by (h.clock == t) refl some
+  of_counted P t (h ∷ hs) all some = by (λ more. of_counted P t hs all.1 more) (h.clock == t) refl some
     where
-      by : (b : Bool) → (h.clock == t) ≡ b → 1 ≤ mark b + clock_count t hs → P t
-      by true e some = subst P (eqb-true h.clock t e) all.0
-      by false e some = of_counted P t hs all.1 some
+      by : (1 ≤ clock_count t hs → P t) → (b : Bool) → (h.clock == t) ≡ b → 1 ≤ mark b + clock_count t hs → P t
+      by rest true e some = subst P (eqb-true h.clock t e) all.0
+      by rest false e some = rest (omega (arith, some))
 
   counted_below : (n : ℕ) (hs : List (Taken M)) → total n (λ t. clock_count t hs) ≤ length hs
   counted_below n [] = let none = total_zero n (λ t. 0) (λ t lt. refl) in omega (arith, none)
@@ -80,15 +80,15 @@ module _ {M : Type 0} where
   each_taken : (net : PureNet) (P : M → Type 0) (i : ℕ) (hs : List (Taken M)) → AllByRecursion (λ (h : Taken M). listener net h.arc ≡ Some i) hs → ((a : ℕ) → listener net a ≡ Some i → AllByRecursion P (taken_on a hs))
       → AllByRecursion (λ (h : Taken M). P h.message) hs
   each_taken net P i [] heard all = tt
-  each_taken net P i (h ∷ hs) heard all = (first (h.arc == h.arc) (same_test h.arc) (all h.arc heard.0), each_taken net P i hs heard.1 (λ a hears. others (h.arc == a) (all a hears)))
+  each_taken net P i (h ∷ hs) heard all = (first (h.arc == h.arc) (same_test h.arc) (all h.arc heard.0), each_taken net P i hs heard.1 (λ a hears. others a (h.arc == a) (all a hears)))
     where
       first : (b : Bool) → b ≡ true → AllByRecursion P (cond b (h.message ∷ taken_on h.arc hs) (taken_on h.arc hs)) → P h.message
       first true e all = all.0
       first false e all = absurd (cc)
 
-      others : {a : ℕ} (b : Bool) → AllByRecursion P (cond b (h.message ∷ taken_on a hs) (taken_on a hs)) → AllByRecursion P (taken_on a hs)
-      others true all = all.1
-      others false all = all
+      others : (a : ℕ) (b : Bool) → AllByRecursion P (cond b (h.message ∷ taken_on a hs) (taken_on a hs)) → AllByRecursion P (taken_on a hs)
+      others a true all = all.1
+      others a false all = all
 
 module _ {S M : Type 0} (k : Kind S M) (lawful : IsLawful k) (net : PureNet) (is_net : IsNet net) (c d : Machine S M) (h : ℕ → List (Taken M)) (w : Woven k net c h d) (running : IsRunning k net c)
     (n : ℕ) (up : AreUpTo k c n) where
@@ -158,13 +158,12 @@ module _ {S M : Type 0} (k : Kind S M) (lawful : IsLawful k) (net : PureNet) (is
   all_met zero some = omega (arith, some)
   all_met (suc m) some =
       let before : n + 1 + suc m ≡ n + 1 + m + 1 = omega arith in
-      let next : total (n + 1 + suc m) taken_at ≡ total (suc (n + 1 + m)) taken_at = ap (λ x. total x taken_at) (omega arith) in
-      let rest : m + 1 ≤ total (suc (n + 1 + m)) taken_at = met (after_met (n + 1 + suc m) some (n + 1 + m) before) in
+      let next : total (n + 1 + suc m) taken_at ≡ total (suc (n + 1 + m)) taken_at = (let one : n + 1 + suc m ≡ suc (n + 1 + m) = omega arith in ap (λ x. total x taken_at) one) in
+      let rest : m + 1 ≤ total (suc (n + 1 + m)) taken_at = elim (after_met (n + 1 + suc m) some (n + 1 + m) before) [
+        | inl low ↦ absurd (omega (arith, low))
+        | inr more ↦ all_met m more
+      ] in
       omega (arith, some, next, rest)
-    where
-      met : IsMet (n + 1 + m) → m + 1 ≤ total (suc (n + 1 + m)) taken_at
-      met (inl low) = absurd (omega (arith, low))
-      met (inr some) = all_met m some
 
   few_taken : (q : ℕ) → total q taken_at ≤ taken_by_all net h
   few_taken q =
@@ -183,16 +182,16 @@ module _ {S M : Type 0} (k : Kind S M) (lawful : IsLawful k) (net : PureNet) (is
     | inr low ↦ omega (arith, low)
   ]
 
-  behind_met : (t : ℕ) (hs : List (Taken M)) → IsMet t → AllByRecursion (λ (g : Taken M). IsMet g.clock) hs → IsMet (clock_past t hs)
-  behind_met t [] met all = met
-  behind_met t (g ∷ hs) met all = behind_met g.clock hs all.0 all.1
+  past_met : (t : ℕ) (hs : List (Taken M)) → IsMet t → AllByRecursion (λ (g : Taken M). IsMet g.clock) hs → IsMet (clock_past t hs)
+  past_met t [] met all = met
+  past_met t (g ∷ hs) met all = past_met g.clock hs all.0 all.1
 
   pub woven_up_to : AreUpTo k d (n + taken_by_all net h)
   woven_up_to = record { clocks = clock; stamps = stamp }
     where
       clock : (i : ℕ) → d.clock i ≤ n + taken_by_all net h
       clock i = elim (cases_lt i (length net.nodes)) [
-        | inl within ↦ subst (λ t. t ≤ n + taken_by_all net h) (sym (w.clock_is i)) (met_below (clock_past (c.clock i) (h i)) (behind_met (c.clock i) (h i) (inl (up.clocks i)) (taken_met i within)))
+        | inl within ↦ subst (λ t. t ≤ n + taken_by_all net h) (sym (w.clock_is i)) (met_below (clock_past (c.clock i) (h i)) (past_met (c.clock i) (h i) (inl (up.clocks i)) (taken_met i within)))
         | inr past ↦
             let none : h i ≡ [] = w.none_takes i (running.past i past) in
             let same : d.clock i ≡ c.clock i = w.clock_is i ∙ ap (clock_past (c.clock i)) none in
