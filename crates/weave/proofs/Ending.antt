@@ -27,6 +27,7 @@ use Rattle.woven_laws.specs.CountLaws.{total_same, total_plus, total_below}
 use Rattle.woven_laws.specs.MergedLogs.{logs_of, logs_mergeable, timed_ascends, merged_is, merged_count}
 use Rattle.weave.specs.Views.{View}
 use Rattle.weave.specs.Gathered.{block_of, machine_across, AreGathered}
+use Rattle.weave.specs.Between.{IsOneRound}
 use Rattle.weave.specs.Rounds.{IsRound, HasCome, IsOver}
 use Rattle.weave.specs.Phases.{IsPhaseEnd}
 use Rattle.weave.proofs.Runs.{map_join, none_sent, none_taken}
@@ -81,7 +82,7 @@ module _ {S M : Type 0} (k : Kind S M) (lawful : IsLawful k) (net : PureNet) (is
         total_same (length net.nodes) (λ i. length (h i ++ g i)) (λ i. length (h i) + length (g i)) (λ i lt. length-append (h i) (g i))
         ∙ total_plus (length net.nodes) (λ i. length (h i)) (λ i. length (g i))
 
-  -- and follows one round more
+  -- and after one round more
   pub come_on : (c : Machine S M) (old new : ℕ → View S M) (before after : Totals) (left : ℕ) → HasCome k net count turns c old before → left + before.taken ≤ turns → IsRound k net count left old new before after
       → HasCome k net count turns c new after
   come_on c old new before after left a is b =
@@ -104,6 +105,13 @@ module _ {S M : Type 0} (k : Kind S M) (lawful : IsLawful k) (net : PureNet) (is
         taken = omega (arith, t1, t2, t3);
         few = omega (arith, t2, few, is);
       }
+
+  -- and after one delivery between two rounds
+  pub come_one : (c : Machine S M) (old new : ℕ → View S M) (before after : Totals) (sent blocks : ℕ) → blocks ≡ count → HasCome k net count turns c old before → (before.taken ≡ turns → ⊥) → IsOneRound k net blocks old new sent
+      → after.sent ≡ before.sent + sent → after.taken ≡ before.taken + 1 → HasCome k net count turns c new after
+  come_one c old new before after sent blocks same a left one s t =
+      let most = a.few in
+      come_on c old new before after 1 a (omega (arith, most, left)) (subst (λ n. IsRound k net n 1 old new before after) same (one before after s t))
 
   -- no clock is above the number of messages that were taken
   pub come_up_to : (c : Machine S M) (views : ℕ → View S M) (totals : Totals) → IsRunning k net c → AreUpTo k c 0 → HasCome k net count turns c views totals → AreUpTo k (machine_across net count views) totals.taken
@@ -189,7 +197,7 @@ module _ {S M : Type 0} (k : Kind S M) (lawful : IsLawful k) (net : PureNet) (is
     pub mergeable : AreOfDifferentNodes logs × AllByRecursion (λ (log : NodeLog). ClocksAscend log.entries) logs
     mergeable = logs_mergeable a.history (length net.nodes) logs logs_are clocks
 
-    -- The laws of merged histories and of counts are reported by the crate that proves them.
+    -- The laws of merged histories and of counts are stated by the crate that proves them.
     pub phase_ends : ((c d : Machine S M) (history : ℕ → List (Taken M)) (journal : List Delivery) → Woven k net c history d → IsMergeOf net history journal → Ordered net journal → replay_from k net c journal ≡ Some d)
         → ((journal : List Delivery) (c : Machine S M) → Replay k net nodes journal ≡ Some c → SentIn k net nodes journal ≡ length journal + waiting_on net c)
         → ((d : Machine S M) (history : ℕ → List (Taken M)) → Woven k net (Start k nodes) history d → waiting_on net (Start k nodes) + sent_by_all k net (Start k nodes).node history ≡ taken_by_all net history + waiting_on net d)

@@ -15,15 +15,12 @@ use Rattle.node_core.specs.Kinds.{Kind, IsLawful, listener, speaker, on_arc}
 use Rattle.node_core.specs.Machine.{changed_at, clock_after, front_clock}
 use Rattle.node_core.specs.MachineLaws.{same_test, all_mapped, on_arc_join, front_is, speaks_within}
 use Rattle.node_core.specs.Running.{IsRunning}
-use Rattle.quiet_ledger.specs.declared.totals.Totals.{Totals}
 use Rattle.woven_laws.specs.ArcEnds.{hearer_within}
-use Rattle.woven_laws.specs.Counts.{taken_by_all}
-use Rattle.woven_laws.specs.Histories.{Taken, taken_on, option_out}
+use Rattle.woven_laws.specs.Histories.{taken_on, option_out}
 use Rattle.weave.specs.Arcs.{IsReplaced}
 use Rattle.weave.specs.Between.{IsPut, IsOneRound}
 use Rattle.weave.specs.Gathered.{block_of, lane_across, machine_across, AreGathered}
 use Rattle.weave.specs.Lanes.{PureLane, elsewhere, inside, HasPassed, waits_inside}
-use Rattle.weave.specs.Rounds.{IsRound}
 use Rattle.weave.specs.Views.{View, IsSeated, AreSeated, HasTaken, IsLate}
 use Rattle.weave.proofs.Linking.{keeps_then}
 use Rattle.weave.proofs.Places.{turned}
@@ -56,6 +53,17 @@ out_within {X} {S} {M} note k lawful net is_net v w e out seated x =
     all_unmapped (λ (p : ℕ × M). p.0 < length net.arcs) (noted note) out
     (subst (AllByRecursion (λ (p : ℕ × M). p.0 < length net.arcs)) (sym x.out_is)
     (subst (λ m. AllByRecursion (λ (p : ℕ × M). p.0 < length m.arcs) step.1) place.net_is within))
+
+-- what one block has of nodes, changed at one of its nodes
+across : {X : Type 0} (count : ℕ) (f g : ℕ → ℕ → X) (b i : ℕ) (v : X) → block_of count i ≡ b → ((n : ℕ) → g b n ≡ changed_at (f b) i v n) → ((c n : ℕ) → (c == b) ≡ false → g c n ≡ f c n)
+    → (j : ℕ) → g (block_of count j) j ≡ changed_at (λ n. f (block_of count n) n) i v j
+across count f g b i v stands here others j = by (block_of count j == b) refl
+  where
+    by : (t : Bool) → (block_of count j == b) ≡ t → g (block_of count j) j ≡ cond (j == i) v (f (block_of count j) j)
+    by true t = subst (λ c. g c j ≡ cond (j == i) v (f c j)) (sym (eqb-true (block_of count j) b t)) (here j)
+    by false t =
+        let other : (j == i) ≡ false = false_from_ne_true (j == i) (λ e. eqb-false (block_of count j) b t (ap (block_of count) (eqb-true j i e) ∙ stands)) in
+        rw other (others (block_of count j) j t)
 
 module _ {S M : Type 0} where
   -- of the other arcs a block has what it had
@@ -135,17 +143,6 @@ module _ {S M : Type 0} where
         by : (t : Bool) → (b == block_of count i) ≡ t → block_of count i ≡ b
         by true t = sym (eqb-true b (block_of count i) t)
         by false t = let none = gathered.own i b t in absurd (cc)
-
-    -- what one block has of nodes, changed at one of its nodes
-    across : {X : Type 0} (f g : ℕ → ℕ → X) (b i : ℕ) (v : X) → block_of count i ≡ b → ((n : ℕ) → g b n ≡ changed_at (f b) i v n) → ((c n : ℕ) → (c == b) ≡ false → g c n ≡ f c n)
-        → (j : ℕ) → g (block_of count j) j ≡ changed_at (λ n. f (block_of count n) n) i v j
-    across f g b i v stands here others j = by (block_of count j == b) refl
-      where
-        by : (t : Bool) → (block_of count j == b) ≡ t → g (block_of count j) j ≡ cond (j == i) v (f (block_of count j) j)
-        by true t = subst (λ c. g c j ≡ cond (j == i) v (f c j)) (sym (eqb-true (block_of count j) b t)) (here j)
-        by false t =
-            let other : (j == i) ≡ false = false_from_ne_true (j == i) (λ e. eqb-false (block_of count j) b t (ap (block_of count) (eqb-true j i e) ∙ stands)) in
-            rw other (others (block_of count j) j t)
 
     module _ (k : Kind S M) where
       -- each block's nodes are seated
@@ -247,11 +244,11 @@ module _ {S M : Type 0} where
                 timed = subst (λ c. e.clock ≡ max ((old c).clock x.number) (k.stamp x.message) + 1) (sym stands) x.timed;
                 out_is = x.out_is;
                 node_is = λ j. put.seats.node_is (block_of count j) j
-                    ∙ across (λ c n. (old c).node n) (λ c n. (mid c).node n) b x.number (Some (k.step x.node e.arc.0 x.message e.clock).0) stands x.node_is (λ c n ne. ap (λ (v : View S M). v.node n) (others c ne)) j;
+                    ∙ across count (λ c n. (old c).node n) (λ c n. (mid c).node n) b x.number (Some (k.step x.node e.arc.0 x.message e.clock).0) stands x.node_is (λ c n ne. ap (λ (v : View S M). v.node n) (others c ne)) j;
                 clock_is = λ j. put.seats.clock_is (block_of count j) j
-                    ∙ across (λ c n. (old c).clock n) (λ c n. (mid c).clock n) b x.number e.clock stands x.clock_is (λ c n ne. ap (λ (v : View S M). v.clock n) (others c ne)) j;
+                    ∙ across count (λ c n. (old c).clock n) (λ c n. (mid c).clock n) b x.number e.clock stands x.clock_is (λ c n ne. ap (λ (v : View S M). v.clock n) (others c ne)) j;
                 log_is = λ j. put.seats.log_is (block_of count j) j
-                    ∙ across (λ c n. (old c).log n) (λ c n. (mid c).log n) b x.number ((old (block_of count x.number)).log x.number ++ e ∷ []) stands
+                    ∙ across count (λ c n. (old c).log n) (λ c n. (mid c).log n) b x.number ((old (block_of count x.number)).log x.number ++ e ∷ []) stands
                     (λ n. subst (λ c. (mid b).log n ≡ changed_at (old b).log x.number ((old c).log x.number ++ e ∷ []) n) (sym stands) (x.log_is n)) (λ c n ne. ap (λ (v : View S M). v.log n) (others c ne)) j;
                 lane_is = lane_passed;
               }

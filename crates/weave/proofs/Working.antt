@@ -1,5 +1,5 @@
 -- What a worker does with its part adds up, counts and all.
-use Rattle.std.proofs.Common.{◌≡◌, ℕ, zero, suc, ◌+◌, ◌*◌, ◌<◌, ◌≤◌, List, [], ◌++◌, length, refl, sym, ap, subst, arith}
+use Rattle.std.proofs.Common.{◌≡◌, ℕ, zero, suc, ◌+◌, ◌*◌, ◌<◌, ◌≤◌, [], ◌++◌, Some, length, sym, ap, subst, arith}
 use Rattle.net_graph.specs.Nets.{PureNet, IsNet}
 use Rattle.net_graph.specs.declared.limits.TheConstants.{MAX_ARCS}
 use Rattle.quiet_ledger.specs.declared.book.TheConstants.{MAX_SHARE}

@@ -28,7 +28,7 @@ unreachable-requires g c =
     let old = view_at k.state k.note blocks.items in
     let listens : listener net c.args.arc.0 ≡ Some arc.tail = ap (option_map (λ (a : PureArc). a.tail)) c.arc.ensures.arc in
     let stands = stands_at c.block_at-block.result c.len.result n arc.tail c.block_at-block.ensures.block c.len.ensures in
-    let late = rw c.in-None.is at c.in_ok-made.ensures.late in
+    let late = rw c.in_default.is at c.in_ok-made.ensures.late in
     not_late net n k.kind old c.requires.net c.requires.gathered c.requires.running c.args.arc.0 arc.tail listens c.requires.waits c.requires.early
     (subst (λ b. IsLate k.kind net (old b) c.args.arc.0) stands late)
 

@@ -10,8 +10,8 @@ pub hear-requires-clause-seated : goal.hear-requires-clause-seated
 hear-requires-clause-seated g c =
     let k = g.N.NodeCore in
     let blocks = c.args.blocks.now in
-    let at = slice_get_read blocks.items (vec_len blocks) c.args.block c.index_mut.result.now blocks.ok.0 c.requires.block c.index_mut.ensures.value in
-    subst (AreSeated k.kind c.args.net.now) (view_here k.state k.note blocks.items c.args.block c.index_mut.result.now at) c.requires.seated
+    let at = slice_get_read blocks.items (vec_len blocks) c.args.block c.index_mut-here.result.now blocks.ok.0 c.requires.block c.index_mut-here.ensures.value in
+    subst (AreSeated k.kind c.args.net.now) (view_here k.state k.note blocks.items c.args.block c.index_mut-here.result.now at) c.requires.seated
 
 pub returns-clause-others : goal.returns-clause-others
 returns-clause-others g c b ne = view_other g.N.NodeCore.state g.N.NodeCore.note c.args.blocks.now.items c.args.block _ b ne
@@ -20,14 +20,14 @@ pub returns-clause-some : goal.returns-clause-some
 returns-clause-some g c =
     let k = g.N.NodeCore in
     let blocks = c.args.blocks.now in
-    let at = slice_get_read blocks.items (vec_len blocks) c.args.block c.index_mut.result.now blocks.ok.0 c.requires.block c.index_mut.ensures.value in
+    let at = slice_get_read blocks.items (vec_len blocks) c.args.block c.index_mut-here.result.now blocks.ok.0 c.requires.block c.index_mut-here.ensures.value in
     subst₂ (λ v w. IfOk c.hear.result (λ made. IfSome made (λ e. HasTaken k.kind c.args.net.now v e (map (noted k.note) c.hear.new.out) [] w)))
-    (sym (view_here k.state k.note blocks.items c.args.block c.index_mut.result.now at)) (sym (view_set k.state k.note blocks.items c.args.block c.index_mut.result.now _ at)) c.hear.ensures.some
+    (sym (view_here k.state k.note blocks.items c.args.block c.index_mut-here.result.now at)) (sym (view_set k.state k.note blocks.items c.args.block c.index_mut-here.result.now _ at)) c.hear.ensures.some
 
 pub returns-clause-late : goal.returns-clause-late
 returns-clause-late g c =
     let k = g.N.NodeCore in
     let blocks = c.args.blocks.now in
-    let at = slice_get_read blocks.items (vec_len blocks) c.args.block c.index_mut.result.now blocks.ok.0 c.requires.block c.index_mut.ensures.value in
+    let at = slice_get_read blocks.items (vec_len blocks) c.args.block c.index_mut-here.result.now blocks.ok.0 c.requires.block c.index_mut-here.ensures.value in
     subst (λ v. IfOk c.hear.result (λ made. IfNone made (IsLate k.kind c.args.net.now v c.args.arc.0)))
-    (sym (view_here k.state k.note blocks.items c.args.block c.index_mut.result.now at)) c.hear.ensures.late
+    (sym (view_here k.state k.note blocks.items c.args.block c.index_mut-here.result.now at)) c.hear.ensures.late

@@ -1,4 +1,4 @@
-use Rattle.std.proofs.Common.{◌++◌, ◌∷◌, [], ◌∙◌, map, refl, subst, sym, vec_len}
+use Rattle.std.proofs.Common.{◌∷◌, [], ◌∙◌, map, refl, subst, sym, vec_len}
 use Rattle.std.proofs.lemmas.List.{map-append}
 use Rattle.node_core.specs.Configs.{noted}
 use Rattle.weave.specs.Between.{IsPut}

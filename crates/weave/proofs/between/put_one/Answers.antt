@@ -3,7 +3,7 @@ use Rattle.std.proofs.lemmas.List.{map-append}
 use Rattle.link_queues.specs.Locals.{waiting_of}
 use Rattle.net_graph.specs.Nets.{PureArc}
 use Rattle.net_graph.specs.Views.{pure_arc}
-use Rattle.weave.specs.Arcs.{IsReplaced, IsWhole}
+use Rattle.weave.specs.Arcs.{IsReplaced}
 use Rattle.weave.specs.Gathered.{view_at}
 use Rattle.weave.specs.Lanes.{inside, lane_of, noted_lane}
 use Rattle.weave.proofs.OneRound.{put_one}

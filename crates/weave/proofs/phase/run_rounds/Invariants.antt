@@ -7,8 +7,8 @@ use Rattle.weave.specs.Rounds.{HasCome}
 use Rattle.weave.proofs.phase.run_rounds.Given as goal
 
 -- the rounds so far led to the blocks and totals
-abbrev pub invariant-loop-blocks : goal.invariant-loop-blocks
-invariant-loop-blocks g l =
+abbrev pub invariant-loop-totals : goal.invariant-loop-totals
+invariant-loop-totals g l =
     let k = g.N.NodeCore in
     let n = vec_len l.fn.blocks in
     record {
@@ -18,5 +18,5 @@ invariant-loop-blocks g l =
     }
 
 -- each round after the first takes a message
-abbrev pub decreases-loop-blocks : goal.decreases-loop-blocks
-decreases-loop-blocks g l = l.turns - l.totals.taken
+abbrev pub decreases-loop-totals : goal.decreases-loop-totals
+decreases-loop-totals g l = l.turns - l.totals.taken

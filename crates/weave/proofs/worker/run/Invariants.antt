@@ -4,8 +4,8 @@ use Rattle.weave.specs.Blocks.{HasWorked, IsReady}
 use Rattle.weave.proofs.worker.run.Given as goal
 
 -- so far the worker worked
-abbrev pub invariant-loop-looks : goal.invariant-loop-looks
-invariant-loop-looks g l =
+abbrev pub invariant-loop-is_fruitful : goal.invariant-loop-is_fruitful
+invariant-loop-is_fruitful g l =
     let k = g.N.NodeCore in
     record {
       worked : HasWorked k.state k.note k.kind l.net l.fn.part l.part;
@@ -14,5 +14,5 @@ invariant-loop-looks g l =
     }
 
 -- each stretch uses a turn, or is a look more
-abbrev pub decreases-loop-looks : goal.decreases-loop-looks
-decreases-loop-looks g l = l.part.turns * (LOOKS + 1) + (LOOKS - l.looks)
+abbrev pub decreases-loop-is_fruitful : goal.decreases-loop-is_fruitful
+decreases-loop-is_fruitful g l = l.part.turns * (LOOKS + 1) + (LOOKS - l.looks)
