@@ -88,8 +88,8 @@ fn put_all<N: NodeCore>(
 }
 
 /// The listener of the arc takes the message in front there, and what it puts out waits with the listeners of its arcs.
-/// Nothing is on a link. The gate gets a report of the delivery, as made by a worker of that number. It answers how many
-/// messages were sent.
+/// Nothing is on a link. The gate gets a report of the delivery, as made by a worker of that number. It answers how
+/// many messages were sent.
 pub(crate) fn deliver_between<N: NodeCore, G: Gate>(
     alloc: Global,
     net: &Net,
