@@ -11,7 +11,8 @@ use Rattle.alg_model.specs.declared.tree.Value.{Value}
 use Rattle.alg_classes.specs.declared.class.Examples.{Examples}
 use Rattle.alg_classes.specs.Classes.{pure_at, pure_between, pure_examples, Settles, IsSettledBy, ExampleAtMost, ExamplesAtMost}
 use Rattle.alg_classes.specs.Constants.{constant, kept, constant_profile, kept_profile, unless, some_worse, two_apart, pure_two, TwoAtMost, constant_settled, kept_settled}
-use Rattle.alg_classes.specs.Facts.{total, dead, mono, strict, iso, canc, cond, narrow, at, between}
+use Rattle.alg_classes.specs.declared.fact.Fact.TheVariants.{Total, Dead, Monotone, Strict, Isotone, Cancellative, Condensed, Narrow}
+use Rattle.alg_classes.specs.Facts.{at, between}
 use Rattle.alg_classes.specs.Flat.{is_flat, has_worse, best, worse_than}
 use Rattle.alg_classes.specs.FlatLaws.{value_fits}
 
@@ -64,55 +65,55 @@ two_small (Some p) h = h
 pub constant_settles : (c : PureCarrier) (v : PureValue) (i : Value) (w : Option Value) (s : Value) (p q : Option (Value × Value)) → IsCarrier c → In c v
     → pure_value i ≡ v → option_map pure_value w ≡ some_worse c v → pure_value s ≡ v → option_map pure_two p ≡ two_apart c → option_map pure_two q ≡ two_apart c
     → IsSettledBy c (constant v) (constant_profile c v) (pure_examples (examples_of_constant i w s p q))
-constant_settles c v i w s p q is h ei ew es ep eq total = constant_settled c v is h total
-constant_settles c v i w s p q is h ei ew es ep eq dead =
-    subst (λ x. Settles c (constant v) dead false (Some (at x))) (sym ei) (constant_settled c v is h dead)
-constant_settles c v i w s p q is h ei ew es ep eq mono =
-    subst (Settles c (constant v) mono (not (has_worse c v))) (sym (one_example w (not (has_worse c v)) (worse_than c v) ew)) (constant_settled c v is h mono)
-constant_settles c v i w s p q is h ei ew es ep eq strict =
-    subst (λ x. Settles c (constant v) strict false (Some (at x))) (sym es) (constant_settled c v is h strict)
-constant_settles c v i w s p q is h ei ew es ep eq iso = constant_settled c v is h iso
-constant_settles c v i w s p q is h ei ew es ep eq canc =
-    subst (Settles c (constant v) canc (is_flat c)) (sym (two_example p (is_flat c) (best c) (worse_than c (best c)) ep)) (constant_settled c v is h canc)
-constant_settles c v i w s p q is h ei ew es ep eq cond = constant_settled c v is h cond
-constant_settles c v i w s p q is h ei ew es ep eq narrow =
-    subst (Settles c (constant v) narrow (is_flat c)) (sym (two_example q (is_flat c) (best c) (worse_than c (best c)) eq)) (constant_settled c v is h narrow)
+constant_settles c v i w s p q is h ei ew es ep eq Total = constant_settled c v is h Total
+constant_settles c v i w s p q is h ei ew es ep eq Dead =
+    subst (λ x. Settles c (constant v) Dead false (Some (at x))) (sym ei) (constant_settled c v is h Dead)
+constant_settles c v i w s p q is h ei ew es ep eq Monotone =
+    subst (Settles c (constant v) Monotone (not (has_worse c v))) (sym (one_example w (not (has_worse c v)) (worse_than c v) ew)) (constant_settled c v is h Monotone)
+constant_settles c v i w s p q is h ei ew es ep eq Strict =
+    subst (λ x. Settles c (constant v) Strict false (Some (at x))) (sym es) (constant_settled c v is h Strict)
+constant_settles c v i w s p q is h ei ew es ep eq Isotone = constant_settled c v is h Isotone
+constant_settles c v i w s p q is h ei ew es ep eq Cancellative =
+    subst (Settles c (constant v) Cancellative (is_flat c)) (sym (two_example p (is_flat c) (best c) (worse_than c (best c)) ep)) (constant_settled c v is h Cancellative)
+constant_settles c v i w s p q is h ei ew es ep eq Condensed = constant_settled c v is h Condensed
+constant_settles c v i w s p q is h ei ew es ep eq Narrow =
+    subst (Settles c (constant v) Narrow (is_flat c)) (sym (two_example q (is_flat c) (best c) (worse_than c (best c)) eq)) (constant_settled c v is h Narrow)
 
 pub constant_small : (i : Value) (w : Option Value) (s : Value) (p q : Option (Value × Value))
     → AtMost MAX_LABEL_NUMBER (pure_value i) → IfSome w (λ w. AtMost MAX_INSTANCE_NUMBER (pure_value w)) → AtMost MAX_LABEL_NUMBER (pure_value s)
     → IfSome p (TwoAtMost MAX_INSTANCE_NUMBER) → IfSome q (TwoAtMost MAX_INSTANCE_NUMBER)
     → ExamplesAtMost MAX_INSTANCE_NUMBER (pure_examples (examples_of_constant i w s p q))
-constant_small i w s p q hi hw hs hp hq total = tt
-constant_small i w s p q hi hw hs hp hq dead = value_fits (pure_value i) hi
-constant_small i w s p q hi hw hs hp hq mono = one_small w hw
-constant_small i w s p q hi hw hs hp hq strict = value_fits (pure_value s) hs
-constant_small i w s p q hi hw hs hp hq iso = tt
-constant_small i w s p q hi hw hs hp hq canc = two_small p hp
-constant_small i w s p q hi hw hs hp hq cond = tt
-constant_small i w s p q hi hw hs hp hq narrow = two_small q hq
+constant_small i w s p q hi hw hs hp hq Total = tt
+constant_small i w s p q hi hw hs hp hq Dead = value_fits (pure_value i) hi
+constant_small i w s p q hi hw hs hp hq Monotone = one_small w hw
+constant_small i w s p q hi hw hs hp hq Strict = value_fits (pure_value s) hs
+constant_small i w s p q hi hw hs hp hq Isotone = tt
+constant_small i w s p q hi hw hs hp hq Cancellative = two_small p hp
+constant_small i w s p q hi hw hs hp hq Condensed = tt
+constant_small i w s p q hi hw hs hp hq Narrow = two_small q hq
 
 pub kept_settles : (c : PureCarrier) (i s : Value) (p q : Option (Value × Value)) → IsCarrier c
     → pure_value i ≡ best c → pure_value s ≡ best c → option_map pure_two p ≡ two_apart c → option_map pure_two q ≡ two_apart c
     → IsSettledBy c kept (kept_profile c) (pure_examples (examples_of_kept i s p q))
-kept_settles c i s p q is ei es ep eq total = kept_settled c is total
-kept_settles c i s p q is ei es ep eq dead = subst (λ x. Settles c kept dead false (Some (at x))) (sym ei) (kept_settled c is dead)
-kept_settles c i s p q is ei es ep eq mono = kept_settled c is mono
-kept_settles c i s p q is ei es ep eq strict = subst (λ x. Settles c kept strict false (Some (at x))) (sym es) (kept_settled c is strict)
-kept_settles c i s p q is ei es ep eq iso = kept_settled c is iso
-kept_settles c i s p q is ei es ep eq canc = kept_settled c is canc
-kept_settles c i s p q is ei es ep eq cond =
-    subst (Settles c kept cond (is_flat c)) (sym (two_example p (is_flat c) (best c) (worse_than c (best c)) ep)) (kept_settled c is cond)
-kept_settles c i s p q is ei es ep eq narrow =
-    subst (Settles c kept narrow (is_flat c)) (sym (two_example q (is_flat c) (best c) (worse_than c (best c)) eq)) (kept_settled c is narrow)
+kept_settles c i s p q is ei es ep eq Total = kept_settled c is Total
+kept_settles c i s p q is ei es ep eq Dead = subst (λ x. Settles c kept Dead false (Some (at x))) (sym ei) (kept_settled c is Dead)
+kept_settles c i s p q is ei es ep eq Monotone = kept_settled c is Monotone
+kept_settles c i s p q is ei es ep eq Strict = subst (λ x. Settles c kept Strict false (Some (at x))) (sym es) (kept_settled c is Strict)
+kept_settles c i s p q is ei es ep eq Isotone = kept_settled c is Isotone
+kept_settles c i s p q is ei es ep eq Cancellative = kept_settled c is Cancellative
+kept_settles c i s p q is ei es ep eq Condensed =
+    subst (Settles c kept Condensed (is_flat c)) (sym (two_example p (is_flat c) (best c) (worse_than c (best c)) ep)) (kept_settled c is Condensed)
+kept_settles c i s p q is ei es ep eq Narrow =
+    subst (Settles c kept Narrow (is_flat c)) (sym (two_example q (is_flat c) (best c) (worse_than c (best c)) eq)) (kept_settled c is Narrow)
 
 pub kept_small : (i s : Value) (p q : Option (Value × Value)) → AtMost MAX_LABEL_NUMBER (pure_value i) → AtMost MAX_LABEL_NUMBER (pure_value s)
     → IfSome p (TwoAtMost MAX_INSTANCE_NUMBER) → IfSome q (TwoAtMost MAX_INSTANCE_NUMBER)
     → ExamplesAtMost MAX_INSTANCE_NUMBER (pure_examples (examples_of_kept i s p q))
-kept_small i s p q hi hs hp hq total = tt
-kept_small i s p q hi hs hp hq dead = value_fits (pure_value i) hi
-kept_small i s p q hi hs hp hq mono = tt
-kept_small i s p q hi hs hp hq strict = value_fits (pure_value s) hs
-kept_small i s p q hi hs hp hq iso = tt
-kept_small i s p q hi hs hp hq canc = tt
-kept_small i s p q hi hs hp hq cond = two_small p hp
-kept_small i s p q hi hs hp hq narrow = two_small q hq
+kept_small i s p q hi hs hp hq Total = tt
+kept_small i s p q hi hs hp hq Dead = value_fits (pure_value i) hi
+kept_small i s p q hi hs hp hq Monotone = tt
+kept_small i s p q hi hs hp hq Strict = value_fits (pure_value s) hs
+kept_small i s p q hi hs hp hq Isotone = tt
+kept_small i s p q hi hs hp hq Cancellative = tt
+kept_small i s p q hi hs hp hq Condensed = two_small p hp
+kept_small i s p q hi hs hp hq Narrow = two_small q hq

@@ -5,7 +5,7 @@ use Rattle.std.proofs.lemmas.Bool.{and_parts}
 use Rattle.std.proofs.lemmas.List.{take_all}
 use Rattle.alg_classes.specs.declared.profile.Profile.{Profile}
 use Rattle.alg_classes.specs.declared.class.Class.{Class}
-use Rattle.alg_classes.specs.Classes.{HasProfile, AreDistinct}
+use Rattle.alg_classes.specs.Classes.{HasProfile, AreDistinct, of_class}
 use Rattle.alg_classes.specs.ListLaws.{distinct_and_one}
 
 same_bit : (a b : Bool) → beq a b ≡ true → a ≡ b
@@ -64,17 +64,8 @@ pub test_of_same : (p q : Profile) → p ≡ q → test p q ≡ true
 test_of_same p q e = subst (λ r. test p r ≡ true) e
     (rw (bit_is_same p.total, bit_is_same p.dead, bit_is_same p.mono, bit_is_same p.strict, bit_is_same p.iso, bit_is_same p.canc, bit_is_same p.cond, bit_is_same p.narrow) refl)
 
--- a list that isn't empty is its first class and the rest
-pub taken_apart : (P : List Class → Type 0) (classes : List Class) (class : Class) → 1 ≤ length classes → class ≡ get_or classes 0 class
-    → P (class ∷ take (length classes - 1) (drop 1 classes)) → P classes
-taken_apart P [] class some first h = absurd (omega arith)
-taken_apart P (d ∷ ds) class some first h =
-    let others : length (d ∷ ds) - 1 ≡ length ds = omega arith in
-    let rest : take (length (d ∷ ds) - 1) ds ≡ ds = rw others (take_all (length ds) ds (omega arith)) in
-    subst (λ x. P (x ∷ ds)) first (subst (λ r. P (class ∷ r)) rest h)
-
 -- a list stays distinct where a class of a new profile is pushed, or memory is refused
 pub distinct_after_push : {A E : Type 0} (r : Result A E) (old new : List Class) (class : Class) → AreDistinct old → ¬ HasProfile old class.profile
     → OnOk r (new ≡ old ++ class ∷ []) → OnErr r (new ≡ old) → AreDistinct new
-distinct_after_push (Ok x) old new class d none ok err = subst AreDistinct (sym ok) (distinct_and_one old class d none)
+distinct_after_push (Ok x) old new class d none ok err = subst AreDistinct (sym ok) (distinct_and_one of_class old class d none)
 distinct_after_push (Err e) old new class d none ok err = subst AreDistinct (sym err) d

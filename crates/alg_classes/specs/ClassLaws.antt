@@ -8,7 +8,9 @@ use Rattle.alg_model.specs.Application.{IsLabel, App}
 use Rattle.alg_model.specs.Formation.{IsFormed}
 use Rattle.alg_model.specs.Laws.{images_in}
 use Rattle.alg_classes.specs.declared.profile.Profile.{Profile}
-use Rattle.alg_classes.specs.Facts.{Action, Fact, total, dead, mono, strict, iso, canc, cond, narrow, Holds, PureExample}
+use Rattle.alg_classes.specs.declared.fact.Fact.{Fact}
+use Rattle.alg_classes.specs.declared.fact.Fact.TheVariants.{Total, Dead, Monotone, Strict, Isotone, Cancellative, Condensed, Narrow}
+use Rattle.alg_classes.specs.Facts.{Action, Holds, PureExample}
 use Rattle.alg_classes.specs.declared.class.Class.{Class}
 use Rattle.alg_classes.specs.Profiles.{bit, IsProfile, ProfileOf}
 use Rattle.alg_classes.specs.Classes.{PureExamples, pure_examples, Settles, IsSettledBy, ClassOf}
@@ -41,31 +43,31 @@ one_settled c f kept k false t n = let e = t.1 (holds_unless c f kept k (λ e r.
 
 -- an example for each fact
 abbrev examples_by : Option PureExample → Option PureExample → Option PureExample → Option PureExample → Option PureExample → Option PureExample → Option PureExample → Option PureExample → PureExamples
-examples_by x1 x2 x3 x4 x5 x6 x7 x8 total = x1
-examples_by x1 x2 x3 x4 x5 x6 x7 x8 dead = x2
-examples_by x1 x2 x3 x4 x5 x6 x7 x8 mono = x3
-examples_by x1 x2 x3 x4 x5 x6 x7 x8 strict = x4
-examples_by x1 x2 x3 x4 x5 x6 x7 x8 iso = x5
-examples_by x1 x2 x3 x4 x5 x6 x7 x8 canc = x6
-examples_by x1 x2 x3 x4 x5 x6 x7 x8 cond = x7
-examples_by x1 x2 x3 x4 x5 x6 x7 x8 narrow = x8
+examples_by x1 x2 x3 x4 x5 x6 x7 x8 Total = x1
+examples_by x1 x2 x3 x4 x5 x6 x7 x8 Dead = x2
+examples_by x1 x2 x3 x4 x5 x6 x7 x8 Monotone = x3
+examples_by x1 x2 x3 x4 x5 x6 x7 x8 Strict = x4
+examples_by x1 x2 x3 x4 x5 x6 x7 x8 Isotone = x5
+examples_by x1 x2 x3 x4 x5 x6 x7 x8 Cancellative = x6
+examples_by x1 x2 x3 x4 x5 x6 x7 x8 Condensed = x7
+examples_by x1 x2 x3 x4 x5 x6 x7 x8 Narrow = x8
 
 -- what holds of each of the eight facts holds of all
-pub on_all : (P : Fact → Type 0) → P total → P dead → P mono → P strict → P iso → P canc → P cond → P narrow → (k : Fact) → P k
-on_all P h1 h2 h3 h4 h5 h6 h7 h8 total = h1
-on_all P h1 h2 h3 h4 h5 h6 h7 h8 dead = h2
-on_all P h1 h2 h3 h4 h5 h6 h7 h8 mono = h3
-on_all P h1 h2 h3 h4 h5 h6 h7 h8 strict = h4
-on_all P h1 h2 h3 h4 h5 h6 h7 h8 iso = h5
-on_all P h1 h2 h3 h4 h5 h6 h7 h8 canc = h6
-on_all P h1 h2 h3 h4 h5 h6 h7 h8 cond = h7
-on_all P h1 h2 h3 h4 h5 h6 h7 h8 narrow = h8
+pub on_all : (P : Fact → Type 0) → P Total → P Dead → P Monotone → P Strict → P Isotone → P Cancellative → P Condensed → P Narrow → (k : Fact) → P k
+on_all P h1 h2 h3 h4 h5 h6 h7 h8 Total = h1
+on_all P h1 h2 h3 h4 h5 h6 h7 h8 Dead = h2
+on_all P h1 h2 h3 h4 h5 h6 h7 h8 Monotone = h3
+on_all P h1 h2 h3 h4 h5 h6 h7 h8 Strict = h4
+on_all P h1 h2 h3 h4 h5 h6 h7 h8 Isotone = h5
+on_all P h1 h2 h3 h4 h5 h6 h7 h8 Cancellative = h6
+on_all P h1 h2 h3 h4 h5 h6 h7 h8 Condensed = h7
+on_all P h1 h2 h3 h4 h5 h6 h7 h8 Narrow = h8
 
 -- there is nothing against examples that settle what a profile tells
 pub some_settled : (c : PureCarrier) (f : Action) → Keeps c f → (p : Profile) → IsProfile c f p → ¬ ¬ ((x : PureExamples) × IsSettledBy c f p x)
 some_settled c f kept p is n =
     let one : (k : Fact) → ¬ ¬ ((o : Option PureExample) × Settles c f k (bit p k) o) = λ k. one_settled c f kept k (bit p k) (is k) in
-    one total (λ x1. one dead (λ x2. one mono (λ x3. one strict (λ x4. one iso (λ x5. one canc (λ x6. one cond (λ x7. one narrow (λ x8.
+    one Total (λ x1. one Dead (λ x2. one Monotone (λ x3. one Strict (λ x4. one Isotone (λ x5. one Cancellative (λ x6. one Condensed (λ x7. one Narrow (λ x8.
     let x = examples_by x1.0 x2.0 x3.0 x4.0 x5.0 x6.0 x7.0 x8.0 in
     n (x, on_all (λ k. Settles c f k (bit p k) (x k)) x1.1 x2.1 x3.1 x4.1 x5.1 x6.1 x7.1 x8.1)))))))))
 

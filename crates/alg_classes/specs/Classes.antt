@@ -3,7 +3,7 @@
 use Rattle.std.specs.Prelude.{◌≡◌, ℕ, List, [], ◌∷◌, ◌++◌, ◌⊎◌, Bool, true, false, Option, Some, None, option_map}
 use Rattle.std.specs.List.{AllByRecursion}
 use Rattle.alg_model.specs.declared.edition.Edition.{Edition}
-use Rattle.alg_model.specs.declared.alg.TheConstants.{MAX_INSTANCE_NUMBER}
+use Rattle.alg_model.specs.Numbers.{max_instance_number}
 use Rattle.alg_model.specs.Expressions.{Expression, PureAlg, PureCarrier, PureLabel}
 use Rattle.alg_model.specs.Views.{pure_value, pure_label}
 use Rattle.alg_model.specs.Carriers.{carrier_of}
@@ -12,8 +12,12 @@ use Rattle.alg_model.specs.Bounds.{AtMost, LabelAtMost, greatest_number}
 use Rattle.alg_model.specs.declared.tree.Value.{Value}
 use Rattle.alg_classes.specs.declared.profile.Profile.{Profile}
 use Rattle.alg_classes.specs.declared.class.Examples.{Examples}
+use Rattle.alg_classes.specs.declared.example.Example.{Example}
+use Rattle.alg_classes.specs.declared.example.Example.TheVariants.{At, Between}
 use Rattle.alg_classes.specs.declared.class.Class.{Class}
-use Rattle.alg_classes.specs.Facts.{Action, Fact, total, dead, mono, strict, iso, canc, cond, narrow, Holds, PureExample, at, between, Refutes}
+use Rattle.alg_classes.specs.declared.fact.Fact.{Fact}
+use Rattle.alg_classes.specs.declared.fact.Fact.TheVariants.{Total, Dead, Monotone, Strict, Isotone, Cancellative, Condensed, Narrow}
+use Rattle.alg_classes.specs.Facts.{Action, Holds, PureExample, at, between, Refutes}
 use Rattle.alg_classes.specs.Profiles.{bit, ProfileOf}
 
 abbrev pub pure_at : Value → PureExample
@@ -22,19 +26,23 @@ pure_at v = at (pure_value v)
 abbrev pub pure_between : Value × Value → PureExample
 pure_between p = between (pure_value p.0) (pure_value p.1)
 
+abbrev pub pure_example : Example → PureExample
+pure_example (At v) = at (pure_value v)
+pure_example (Between u v) = between (pure_value u) (pure_value v)
+
 -- an example for each fact, where there is one
 abbrev pub PureExamples : Type 0
 PureExamples = Fact → Option PureExample
 
 abbrev pub pure_examples : Examples → PureExamples
-pure_examples x total = option_map pure_at x.outside
-pure_examples x dead = option_map pure_at x.inside
-pure_examples x mono = option_map pure_at x.not_mono
-pure_examples x strict = option_map pure_at x.not_strict
-pure_examples x iso = option_map pure_between x.not_iso
-pure_examples x canc = option_map pure_between x.not_canc
-pure_examples x cond = option_map pure_between x.not_cond
-pure_examples x narrow = option_map pure_between x.not_narrow
+pure_examples x Total = option_map pure_at x.outside
+pure_examples x Dead = option_map pure_at x.inside
+pure_examples x Monotone = option_map pure_at x.not_mono
+pure_examples x Strict = option_map pure_at x.not_strict
+pure_examples x Isotone = option_map pure_between x.not_iso
+pure_examples x Cancellative = option_map pure_between x.not_canc
+pure_examples x Condensed = option_map pure_between x.not_cond
+pure_examples x Narrow = option_map pure_between x.not_narrow
 
 -- the fact holds and no example is there; or it doesn't, and the example shows it
 abbrev pub Settles : PureCarrier → Action → Fact → Bool → Option PureExample → Type 0
@@ -65,17 +73,27 @@ pub record ClassOf (a : PureAlg) (class : Class) : Type 0 where
   pub label : IsLabel a.expression (pure_label class.label)
   pub label_bound : LabelAtMost (greatest_number a.edition) (pure_label class.label)
   pub settled : IsSettledBy (carrier_of a.expression) (App a.expression (pure_label class.label)) class.profile (pure_examples class.examples)
-  pub bound : ExamplesAtMost MAX_INSTANCE_NUMBER (pure_examples class.examples)
+  pub bound : ExamplesAtMost max_instance_number (pure_examples class.examples)
 
--- a class of the list has the profile
+-- an item of the list has the profile
+abbrev pub HasBy : {A : Type 0} → (A → Profile) → List A → Profile → Type 0
+HasBy of [] p = ⊥
+HasBy of (x ∷ xs) p = (of x ≡ p) ⊎ HasBy of xs p
+
+-- no two items have one profile
+abbrev pub AreDistinctBy : {A : Type 0} → (A → Profile) → List A → Type 0
+AreDistinctBy of [] = Unit {0}
+AreDistinctBy of (x ∷ xs) = (¬ HasBy of xs (of x)) × AreDistinctBy of xs
+
+-- the same of classes
+abbrev pub of_class : Class → Profile
+of_class class = class.profile
+
 abbrev pub HasProfile : List Class → Profile → Type 0
-HasProfile [] p = ⊥
-HasProfile (class ∷ classes) p = (class.profile ≡ p) ⊎ HasProfile classes p
+HasProfile = HasBy of_class
 
--- no two classes have one profile
 abbrev pub AreDistinct : List Class → Type 0
-AreDistinct [] = Unit {0}
-AreDistinct (class ∷ classes) = (¬ HasProfile classes class.profile) × AreDistinct classes
+AreDistinct = AreDistinctBy of_class
 
 -- the truth value says exactly whether it holds
 abbrev pub IsTruthOf : Bool → Type 0 → Type 0

@@ -1,5 +1,5 @@
--- The facts of two actions: that which sends every value to one, and that which keeps every value. With an
--- example for each that fails, which settles it.
+-- The facts of three actions: that which sends every value to one, that which keeps every value, and that which sends
+-- every value to none. With an example for each that fails, which settles it.
 use Rattle.std.proofs.Common.{◌≡◌, ℕ, refl, sym, subst, Bool, true, false, not, Option, Some, None}
 use Rattle.std.specs.declared.cmp.Ordering.TheVariants.{Less, Equal}
 use Rattle.alg_model.specs.Expressions.{Expression, left, right, scoped}
@@ -12,7 +12,9 @@ use Rattle.alg_model.specs.Formation.{IsCarrier}
 use Rattle.alg_model.specs.Views.{pure_value}
 use Rattle.alg_model.specs.declared.tree.Value.{Value}
 use Rattle.alg_classes.specs.declared.profile.Profile.{Profile}
-use Rattle.alg_classes.specs.Facts.{Action, Fact, total, dead, mono, strict, iso, canc, cond, narrow, Holds, PureExample, at, between, Refutes}
+use Rattle.alg_classes.specs.declared.fact.Fact.{Fact}
+use Rattle.alg_classes.specs.declared.fact.Fact.TheVariants.{Total, Dead, Monotone, Strict, Isotone, Cancellative, Condensed, Narrow}
+use Rattle.alg_classes.specs.Facts.{Action, Holds, PureExample, at, between, Refutes}
 use Rattle.alg_classes.specs.Profiles.{IsProfile, ProfileOf}
 use Rattle.alg_classes.specs.Classes.{PureExamples, Settles, IsSettledBy}
 use Rattle.alg_classes.specs.FactLaws.{Keeps}
@@ -28,7 +30,11 @@ constant v u = Some v
 abbrev pub kept : Action
 kept u = Some u
 
--- their profiles, by whether the carrier is flat and whether a value is worse
+-- every value is sent to none
+abbrev pub denied : Action
+denied u = None
+
+-- the profiles of the first two, by whether the carrier is flat and whether a value is worse
 abbrev pub constant_bits : Bool → Bool → Profile
 constant_bits flat worse = record {
   total = true;
@@ -51,6 +57,19 @@ kept_bits flat = record {
   canc = true;
   cond = flat;
   narrow = flat;
+}
+
+-- the profile of the third
+abbrev pub denied_profile : Profile
+denied_profile = record {
+  total = false;
+  dead = true;
+  mono = true;
+  strict = true;
+  iso = true;
+  canc = true;
+  cond = true;
+  narrow = true;
 }
 
 abbrev pub constant_profile : PureCarrier → PureValue → Profile
@@ -94,24 +113,29 @@ abbrev pub apart : PureCarrier → PureExample
 apart c = between (best c) (worse_than c (best c))
 
 abbrev pub constant_examples : PureCarrier → PureValue → PureExamples
-constant_examples c v total = None
-constant_examples c v dead = Some (at v)
-constant_examples c v mono = unless (not (has_worse c v)) (at (worse_than c v))
-constant_examples c v strict = Some (at v)
-constant_examples c v iso = None
-constant_examples c v canc = unless (is_flat c) (apart c)
-constant_examples c v cond = None
-constant_examples c v narrow = unless (is_flat c) (apart c)
+constant_examples c v Total = None
+constant_examples c v Dead = Some (at v)
+constant_examples c v Monotone = unless (not (has_worse c v)) (at (worse_than c v))
+constant_examples c v Strict = Some (at v)
+constant_examples c v Isotone = None
+constant_examples c v Cancellative = unless (is_flat c) (apart c)
+constant_examples c v Condensed = None
+constant_examples c v Narrow = unless (is_flat c) (apart c)
 
 abbrev pub kept_examples : PureCarrier → PureExamples
-kept_examples c total = None
-kept_examples c dead = Some (at (best c))
-kept_examples c mono = None
-kept_examples c strict = Some (at (best c))
-kept_examples c iso = None
-kept_examples c canc = None
-kept_examples c cond = unless (is_flat c) (apart c)
-kept_examples c narrow = unless (is_flat c) (apart c)
+kept_examples c Total = None
+kept_examples c Dead = Some (at (best c))
+kept_examples c Monotone = None
+kept_examples c Strict = Some (at (best c))
+kept_examples c Isotone = None
+kept_examples c Cancellative = None
+kept_examples c Condensed = unless (is_flat c) (apart c)
+kept_examples c Narrow = unless (is_flat c) (apart c)
+
+-- where all values are sent to none, any value shows that the action isn't total
+abbrev pub denied_examples : PureValue → PureExamples
+denied_examples v Total = Some (at v)
+denied_examples v _ = None
 
 settled_unless : (c : PureCarrier) (f : Action) (k : Fact) (b : Bool) (e : PureExample) → (b ≡ true → Holds c f k) → (b ≡ false → Refutes c f k e)
     → Settles c f k b (unless b e)
@@ -144,18 +168,18 @@ apart_is c is e = worse_than_is_worse c (best c) is (best_in c is) (some_is_wors
 -- the facts of a constant action are settled
 pub constant_settled : (c : PureCarrier) (v : PureValue) → IsCarrier c → In c v
     → IsSettledBy c (constant v) (constant_profile c v) (constant_examples c v)
-constant_settled c v is i total = λ u j. (v, refl)
-constant_settled c v is i dead = (i, (v, refl))
-constant_settled c v is i mono = settled_unless c (constant v) mono (not (has_worse c v)) (at (worse_than c v))
+constant_settled c v is i Total = λ u j. (v, refl)
+constant_settled c v is i Dead = (i, (v, refl))
+constant_settled c v is i Monotone = settled_unless c (constant v) Monotone (not (has_worse c v)) (at (worse_than c v))
     (λ e u j p. none_is_worse c v u is i j (not_true (has_worse c v) e) p)
     (λ e. worse_than_is_worse c v is i (not_false (has_worse c v) e))
-constant_settled c v is i strict = (i, (v, refl, not_preferred c v i))
-constant_settled c v is i iso = λ u w j k n p. not_preferred c v i p
-constant_settled c v is i canc = settled_unless c (constant v) canc (is_flat c) (apart c)
+constant_settled c v is i Strict = (i, (v, refl, not_preferred c v i))
+constant_settled c v is i Isotone = λ u w j k n p. not_preferred c v i p
+constant_settled c v is i Cancellative = settled_unless c (constant v) Cancellative (is_flat c) (apart c)
     (λ e u w j k g. flat_is_equivalent c u w is e j k)
     (λ e. let w = apart_is c is e in ((best_in c is, w.0), (equivalent_itself c v i, w.1)))
-constant_settled c v is i cond = λ u w x y j k e g. equals_equivalent c v x y i (same_some v x e) (same_some v y g)
-constant_settled c v is i narrow = settled_unless c (constant v) narrow (is_flat c) (apart c)
+constant_settled c v is i Condensed = λ u w x y j k e g. equals_equivalent c v x y i (same_some v x e) (same_some v y g)
+constant_settled c v is i Narrow = settled_unless c (constant v) Narrow (is_flat c) (apart c)
     (λ e u w x y j k g h. flat_is_equivalent c u w is e j k)
     (λ e. let w = apart_is c is e in ((best_in c is, w.0), (v, v, refl, refl, w.1)))
 
@@ -167,16 +191,16 @@ constant_keeps c v i u w j e = subst (In c) (same_some v w e) i
 
 -- those of the action that keeps every value are
 pub kept_settled : (c : PureCarrier) → IsCarrier c → IsSettledBy c kept (kept_profile c) (kept_examples c)
-kept_settled c is total = λ u j. (u, refl)
-kept_settled c is dead = (best_in c is, (best c, refl))
-kept_settled c is mono = λ u j p. not_preferred c u j p
-kept_settled c is strict = (best_in c is, (best c, refl, not_preferred c (best c) (best_in c is)))
-kept_settled c is iso = λ u w j k n p. n p
-kept_settled c is canc = λ u w j k e. e
-kept_settled c is cond = settled_unless c kept cond (is_flat c) (apart c)
+kept_settled c is Total = λ u j. (u, refl)
+kept_settled c is Dead = (best_in c is, (best c, refl))
+kept_settled c is Monotone = λ u j p. not_preferred c u j p
+kept_settled c is Strict = (best_in c is, (best c, refl, not_preferred c (best c) (best_in c is)))
+kept_settled c is Isotone = λ u w j k n p. n p
+kept_settled c is Cancellative = λ u w j k e. e
+kept_settled c is Condensed = settled_unless c kept Condensed (is_flat c) (apart c)
     (λ e u w x y j k g h. flat_is_equivalent c x y is e (subst (In c) (same_some u x g) j) (subst (In c) (same_some w y h) k))
     (λ e. let w = apart_is c is e in ((best_in c is, w.0), (best c, worse_than c (best c), refl, refl, w.1)))
-kept_settled c is narrow = settled_unless c kept narrow (is_flat c) (apart c)
+kept_settled c is Narrow = settled_unless c kept Narrow (is_flat c) (apart c)
     (λ e u w x y j k g h. flat_is_equivalent c u w is e j k)
     (λ e. let w = apart_is c is e in ((best_in c is, w.0), (best c, worse_than c (best c), refl, refl, w.1)))
 
@@ -185,6 +209,23 @@ kept_is_profile c is = settled_profile c kept (kept_profile c) (kept_examples c)
 
 pub kept_keeps : (c : PureCarrier) → Keeps c kept
 kept_keeps c u w j e = subst (In c) (same_some u w e) j
+
+-- what denies all has every fact but that it is total
+pub denied_settled : (c : PureCarrier) (v : PureValue) → In c v → IsSettledBy c denied denied_profile (denied_examples v)
+denied_settled c v i Total = (i, refl)
+denied_settled c v i Dead = λ w j. refl
+denied_settled c v i Monotone = λ w j e. cc
+denied_settled c v i Strict = λ w j. refl
+denied_settled c v i Isotone = λ u w j k n e. cc
+denied_settled c v i Cancellative = λ u w j k e. absurd e
+denied_settled c v i Condensed = λ u w x y j k e g. absurd (cc)
+denied_settled c v i Narrow = λ u w x y j k e g. absurd (cc)
+
+pub denied_is_profile : (c : PureCarrier) (v : PureValue) → In c v → IsProfile c denied denied_profile
+denied_is_profile c v i = settled_profile c denied denied_profile (denied_examples v) (denied_settled c v i)
+
+pub denied_keeps : (c : PureCarrier) → Keeps c denied
+denied_keeps c u w j e = absurd (cc)
 
 -- the labels that act so: the one label of a right product, those of a left one, and the second parts of
 -- the first kind of a scoped product's labels and the first parts of the second kind

@@ -10,8 +10,7 @@ use Rattle.std.proofs.lemmas.Bool.Decides.{nat_tests}
 use Rattle.std.proofs.lemmas.Cmp.{ranked}
 use Rattle.std.proofs.lemmas.Nat.{pow_pos}
 use Rattle.std.proofs.lemmas.Map.Steps.{length-le_from_distinct_below}
-use Rattle.alg_model.specs.declared.alg.TheConstants.{MAX_INSTANCE_NUMBER}
-use Rattle.alg_model.specs.declared.edition.TheConstants.{MAX_LABEL_NUMBER}
+use Rattle.alg_model.specs.Numbers.{max_instance_number, max_label_number}
 use Rattle.alg_model.specs.Expressions.{PureCarrier, whole, up_to, down_from, seqs, simseqs, sets, one, named, pairs, sides}
 use Rattle.alg_model.specs.Expressions.{PureValue, number, symbols, name, pair, first, second}
 use Rattle.alg_model.specs.Carriers.{In, Order, distinct}
@@ -347,5 +346,5 @@ pub longer_at_most : (m n : ℕ) (ns : List ℕ) → m ≤ n → AtMost m (symbo
 longer_at_most m n ns h a = all_and_one (λ k. k ≤ n) ns 0 (all_at_most_more m n ns h a) (omega arith)
 
 -- a number of a text is a number of an instance
-pub value_fits : (v : PureValue) → AtMost MAX_LABEL_NUMBER v → AtMost MAX_INSTANCE_NUMBER v
-value_fits v a = at_most_more MAX_LABEL_NUMBER MAX_INSTANCE_NUMBER v (omega arith) a
+pub value_fits : (v : PureValue) → AtMost max_label_number v → AtMost max_instance_number v
+value_fits v a = at_most_more max_label_number max_instance_number v (omega arith) a

@@ -4,7 +4,6 @@ pub mod Classes
 pub mod Instances
 pub mod FactLaws
 pub mod ClassLaws
-pub mod Shapes
 pub mod Flat
 pub mod FlatLaws
 pub mod Constants

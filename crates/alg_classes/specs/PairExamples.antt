@@ -5,7 +5,9 @@ use Rattle.alg_model.specs.Expressions.{PureCarrier, pairs, PureValue, pair}
 use Rattle.alg_model.specs.Carriers.{In, Order, IsPreferred, AreEquivalent}
 use Rattle.alg_model.specs.Application.{both}
 use Rattle.alg_model.specs.Laws.{total_preorder}
-use Rattle.alg_classes.specs.Facts.{Action, Fact, total, dead, mono, strict, iso, canc, cond, narrow, PureExample, at, between, Refutes}
+use Rattle.alg_classes.specs.declared.fact.Fact.{Fact}
+use Rattle.alg_classes.specs.declared.fact.Fact.TheVariants.{Total, Dead, Monotone, Strict, Isotone, Cancellative, Condensed, Narrow}
+use Rattle.alg_classes.specs.Facts.{Action, PureExample, at, between, Refutes}
 use Rattle.alg_classes.specs.FactLaws.{Keeps}
 use Rattle.alg_classes.specs.RuleLaws.{OnExample, IsValue}
 use Rattle.alg_classes.specs.Pairs.{paired, beside, spanned}
@@ -21,32 +23,32 @@ joined c d f g P Q k rule (Some (at u)) None r s = tt
 joined c d f g P Q k rule (Some (between u v)) None r s = tt
 joined c d f g P Q k rule None y r s = tt
 
-pub dead_with_dead : (c d : PureCarrier) (f g : Action) → Joins c d f g (Refutes c f dead) (Refutes d g dead) dead
+pub dead_with_dead : (c d : PureCarrier) (f g : Action) → Joins c d f g (Refutes c f Dead) (Refutes d g Dead) Dead
 dead_with_dead c d f g (at u) (at v) r s = ((r.0, s.0), (pair r.1.0 s.1.0, both_some (f u) (g v) r.1.0 s.1.0 r.1.1 s.1.1))
 dead_with_dead c d f g (at u) (between v w) r s = absurd s.1
 dead_with_dead c d f g (between u v) i r s = absurd r.1
 
-pub total_with_any : (c d : PureCarrier) (f g : Action) → Joins c d f g (Refutes c f total) (IsValue d) total
+pub total_with_any : (c d : PureCarrier) (f g : Action) → Joins c d f g (Refutes c f Total) (IsValue d) Total
 total_with_any c d f g (at u) (at v) r s = ((r.0, s), first_none (f u) (g v) r.1)
 total_with_any c d f g (at u) (between v w) r s = absurd s
 total_with_any c d f g (between u v) i r s = absurd r.1
 
-pub any_with_total : (c d : PureCarrier) (f g : Action) → Joins c d f g (IsValue c) (Refutes d g total) total
+pub any_with_total : (c d : PureCarrier) (f g : Action) → Joins c d f g (IsValue c) (Refutes d g Total) Total
 any_with_total c d f g (at u) (at v) r s = ((r, s.0), second_none (f u) (g v) s.1)
 any_with_total c d f g (at u) (between v w) r s = absurd s.1
 any_with_total c d f g (between u v) i r s = absurd r
 
-pub mono_with_dead : (c d : PureCarrier) (f g : Action) → Joins c d f g (Refutes c f mono) (Refutes d g dead) mono
-mono_with_dead c d f g (at u) (at v) r s = (
+pub monotone_with_dead : (c d : PureCarrier) (f g : Action) → Joins c d f g (Refutes c f Monotone) (Refutes d g Dead) Monotone
+monotone_with_dead c d f g (at u) (at v) r s = (
   (r.0, s.0),
   subst (λ o. IsPreferred (pairs c d) (both (f u) o) (Some (pair u v))) (sym s.1.1)
       (preferred_by_first c d (f u) (Some u) (Some v) s.1.0 r.1),
 )
-mono_with_dead c d f g (at u) (between v w) r s = absurd s.1
-mono_with_dead c d f g (between u v) i r s = absurd r.1
+monotone_with_dead c d f g (at u) (between v w) r s = absurd s.1
+monotone_with_dead c d f g (between u v) i r s = absurd r.1
 
-pub strict_with_mono : (c d : PureCarrier) (f g : Action) → Keeps c f → Joins c d f g (Refutes c f strict) (Refutes d g mono) mono
-strict_with_mono c d f g kept (at u) (at v) r s =
+pub strict_with_monotone : (c d : PureCarrier) (f g : Action) → Keeps c f → Joins c d f g (Refutes c f Strict) (Refutes d g Monotone) Monotone
+strict_with_monotone c d f g kept (at u) (at v) r s =
     let w = r.1.0 in (
       (r.0, s.0),
       subst (λ o. IsPreferred (pairs c d) (both o (g v)) (Some (pair u v))) (sym r.1.1) (⊎_elim
@@ -55,11 +57,11 @@ strict_with_mono c d f g kept (at u) (at v) r s =
           (λ e. preferred_by_second c d w u (g v) (Some v) e s.1)
           (not_after c w u (kept u w r.0 r.1.1) r.0 r.1.2)),
     )
-strict_with_mono c d f g kept (at u) (between v w) r s = absurd s.1
-strict_with_mono c d f g kept (between u v) i r s = absurd r.1
+strict_with_monotone c d f g kept (at u) (between v w) r s = absurd s.1
+strict_with_monotone c d f g kept (between u v) i r s = absurd r.1
 
-pub mono_with_dead_strict : (c d : PureCarrier) (f g : Action) → Keeps c f → Joins c d f g (Refutes c f mono) (Refutes d g dead) strict
-mono_with_dead_strict c d f g kept (at u) (at v) r s =
+pub monotone_with_dead_strict : (c d : PureCarrier) (f g : Action) → Keeps c f → Joins c d f g (Refutes c f Monotone) (Refutes d g Dead) Strict
+monotone_with_dead_strict c d f g kept (at u) (at v) r s =
     let w = preferred_value c (f u) u r.1 in (
       (r.0, s.0),
       (
@@ -68,10 +70,10 @@ mono_with_dead_strict c d f g kept (at u) (at v) r s =
         less_after_less (Order c w.0 u) (Order c u w.0) (Order d v s.1.0) w.2 ((total_preorder c).flip w.0 u (kept u w.0 r.0 w.1) r.0),
       ),
     )
-mono_with_dead_strict c d f g kept (at u) (between v w) r s = absurd s.1
-mono_with_dead_strict c d f g kept (between u v) i r s = absurd r.1
+monotone_with_dead_strict c d f g kept (at u) (between v w) r s = absurd s.1
+monotone_with_dead_strict c d f g kept (between u v) i r s = absurd r.1
 
-pub strict_with_strict : (c d : PureCarrier) (f g : Action) → Joins c d f g (Refutes c f strict) (Refutes d g strict) strict
+pub strict_with_strict : (c d : PureCarrier) (f g : Action) → Joins c d f g (Refutes c f Strict) (Refutes d g Strict) Strict
 strict_with_strict c d f g (at u) (at v) r s = (
   (r.0, s.0),
   (
@@ -87,19 +89,19 @@ strict_with_strict c d f g (between u v) i r s = absurd r.1
 pub not_same : (c : PureCarrier) (u : PureValue) → In c u → ¬ (Order c u u ≡ Less)
 not_same c u i h = let e = same c u i in absurd (cc)
 
-pub iso_with_dead : (c d : PureCarrier) (f g : Action) → Joins c d f g (Refutes c f iso) (Refutes d g dead) iso
-iso_with_dead c d f g (between u v) (at t) r s = (
+pub isotone_with_dead : (c d : PureCarrier) (f g : Action) → Joins c d f g (Refutes c f Isotone) (Refutes d g Dead) Isotone
+isotone_with_dead c d f g (between u v) (at t) r s = (
   ((r.0.0, s.0), (r.0.1, s.0)),
   (
     λ h. ⊎_elim r.1.0 (λ a. not_same d t s.0 a.1) (then_less (Order c v u) (Order d t t) h),
     subst (λ o. IsPreferred (pairs c d) (both (f v) o) (both (f u) (g t))) (sym s.1.1) (preferred_by_first c d (f v) (f u) (g t) s.1.0 r.1.1),
   ),
 )
-iso_with_dead c d f g (between u v) (between t w) r s = absurd s.1
-iso_with_dead c d f g (at u) i r s = absurd r.1
+isotone_with_dead c d f g (between u v) (between t w) r s = absurd s.1
+isotone_with_dead c d f g (at u) i r s = absurd r.1
 
-pub dead_with_iso : (c d : PureCarrier) (f g : Action) → Keeps c f → Joins c d f g (Refutes c f dead) (Refutes d g iso) iso
-dead_with_iso c d f g kept (at t) (between u v) r s = (
+pub dead_with_isotone : (c d : PureCarrier) (f g : Action) → Keeps c f → Joins c d f g (Refutes c f Dead) (Refutes d g Isotone) Isotone
+dead_with_isotone c d f g kept (at t) (between u v) r s = (
   ((r.0, s.0.0), (r.0, s.0.1)),
   (
     λ h. ⊎_elim (not_same c t r.0) (λ a. s.1.0 a.1) (then_less (Order c t t) (Order d v u) h),
@@ -107,22 +109,22 @@ dead_with_iso c d f g kept (at t) (between u v) r s = (
         (preferred_by_second c d r.1.0 r.1.0 (g v) (g u) (same c r.1.0 (kept t r.1.0 r.0 r.1.1)) s.1.1),
   ),
 )
-dead_with_iso c d f g kept (at t) (at u) r s = absurd s.1
-dead_with_iso c d f g kept (between u v) i r s = absurd r.1
+dead_with_isotone c d f g kept (at t) (at u) r s = absurd s.1
+dead_with_isotone c d f g kept (between u v) i r s = absurd r.1
 
 -- the first value has an image, and the second none
 abbrev pub Splits : PureCarrier → Action → PureExample → Type 0
 Splits d g (between u v) = (In d u × In d v) × ((t : PureValue) × (g u ≡ Some t)) × (g v ≡ None)
 Splits d g (at u) = ⊥
 
-pub splits : (d : PureCarrier) (g : Action) (y z : Option PureExample) → OnExample (Refutes d g dead) y → OnExample (Refutes d g total) z → OnExample (Splits d g) (spanned y z)
+pub splits : (d : PureCarrier) (g : Action) (y z : Option PureExample) → OnExample (Refutes d g Dead) y → OnExample (Refutes d g Total) z → OnExample (Splits d g) (spanned y z)
 splits d g (Some (at u)) (Some (at v)) r s = ((r.0, s.0), r.1, s.1)
 splits d g (Some (at u)) (Some (between v w)) r s = absurd s.1
 splits d g (Some (at u)) None r s = tt
 splits d g (Some (between u v)) z r s = absurd r.1
 splits d g None z r s = tt
 
-pub narrow_with_split : (c d : PureCarrier) (f g : Action) → Joins c d f g (Refutes c f narrow) (Splits d g) iso
+pub narrow_with_split : (c d : PureCarrier) (f g : Action) → Joins c d f g (Refutes c f Narrow) (Splits d g) Isotone
 narrow_with_split c d f g (between a z) (between b t) r s = (
   ((r.0.0, s.0.1), (r.0.1, s.0.0)),
   (
@@ -134,8 +136,8 @@ narrow_with_split c d f g (between a z) (between b t) r s = (
 narrow_with_split c d f g (between a z) (at b) r s = absurd s
 narrow_with_split c d f g (at a) i r s = absurd r.1
 
-pub canc_with_cond : (c d : PureCarrier) (f g : Action) → Keeps c f → Joins c d f g (Refutes c f canc) (Refutes d g cond) iso
-canc_with_cond c d f g kept (between a z) (between b t) r s =
+pub cancellative_with_condensed : (c d : PureCarrier) (f g : Action) → Keeps c f → Joins c d f g (Refutes c f Cancellative) (Refutes d g Condensed) Isotone
+cancellative_with_condensed c d f g kept (between a z) (between b t) r s =
     let w = equivalent_values c (f a) (f z) r.1.0 in (
       ((r.0.0, s.0.1), (r.0.1, s.0.0)),
       (
@@ -146,31 +148,31 @@ canc_with_cond c d f g kept (between a z) (between b t) r s =
             (equal_flips c w.0 w.1 (kept a w.0 r.0.0 w.2) (kept z w.1 r.0.1 w.3) w.4) s.1.4)),
       ),
     )
-canc_with_cond c d f g kept (between a z) (at b) r s = absurd s.1
-canc_with_cond c d f g kept (at a) i r s = absurd r.1
+cancellative_with_condensed c d f g kept (between a z) (at b) r s = absurd s.1
+cancellative_with_condensed c d f g kept (at a) i r s = absurd r.1
 
 -- an image of one value, twice
-pub same_image : (d : PureCarrier) (g : Action) → Keeps d g → (t : PureValue) → Refutes d g dead (at t) → AreEquivalent d (g t) (g t)
+pub same_image : (d : PureCarrier) (g : Action) → Keeps d g → (t : PureValue) → Refutes d g Dead (at t) → AreEquivalent d (g t) (g t)
 same_image d g kept t s = values_equivalent d (g t) (g t) s.1.0 s.1.0 s.1.1 s.1.1 (same d s.1.0 (kept t s.1.0 s.0 s.1.1))
 
-pub canc_with_dead : (c d : PureCarrier) (f g : Action) → Keeps d g → Joins c d f g (Refutes c f canc) (Refutes d g dead) canc
-canc_with_dead c d f g kept (between u v) (at t) r s = (
+pub cancellative_with_dead : (c d : PureCarrier) (f g : Action) → Keeps d g → Joins c d f g (Refutes c f Cancellative) (Refutes d g Dead) Cancellative
+cancellative_with_dead c d f g kept (between u v) (at t) r s = (
   ((r.0.0, s.0), (r.0.1, s.0)),
   (equivalent_pairs c d (f u) (g t) (f v) (g t) r.1.0 (same_image d g kept t s), by_first (Order c u v) (Order d t t) r.1.1),
 )
-canc_with_dead c d f g kept (between u v) (between t w) r s = absurd s.1
-canc_with_dead c d f g kept (at u) i r s = absurd r.1
+cancellative_with_dead c d f g kept (between u v) (between t w) r s = absurd s.1
+cancellative_with_dead c d f g kept (at u) i r s = absurd r.1
 
-pub dead_with_canc : (c d : PureCarrier) (f g : Action) → Keeps c f → Joins c d f g (Refutes c f dead) (Refutes d g canc) canc
-dead_with_canc c d f g kept (at t) (between u v) r s = (
+pub dead_with_cancellative : (c d : PureCarrier) (f g : Action) → Keeps c f → Joins c d f g (Refutes c f Dead) (Refutes d g Cancellative) Cancellative
+dead_with_cancellative c d f g kept (at t) (between u v) r s = (
   ((r.0, s.0.0), (r.0, s.0.1)),
   (equivalent_pairs c d (f t) (g u) (f t) (g v) (same_image c f kept t r) s.1.0, by_second (Order c t t) (Order d u v) Less (same c t r.0) s.1.1),
 )
-dead_with_canc c d f g kept (at t) (at u) r s = absurd s.1
-dead_with_canc c d f g kept (between u v) i r s = absurd r.1
+dead_with_cancellative c d f g kept (at t) (at u) r s = absurd s.1
+dead_with_cancellative c d f g kept (between u v) i r s = absurd r.1
 
-pub cond_with_dead : (c d : PureCarrier) (f g : Action) → Joins c d f g (Refutes c f cond) (Refutes d g dead) cond
-cond_with_dead c d f g (between u v) (at t) r s = (
+pub condensed_with_dead : (c d : PureCarrier) (f g : Action) → Joins c d f g (Refutes c f Condensed) (Refutes d g Dead) Condensed
+condensed_with_dead c d f g (between u v) (at t) r s = (
   ((r.0.0, s.0), (r.0.1, s.0)),
   (
     pair r.1.0 s.1.0,
@@ -180,11 +182,11 @@ cond_with_dead c d f g (between u v) (at t) r s = (
     by_first (Order c r.1.0 r.1.1) (Order d s.1.0 s.1.0) r.1.4,
   ),
 )
-cond_with_dead c d f g (between u v) (between t w) r s = absurd s.1
-cond_with_dead c d f g (at u) i r s = absurd r.1
+condensed_with_dead c d f g (between u v) (between t w) r s = absurd s.1
+condensed_with_dead c d f g (at u) i r s = absurd r.1
 
-pub dead_with_cond : (c d : PureCarrier) (f g : Action) → Keeps c f → Joins c d f g (Refutes c f dead) (Refutes d g cond) cond
-dead_with_cond c d f g kept (at t) (between u v) r s = (
+pub dead_with_condensed : (c d : PureCarrier) (f g : Action) → Keeps c f → Joins c d f g (Refutes c f Dead) (Refutes d g Condensed) Condensed
+dead_with_condensed c d f g kept (at t) (between u v) r s = (
   ((r.0, s.0.0), (r.0, s.0.1)),
   (
     pair r.1.0 s.1.0,
@@ -194,10 +196,10 @@ dead_with_cond c d f g kept (at t) (between u v) r s = (
     by_second (Order c r.1.0 r.1.0) (Order d s.1.0 s.1.1) Less (same c r.1.0 (kept t r.1.0 r.0 r.1.1)) s.1.4,
   ),
 )
-dead_with_cond c d f g kept (at t) (at u) r s = absurd s.1
-dead_with_cond c d f g kept (between u v) i r s = absurd r.1
+dead_with_condensed c d f g kept (at t) (at u) r s = absurd s.1
+dead_with_condensed c d f g kept (between u v) i r s = absurd r.1
 
-pub narrow_with_dead : (c d : PureCarrier) (f g : Action) → Joins c d f g (Refutes c f narrow) (Refutes d g dead) narrow
+pub narrow_with_dead : (c d : PureCarrier) (f g : Action) → Joins c d f g (Refutes c f Narrow) (Refutes d g Dead) Narrow
 narrow_with_dead c d f g (between u v) (at t) r s = (
   ((r.0.0, s.0), (r.0.1, s.0)),
   (
@@ -211,7 +213,7 @@ narrow_with_dead c d f g (between u v) (at t) r s = (
 narrow_with_dead c d f g (between u v) (between t w) r s = absurd s.1
 narrow_with_dead c d f g (at u) i r s = absurd r.1
 
-pub dead_with_narrow : (c d : PureCarrier) (f g : Action) → Joins c d f g (Refutes c f dead) (Refutes d g narrow) narrow
+pub dead_with_narrow : (c d : PureCarrier) (f g : Action) → Joins c d f g (Refutes c f Dead) (Refutes d g Narrow) Narrow
 dead_with_narrow c d f g (at t) (between u v) r s = (
   ((r.0, s.0.0), (r.0, s.0.1)),
   (

@@ -9,17 +9,19 @@ use Rattle.alg_model.specs.Formation.{IsFormed}
 use Rattle.alg_model.specs.Laws.{formed_lex}
 use Rattle.alg_model.specs.PreferenceLaws.{each_pair}
 use Rattle.alg_classes.specs.declared.profile.Profile.{Profile}
-use Rattle.alg_classes.specs.Facts.{Action, Fact, total, dead, mono, strict, iso, canc, cond, narrow, Holds, PureExample, at, between, Refutes}
+use Rattle.alg_classes.specs.declared.fact.Fact.{Fact}
+use Rattle.alg_classes.specs.declared.fact.Fact.TheVariants.{Total, Dead, Monotone, Strict, Isotone, Cancellative, Condensed, Narrow}
+use Rattle.alg_classes.specs.Facts.{Action, Holds, PureExample, at, between, Refutes}
 use Rattle.alg_classes.specs.Profiles.{bit, IsProfile, ProfileOf}
 use Rattle.alg_classes.specs.Classes.{PureExamples, Settles, IsSettledBy, ExampleAtMost, ExamplesAtMost}
 use Rattle.alg_classes.specs.FactLaws.{Keeps}
 use Rattle.alg_classes.specs.ClassLaws.{images_kept, composed_profile_of_two}
 use Rattle.alg_classes.specs.Inhabited.{carrier_inhabited}
-use Rattle.alg_classes.specs.RuleLaws.{IsKnown, IsThere, OnExample, IsValue, settle, told, there, shown, on_or, there_left, there_right}
+use Rattle.alg_classes.specs.RuleLaws.{IsKnown, IsThere, OnExample, IsValue, settle, reported, there, shown, on_or, there_left, there_right}
 use Rattle.alg_classes.specs.Pairs.{paired, pair_profile, beside, spanned, some_value, pair_examples}
 use Rattle.alg_classes.specs.PairOrders.{both_parts}
-use Rattle.alg_classes.specs.PairExamples.{Joins, joined, dead_with_dead, total_with_any, any_with_total, mono_with_dead, strict_with_mono, mono_with_dead_strict, strict_with_strict, iso_with_dead, dead_with_iso, Splits, splits, narrow_with_split, canc_with_cond, canc_with_dead, dead_with_canc, cond_with_dead, dead_with_cond, narrow_with_dead, dead_with_narrow}
-use Rattle.alg_classes.specs.PairFacts.{both_total, first_dead, second_dead, dead_pair, strict_is_mono, both_mono, strict_is_strict, mono_and_strict, both_canc, both_cond, both_narrow, both_iso}
+use Rattle.alg_classes.specs.PairExamples.{Joins, joined, dead_with_dead, total_with_any, any_with_total, monotone_with_dead, strict_with_monotone, monotone_with_dead_strict, strict_with_strict, isotone_with_dead, dead_with_isotone, Splits, splits, narrow_with_split, cancellative_with_condensed, cancellative_with_dead, dead_with_cancellative, condensed_with_dead, dead_with_condensed, narrow_with_dead, dead_with_narrow}
+use Rattle.alg_classes.specs.PairFacts.{both_total, first_dead, second_dead, dead_pair, strict_is_monotone, both_monotone, strict_is_strict, monotone_and_strict, both_cancellative, both_condensed, both_narrow, both_isotone}
 
 -- Examples that are there.
 
@@ -32,25 +34,25 @@ there_beside (Some (at u)) None h i = let e = i.1 in absurd (cc)
 there_beside (Some (between u v)) None h i = let e = i.1 in absurd (cc)
 there_beside None y h i = let e = h.1 in absurd (cc)
 
-there_spanned : (d : PureCarrier) (g : Action) (y z : Option PureExample) → OnExample (Refutes d g dead) y → OnExample (Refutes d g total) z → IsThere y → IsThere z → IsThere (spanned y z)
+there_spanned : (d : PureCarrier) (g : Action) (y z : Option PureExample) → OnExample (Refutes d g Dead) y → OnExample (Refutes d g Total) z → IsThere y → IsThere z → IsThere (spanned y z)
 there_spanned d g (Some (at u)) (Some (at v)) r s h i = (between u v, refl)
 there_spanned d g (Some (at u)) (Some (between v w)) r s h i = absurd s.1
 there_spanned d g (Some (at u)) None r s h i = let e = i.1 in absurd (cc)
 there_spanned d g (Some (between u v)) z r s h i = absurd r.1
 there_spanned d g None z r s h i = let e = h.1 in absurd (cc)
 
-value_inside : (c : PureCarrier) (f : Action) (x : Option PureExample) → OnExample (Refutes c f dead) x → OnExample (IsValue c) x
+value_inside : (c : PureCarrier) (f : Action) (x : Option PureExample) → OnExample (Refutes c f Dead) x → OnExample (IsValue c) x
 value_inside c f (Some (at v)) r = r.0
 value_inside c f (Some (between u v)) r = absurd r.1
 value_inside c f None r = tt
 
-value_outside : (c : PureCarrier) (f : Action) (x : Option PureExample) → OnExample (Refutes c f total) x → OnExample (IsValue c) x
+value_outside : (c : PureCarrier) (f : Action) (x : Option PureExample) → OnExample (Refutes c f Total) x → OnExample (IsValue c) x
 value_outside c f (Some (at v)) r = r.0
 value_outside c f (Some (between u v)) r = absurd r.1
 value_outside c f None r = tt
 
 is_value : {c : PureCarrier} {f : Action} {p : Profile} {x : PureExamples} (a : IsKnown c f p x) → OnExample (IsValue c) (some_value x)
-is_value {c} {f} {p} {x} a = on_or (IsValue c) (x dead) (x total) (value_inside c f (x dead) (shown a dead)) (value_outside c f (x total) (shown a total))
+is_value {c} {f} {p} {x} a = on_or (IsValue c) (x Dead) (x Total) (value_inside c f (x Dead) (shown a Dead)) (value_outside c f (x Total) (shown a Total))
 
 true_or_false : (b : Bool) → (b ≡ true) ⊎ (b ≡ false)
 true_or_false true = inl refl
@@ -60,10 +62,10 @@ true_or_false false = inr refl
 there_value : {c : PureCarrier} {f : Action} {p : Profile} {x : PureExamples} (a : IsKnown c f p x) → IsThere (some_value x)
 there_value {c} {f} {p} {x} a = ⊎_elim
     (λ is_dead. ⊎_elim
-    (λ is_total. absurd (let v = a.inhabited in let n = told a dead is_dead v.0 v.1 in let s = told a total is_total v.0 v.1 in let e = s.1 in cc))
-    (λ lacks. there_right (x dead) (x total) (there a total lacks))
+    (λ is_total. absurd (let v = a.inhabited in let n = reported a Dead is_dead v.0 v.1 in let s = reported a Total is_total v.0 v.1 in let e = s.1 in cc))
+    (λ misses. there_right (x Dead) (x Total) (there a Total misses))
     (true_or_false p.total))
-    (λ lacks. there_left (x dead) (x total) (there a dead lacks))
+    (λ misses. there_left (x Dead) (x Total) (there a Dead misses))
     (true_or_false p.dead)
 
 -- The eight facts.
@@ -71,134 +73,134 @@ there_value {c} {f} {p} {x} a = ⊎_elim
 abbrev Settled : PureCarrier → PureCarrier → Action → Action → Profile → Profile → PureExamples → PureExamples → Fact → Type 0
 Settled c d f g p q x y k = Settles (pairs c d) (paired f g) k (bit (pair_profile p q) k) (pair_examples x y k)
 
-settled_total : (c d : PureCarrier) (f g : Action) (p q : Profile) (x y : PureExamples) → IsKnown c f p x → IsKnown d g q y → Settled c d f g p q x y total
-settled_total c d f g p q x y a b = settle (pairs c d) (paired f g) total (p.total && q.total) (pair_examples x y total)
-    (λ e. let h = and_parts p.total q.total e in both_total c d f g (told a total h.0) (told b total h.1))
+settled_total : (c d : PureCarrier) (f g : Action) (p q : Profile) (x y : PureExamples) → IsKnown c f p x → IsKnown d g q y → Settled c d f g p q x y Total
+settled_total c d f g p q x y a b = settle (pairs c d) (paired f g) Total (p.total && q.total) (pair_examples x y Total)
+    (λ e. let h = and_parts p.total q.total e in both_total c d f g (reported a Total h.0) (reported b Total h.1))
     (λ e. ⊎_elim
-    (λ lacks. there_left (beside (x total) (some_value y)) (beside (some_value x) (y total)) (there_beside (x total) (some_value y) (there a total lacks) (there_value b)))
-    (λ lacks. there_right (beside (x total) (some_value y)) (beside (some_value x) (y total)) (there_beside (some_value x) (y total) (there_value a) (there b total lacks)))
+    (λ misses. there_left (beside (x Total) (some_value y)) (beside (some_value x) (y Total)) (there_beside (x Total) (some_value y) (there a Total misses) (there_value b)))
+    (λ misses. there_right (beside (x Total) (some_value y)) (beside (some_value x) (y Total)) (there_beside (some_value x) (y Total) (there_value a) (there b Total misses)))
     (and_cases p.total q.total e))
-    (on_or (Refutes (pairs c d) (paired f g) total) (beside (x total) (some_value y)) (beside (some_value x) (y total))
-    (joined c d f g (Refutes c f total) (IsValue d) total (total_with_any c d f g) (x total) (some_value y) (shown a total) (is_value b))
-    (joined c d f g (IsValue c) (Refutes d g total) total (any_with_total c d f g) (some_value x) (y total) (is_value a) (shown b total)))
+    (on_or (Refutes (pairs c d) (paired f g) Total) (beside (x Total) (some_value y)) (beside (some_value x) (y Total))
+    (joined c d f g (Refutes c f Total) (IsValue d) Total (total_with_any c d f g) (x Total) (some_value y) (shown a Total) (is_value b))
+    (joined c d f g (IsValue c) (Refutes d g Total) Total (any_with_total c d f g) (some_value x) (y Total) (is_value a) (shown b Total)))
 
-settled_dead : (c d : PureCarrier) (f g : Action) (p q : Profile) (x y : PureExamples) → IsKnown c f p x → IsKnown d g q y → Settled c d f g p q x y dead
-settled_dead c d f g p q x y a b = settle (pairs c d) (paired f g) dead (p.dead || q.dead) (pair_examples x y dead)
-    (λ e. ⊎_elim (λ h. first_dead c d f g (told a dead h)) (λ h. second_dead c d f g (told b dead h)) (or_cases p.dead q.dead e))
-    (λ e. let h = or_parts p.dead q.dead e in there_beside (x dead) (y dead) (there a dead h.0) (there b dead h.1))
-    (joined c d f g (Refutes c f dead) (Refutes d g dead) dead (dead_with_dead c d f g) (x dead) (y dead) (shown a dead) (shown b dead))
+settled_dead : (c d : PureCarrier) (f g : Action) (p q : Profile) (x y : PureExamples) → IsKnown c f p x → IsKnown d g q y → Settled c d f g p q x y Dead
+settled_dead c d f g p q x y a b = settle (pairs c d) (paired f g) Dead (p.dead || q.dead) (pair_examples x y Dead)
+    (λ e. ⊎_elim (λ h. first_dead c d f g (reported a Dead h)) (λ h. second_dead c d f g (reported b Dead h)) (or_cases p.dead q.dead e))
+    (λ e. let h = or_parts p.dead q.dead e in there_beside (x Dead) (y Dead) (there a Dead h.0) (there b Dead h.1))
+    (joined c d f g (Refutes c f Dead) (Refutes d g Dead) Dead (dead_with_dead c d f g) (x Dead) (y Dead) (shown a Dead) (shown b Dead))
 
 -- A fact other than total, which the pair has if a part is dead, and else where a test tells: the test's reasons are
 -- enough, and where it fails, there is an example.
 settled_alive : (c d : PureCarrier) (f g : Action) (p q : Profile) (x y : PureExamples) → IsKnown c f p x → IsKnown d g q y
-    → (k : Fact) → ¬ (k ≡ total) → (test : Bool) (o : Option PureExample) → (test ≡ true → Holds (pairs c d) (paired f g) k)
-    → (IsThere (x dead) → IsThere (y dead) → test ≡ false → IsThere o) → OnExample (Refutes (pairs c d) (paired f g) k) o
+    → (k : Fact) → ¬ (k ≡ Total) → (test : Bool) (o : Option PureExample) → (test ≡ true → Holds (pairs c d) (paired f g) k)
+    → (IsThere (x Dead) → IsThere (y Dead) → test ≡ false → IsThere o) → OnExample (Refutes (pairs c d) (paired f g) k) o
     → Settles (pairs c d) (paired f g) k ((p.dead || q.dead) || test) o
-settled_alive c d f g p q x y a b k other test o holds lacks shows = settle (pairs c d) (paired f g) k ((p.dead || q.dead) || test) o
+settled_alive c d f g p q x y a b k other test o holds misses shows = settle (pairs c d) (paired f g) k ((p.dead || q.dead) || test) o
     (λ e. ⊎_elim
-    (λ h. dead_pair c d f g (⊎_elim (λ i. inl (told a dead i)) (λ i. inr (told b dead i)) (or_cases p.dead q.dead h)) k other)
+    (λ h. dead_pair c d f g (⊎_elim (λ i. inl (reported a Dead i)) (λ i. inr (reported b Dead i)) (or_cases p.dead q.dead h)) k other)
     holds (or_cases (p.dead || q.dead) test e))
-    (λ e. let h = or_parts (p.dead || q.dead) test e in let i = or_parts p.dead q.dead h.0 in lacks (there a dead i.0) (there b dead i.1) h.1)
+    (λ e. let h = or_parts (p.dead || q.dead) test e in let i = or_parts p.dead q.dead h.0 in misses (there a Dead i.0) (there b Dead i.1) h.1)
     shows
 
-settled_mono : (c d : PureCarrier) (f g : Action) (p q : Profile) (x y : PureExamples) → IsKnown c f p x → IsKnown d g q y → Settled c d f g p q x y mono
-settled_mono c d f g p q x y a b =
-    let one = beside (x mono) (y dead) in
-    let two = beside (x strict) (y mono) in
-    settled_alive c d f g p q x y a b mono (λ e. absurd (cc)) (p.strict || (p.mono && q.mono)) (option_or one two)
+settled_monotone : (c d : PureCarrier) (f g : Action) (p q : Profile) (x y : PureExamples) → IsKnown c f p x → IsKnown d g q y → Settled c d f g p q x y Monotone
+settled_monotone c d f g p q x y a b =
+    let one = beside (x Monotone) (y Dead) in
+    let two = beside (x Strict) (y Monotone) in
+    settled_alive c d f g p q x y a b Monotone (λ e. absurd (cc)) (p.strict || (p.mono && q.mono)) (option_or one two)
     (λ e. ⊎_elim
-    (λ h. strict_is_mono c d f g a.kept (told a strict h))
-    (λ h. let i = and_parts p.mono q.mono h in both_mono c d f g (told a mono i.0) (told b mono i.1))
+    (λ h. strict_is_monotone c d f g a.kept (reported a Strict h))
+    (λ h. let i = and_parts p.mono q.mono h in both_monotone c d f g (reported a Monotone i.0) (reported b Monotone i.1))
     (or_cases p.strict (p.mono && q.mono) e))
     (λ s t e. let h = or_parts p.strict (p.mono && q.mono) e in ⊎_elim
-    (λ i. there_left one two (there_beside (x mono) (y dead) (there a mono i) t))
-    (λ i. there_right one two (there_beside (x strict) (y mono) (there a strict h.0) (there b mono i)))
+    (λ i. there_left one two (there_beside (x Monotone) (y Dead) (there a Monotone i) t))
+    (λ i. there_right one two (there_beside (x Strict) (y Monotone) (there a Strict h.0) (there b Monotone i)))
     (and_cases p.mono q.mono h.1))
-    (on_or (Refutes (pairs c d) (paired f g) mono) one two
-    (joined c d f g (Refutes c f mono) (Refutes d g dead) mono (mono_with_dead c d f g) (x mono) (y dead) (shown a mono) (shown b dead))
-    (joined c d f g (Refutes c f strict) (Refutes d g mono) mono (strict_with_mono c d f g a.kept) (x strict) (y mono) (shown a strict) (shown b mono)))
+    (on_or (Refutes (pairs c d) (paired f g) Monotone) one two
+    (joined c d f g (Refutes c f Monotone) (Refutes d g Dead) Monotone (monotone_with_dead c d f g) (x Monotone) (y Dead) (shown a Monotone) (shown b Dead))
+    (joined c d f g (Refutes c f Strict) (Refutes d g Monotone) Monotone (strict_with_monotone c d f g a.kept) (x Strict) (y Monotone) (shown a Strict) (shown b Monotone)))
 
-settled_strict : (c d : PureCarrier) (f g : Action) (p q : Profile) (x y : PureExamples) → IsKnown c f p x → IsKnown d g q y → Settled c d f g p q x y strict
+settled_strict : (c d : PureCarrier) (f g : Action) (p q : Profile) (x y : PureExamples) → IsKnown c f p x → IsKnown d g q y → Settled c d f g p q x y Strict
 settled_strict c d f g p q x y a b =
-    let one = beside (x mono) (y dead) in
-    let two = beside (x strict) (y strict) in
-    settled_alive c d f g p q x y a b strict (λ e. absurd (cc)) (p.strict || (p.mono && q.strict)) (option_or one two)
+    let one = beside (x Monotone) (y Dead) in
+    let two = beside (x Strict) (y Strict) in
+    settled_alive c d f g p q x y a b Strict (λ e. absurd (cc)) (p.strict || (p.mono && q.strict)) (option_or one two)
     (λ e. ⊎_elim
-    (λ h. strict_is_strict c d f g (told a strict h))
-    (λ h. let i = and_parts p.mono q.strict h in mono_and_strict c d f g a.kept (told a mono i.0) (told b strict i.1))
+    (λ h. strict_is_strict c d f g (reported a Strict h))
+    (λ h. let i = and_parts p.mono q.strict h in monotone_and_strict c d f g a.kept (reported a Monotone i.0) (reported b Strict i.1))
     (or_cases p.strict (p.mono && q.strict) e))
     (λ s t e. let h = or_parts p.strict (p.mono && q.strict) e in ⊎_elim
-    (λ i. there_left one two (there_beside (x mono) (y dead) (there a mono i) t))
-    (λ i. there_right one two (there_beside (x strict) (y strict) (there a strict h.0) (there b strict i)))
+    (λ i. there_left one two (there_beside (x Monotone) (y Dead) (there a Monotone i) t))
+    (λ i. there_right one two (there_beside (x Strict) (y Strict) (there a Strict h.0) (there b Strict i)))
     (and_cases p.mono q.strict h.1))
-    (on_or (Refutes (pairs c d) (paired f g) strict) one two
-    (joined c d f g (Refutes c f mono) (Refutes d g dead) strict (mono_with_dead_strict c d f g a.kept) (x mono) (y dead) (shown a mono) (shown b dead))
-    (joined c d f g (Refutes c f strict) (Refutes d g strict) strict (strict_with_strict c d f g) (x strict) (y strict) (shown a strict) (shown b strict)))
+    (on_or (Refutes (pairs c d) (paired f g) Strict) one two
+    (joined c d f g (Refutes c f Monotone) (Refutes d g Dead) Strict (monotone_with_dead_strict c d f g a.kept) (x Monotone) (y Dead) (shown a Monotone) (shown b Dead))
+    (joined c d f g (Refutes c f Strict) (Refutes d g Strict) Strict (strict_with_strict c d f g) (x Strict) (y Strict) (shown a Strict) (shown b Strict)))
 
-settled_iso : (c d : PureCarrier) (f g : Action) (p q : Profile) (x y : PureExamples) → IsKnown c f p x → IsKnown d g q y → Settled c d f g p q x y iso
-settled_iso c d f g p q x y a b =
-    let one = beside (x iso) (y dead) in
-    let two = beside (x dead) (y iso) in
-    let three = beside (x narrow) (spanned (y dead) (y total)) in
-    let four = beside (x canc) (y cond) in
-    let R = Refutes (pairs c d) (paired f g) iso in
-    settled_alive c d f g p q x y a b iso (λ e. absurd (cc)) ((p.iso && q.iso) && (p.narrow || (q.total && (p.canc || q.cond)))) (option_or one (option_or two (option_or three four)))
+settled_isotone : (c d : PureCarrier) (f g : Action) (p q : Profile) (x y : PureExamples) → IsKnown c f p x → IsKnown d g q y → Settled c d f g p q x y Isotone
+settled_isotone c d f g p q x y a b =
+    let one = beside (x Isotone) (y Dead) in
+    let two = beside (x Dead) (y Isotone) in
+    let three = beside (x Narrow) (spanned (y Dead) (y Total)) in
+    let four = beside (x Cancellative) (y Condensed) in
+    let R = Refutes (pairs c d) (paired f g) Isotone in
+    settled_alive c d f g p q x y a b Isotone (λ e. absurd (cc)) ((p.iso && q.iso) && (p.narrow || (q.total && (p.canc || q.cond)))) (option_or one (option_or two (option_or three four)))
     (λ e.
     let h = and_parts (p.iso && q.iso) (p.narrow || (q.total && (p.canc || q.cond))) e in
     let i = and_parts p.iso q.iso h.0 in
-    both_iso c d f g a.kept (told a iso i.0) (told b iso i.1) (⊎_elim
-    (λ j. inl (told a narrow j))
-    (λ j. let m = and_parts q.total (p.canc || q.cond) j in inr (told b total m.0, ⊎_elim (λ n. inl (told a canc n)) (λ n. inr (told b cond n)) (or_cases p.canc q.cond m.1)))
+    both_isotone c d f g a.kept (reported a Isotone i.0) (reported b Isotone i.1) (⊎_elim
+    (λ j. inl (reported a Narrow j))
+    (λ j. let m = and_parts q.total (p.canc || q.cond) j in inr (reported b Total m.0, ⊎_elim (λ n. inl (reported a Cancellative n)) (λ n. inr (reported b Condensed n)) (or_cases p.canc q.cond m.1)))
     (or_cases p.narrow (q.total && (p.canc || q.cond)) h.1)))
     (λ s t e. ⊎_elim
     (λ h. ⊎_elim
-    (λ i. there_left one (option_or two (option_or three four)) (there_beside (x iso) (y dead) (there a iso i) t))
-    (λ i. there_right one (option_or two (option_or three four)) (there_left two (option_or three four) (there_beside (x dead) (y iso) s (there b iso i))))
+    (λ i. there_left one (option_or two (option_or three four)) (there_beside (x Isotone) (y Dead) (there a Isotone i) t))
+    (λ i. there_right one (option_or two (option_or three four)) (there_left two (option_or three four) (there_beside (x Dead) (y Isotone) s (there b Isotone i))))
     (and_cases p.iso q.iso h))
     (λ h.
     let i = or_parts p.narrow (q.total && (p.canc || q.cond)) h in
     there_right one (option_or two (option_or three four)) (there_right two (option_or three four) (⊎_elim
-    (λ j. there_left three four (there_beside (x narrow) (spanned (y dead) (y total)) (there a narrow i.0)
-    (there_spanned d g (y dead) (y total) (shown b dead) (shown b total) t (there b total j))))
-    (λ j. let m = or_parts p.canc q.cond j in there_right three four (there_beside (x canc) (y cond) (there a canc m.0) (there b cond m.1)))
+    (λ j. there_left three four (there_beside (x Narrow) (spanned (y Dead) (y Total)) (there a Narrow i.0)
+    (there_spanned d g (y Dead) (y Total) (shown b Dead) (shown b Total) t (there b Total j))))
+    (λ j. let m = or_parts p.canc q.cond j in there_right three four (there_beside (x Cancellative) (y Condensed) (there a Cancellative m.0) (there b Condensed m.1)))
     (and_cases q.total (p.canc || q.cond) i.1))))
     (and_cases (p.iso && q.iso) (p.narrow || (q.total && (p.canc || q.cond))) e))
     (on_or R one (option_or two (option_or three four))
-    (joined c d f g (Refutes c f iso) (Refutes d g dead) iso (iso_with_dead c d f g) (x iso) (y dead) (shown a iso) (shown b dead))
+    (joined c d f g (Refutes c f Isotone) (Refutes d g Dead) Isotone (isotone_with_dead c d f g) (x Isotone) (y Dead) (shown a Isotone) (shown b Dead))
     (on_or R two (option_or three four)
-    (joined c d f g (Refutes c f dead) (Refutes d g iso) iso (dead_with_iso c d f g a.kept) (x dead) (y iso) (shown a dead) (shown b iso))
+    (joined c d f g (Refutes c f Dead) (Refutes d g Isotone) Isotone (dead_with_isotone c d f g a.kept) (x Dead) (y Isotone) (shown a Dead) (shown b Isotone))
     (on_or R three four
-    (joined c d f g (Refutes c f narrow) (Splits d g) iso (narrow_with_split c d f g) (x narrow) (spanned (y dead) (y total)) (shown a narrow)
-    (splits d g (y dead) (y total) (shown b dead) (shown b total)))
-    (joined c d f g (Refutes c f canc) (Refutes d g cond) iso (canc_with_cond c d f g a.kept) (x canc) (y cond) (shown a canc) (shown b cond)))))
+    (joined c d f g (Refutes c f Narrow) (Splits d g) Isotone (narrow_with_split c d f g) (x Narrow) (spanned (y Dead) (y Total)) (shown a Narrow)
+    (splits d g (y Dead) (y Total) (shown b Dead) (shown b Total)))
+    (joined c d f g (Refutes c f Cancellative) (Refutes d g Condensed) Isotone (cancellative_with_condensed c d f g a.kept) (x Cancellative) (y Condensed) (shown a Cancellative) (shown b Condensed)))))
 
 -- a fact that the pair has where both parts have it
 settled_both : (c d : PureCarrier) (f g : Action) (p q : Profile) (x y : PureExamples) → IsKnown c f p x → IsKnown d g q y
-    → (k : Fact) → ¬ (k ≡ total) → (Holds c f k → Holds d g k → Holds (pairs c d) (paired f g) k)
-    → Joins c d f g (Refutes c f k) (Refutes d g dead) k → Joins c d f g (Refutes c f dead) (Refutes d g k) k
-    → Settles (pairs c d) (paired f g) k ((p.dead || q.dead) || (bit p k && bit q k)) (option_or (beside (x k) (y dead)) (beside (x dead) (y k)))
+    → (k : Fact) → ¬ (k ≡ Total) → (Holds c f k → Holds d g k → Holds (pairs c d) (paired f g) k)
+    → Joins c d f g (Refutes c f k) (Refutes d g Dead) k → Joins c d f g (Refutes c f Dead) (Refutes d g k) k
+    → Settles (pairs c d) (paired f g) k ((p.dead || q.dead) || (bit p k && bit q k)) (option_or (beside (x k) (y Dead)) (beside (x Dead) (y k)))
 settled_both c d f g p q x y a b k other holds first_shows second_shows =
-    settled_alive c d f g p q x y a b k other (bit p k && bit q k) (option_or (beside (x k) (y dead)) (beside (x dead) (y k)))
-    (λ e. let h = and_parts (bit p k) (bit q k) e in holds (told a k h.0) (told b k h.1))
+    settled_alive c d f g p q x y a b k other (bit p k && bit q k) (option_or (beside (x k) (y Dead)) (beside (x Dead) (y k)))
+    (λ e. let h = and_parts (bit p k) (bit q k) e in holds (reported a k h.0) (reported b k h.1))
     (λ s t e. ⊎_elim
-    (λ h. there_left (beside (x k) (y dead)) (beside (x dead) (y k)) (there_beside (x k) (y dead) (there a k h) t))
-    (λ h. there_right (beside (x k) (y dead)) (beside (x dead) (y k)) (there_beside (x dead) (y k) s (there b k h)))
+    (λ h. there_left (beside (x k) (y Dead)) (beside (x Dead) (y k)) (there_beside (x k) (y Dead) (there a k h) t))
+    (λ h. there_right (beside (x k) (y Dead)) (beside (x Dead) (y k)) (there_beside (x Dead) (y k) s (there b k h)))
     (and_cases (bit p k) (bit q k) e))
-    (on_or (Refutes (pairs c d) (paired f g) k) (beside (x k) (y dead)) (beside (x dead) (y k))
-    (joined c d f g (Refutes c f k) (Refutes d g dead) k first_shows (x k) (y dead) (shown a k) (shown b dead))
-    (joined c d f g (Refutes c f dead) (Refutes d g k) k second_shows (x dead) (y k) (shown a dead) (shown b k)))
+    (on_or (Refutes (pairs c d) (paired f g) k) (beside (x k) (y Dead)) (beside (x Dead) (y k))
+    (joined c d f g (Refutes c f k) (Refutes d g Dead) k first_shows (x k) (y Dead) (shown a k) (shown b Dead))
+    (joined c d f g (Refutes c f Dead) (Refutes d g k) k second_shows (x Dead) (y k) (shown a Dead) (shown b k)))
 
 -- the rule: examples of the parts settle the pair
 pub pair_settled : (c d : PureCarrier) (f g : Action) (p q : Profile) (x y : PureExamples) → IsKnown c f p x → IsKnown d g q y
     → IsSettledBy (pairs c d) (paired f g) (pair_profile p q) (pair_examples x y)
-pair_settled c d f g p q x y a b total = settled_total c d f g p q x y a b
-pair_settled c d f g p q x y a b dead = settled_dead c d f g p q x y a b
-pair_settled c d f g p q x y a b mono = settled_mono c d f g p q x y a b
-pair_settled c d f g p q x y a b strict = settled_strict c d f g p q x y a b
-pair_settled c d f g p q x y a b iso = settled_iso c d f g p q x y a b
-pair_settled c d f g p q x y a b canc = settled_both c d f g p q x y a b canc (λ e. absurd (cc)) (both_canc c d f g) (canc_with_dead c d f g b.kept) (dead_with_canc c d f g a.kept)
-pair_settled c d f g p q x y a b cond = settled_both c d f g p q x y a b cond (λ e. absurd (cc)) (both_cond c d f g) (cond_with_dead c d f g) (dead_with_cond c d f g a.kept)
-pair_settled c d f g p q x y a b narrow = settled_both c d f g p q x y a b narrow (λ e. absurd (cc)) (both_narrow c d f g) (narrow_with_dead c d f g) (dead_with_narrow c d f g)
+pair_settled c d f g p q x y a b Total = settled_total c d f g p q x y a b
+pair_settled c d f g p q x y a b Dead = settled_dead c d f g p q x y a b
+pair_settled c d f g p q x y a b Monotone = settled_monotone c d f g p q x y a b
+pair_settled c d f g p q x y a b Strict = settled_strict c d f g p q x y a b
+pair_settled c d f g p q x y a b Isotone = settled_isotone c d f g p q x y a b
+pair_settled c d f g p q x y a b Cancellative = settled_both c d f g p q x y a b Cancellative (λ e. absurd (cc)) (both_cancellative c d f g) (cancellative_with_dead c d f g b.kept) (dead_with_cancellative c d f g a.kept)
+pair_settled c d f g p q x y a b Condensed = settled_both c d f g p q x y a b Condensed (λ e. absurd (cc)) (both_condensed c d f g) (condensed_with_dead c d f g) (dead_with_condensed c d f g a.kept)
+pair_settled c d f g p q x y a b Narrow = settled_both c d f g p q x y a b Narrow (λ e. absurd (cc)) (both_narrow c d f g) (narrow_with_dead c d f g) (dead_with_narrow c d f g)
 
 -- No number of the pair's examples is above those of the parts' ones.
 
@@ -226,27 +228,27 @@ bound_either : (n : ℕ) (x y : PureExamples) → ExamplesAtMost n x → Example
 bound_either n x y h i k l m o = bound_or n (beside (x k) (y l)) (beside (x m) (y o)) (bound_beside n (x k) (y l) (h k) (i l)) (bound_beside n (x m) (y o) (h m) (i o))
 
 bound_value : (n : ℕ) (x : PureExamples) → ExamplesAtMost n x → ExampleAtMost n (some_value x)
-bound_value n x h = bound_or n (x dead) (x total) (h dead) (h total)
+bound_value n x h = bound_or n (x Dead) (x Total) (h Dead) (h Total)
 
 pub pair_bound : (n : ℕ) (x y : PureExamples) → ExamplesAtMost n x → ExamplesAtMost n y → ExamplesAtMost n (pair_examples x y)
-pair_bound n x y h i total = bound_or n (beside (x total) (some_value y)) (beside (some_value x) (y total))
-    (bound_beside n (x total) (some_value y) (h total) (bound_value n y i)) (bound_beside n (some_value x) (y total) (bound_value n x h) (i total))
-pair_bound n x y h i dead = bound_beside n (x dead) (y dead) (h dead) (i dead)
-pair_bound n x y h i mono = bound_either n x y h i mono dead strict mono
-pair_bound n x y h i strict = bound_either n x y h i mono dead strict strict
-pair_bound n x y h i iso =
-    let one = beside (x iso) (y dead) in
-    let two = beside (x dead) (y iso) in
-    let three = beside (x narrow) (spanned (y dead) (y total)) in
-    let four = beside (x canc) (y cond) in
-    bound_or n one (option_or two (option_or three four)) (bound_beside n (x iso) (y dead) (h iso) (i dead))
-    (bound_or n two (option_or three four) (bound_beside n (x dead) (y iso) (h dead) (i iso))
+pair_bound n x y h i Total = bound_or n (beside (x Total) (some_value y)) (beside (some_value x) (y Total))
+    (bound_beside n (x Total) (some_value y) (h Total) (bound_value n y i)) (bound_beside n (some_value x) (y Total) (bound_value n x h) (i Total))
+pair_bound n x y h i Dead = bound_beside n (x Dead) (y Dead) (h Dead) (i Dead)
+pair_bound n x y h i Monotone = bound_either n x y h i Monotone Dead Strict Monotone
+pair_bound n x y h i Strict = bound_either n x y h i Monotone Dead Strict Strict
+pair_bound n x y h i Isotone =
+    let one = beside (x Isotone) (y Dead) in
+    let two = beside (x Dead) (y Isotone) in
+    let three = beside (x Narrow) (spanned (y Dead) (y Total)) in
+    let four = beside (x Cancellative) (y Condensed) in
+    bound_or n one (option_or two (option_or three four)) (bound_beside n (x Isotone) (y Dead) (h Isotone) (i Dead))
+    (bound_or n two (option_or three four) (bound_beside n (x Dead) (y Isotone) (h Dead) (i Isotone))
     (bound_or n three four
-    (bound_beside n (x narrow) (spanned (y dead) (y total)) (h narrow) (bound_spanned n (y dead) (y total) (i dead) (i total)))
-    (bound_beside n (x canc) (y cond) (h canc) (i cond))))
-pair_bound n x y h i canc = bound_either n x y h i canc dead dead canc
-pair_bound n x y h i cond = bound_either n x y h i cond dead dead cond
-pair_bound n x y h i narrow = bound_either n x y h i narrow dead dead narrow
+    (bound_beside n (x Narrow) (spanned (y Dead) (y Total)) (h Narrow) (bound_spanned n (y Dead) (y Total) (i Dead) (i Total)))
+    (bound_beside n (x Cancellative) (y Condensed) (h Cancellative) (i Condensed))))
+pair_bound n x y h i Cancellative = bound_either n x y h i Cancellative Dead Dead Cancellative
+pair_bound n x y h i Condensed = bound_either n x y h i Condensed Dead Dead Condensed
+pair_bound n x y h i Narrow = bound_either n x y h i Narrow Dead Dead Narrow
 
 -- Labels whose profiles are known.
 

@@ -4,7 +4,8 @@ use Rattle.std.specs.Option.{option_or}
 use Rattle.alg_model.specs.Expressions.{pair}
 use Rattle.alg_model.specs.Application.{both}
 use Rattle.alg_classes.specs.declared.profile.Profile.{Profile}
-use Rattle.alg_classes.specs.Facts.{Action, total, dead, mono, strict, iso, canc, cond, narrow, PureExample, at, between}
+use Rattle.alg_classes.specs.declared.fact.Fact.TheVariants.{Total, Dead, Monotone, Strict, Isotone, Cancellative, Condensed, Narrow}
+use Rattle.alg_classes.specs.Facts.{Action, PureExample, at, between}
 use Rattle.alg_classes.specs.Classes.{PureExamples}
 
 -- each part of a pair is acted on by its own
@@ -40,17 +41,17 @@ spanned _ _ = None
 
 -- a value of the carrier: each value has an image or has none
 abbrev pub some_value : PureExamples → Option PureExample
-some_value x = option_or (x dead) (x total)
+some_value x = option_or (x Dead) (x Total)
 
 -- the examples of the pair from those of its parts
 abbrev pub pair_examples : PureExamples → PureExamples → PureExamples
-pair_examples x y total = option_or (beside (x total) (some_value y)) (beside (some_value x) (y total))
-pair_examples x y dead = beside (x dead) (y dead)
-pair_examples x y mono = option_or (beside (x mono) (y dead)) (beside (x strict) (y mono))
-pair_examples x y strict = option_or (beside (x mono) (y dead)) (beside (x strict) (y strict))
-pair_examples x y iso =
-    option_or (beside (x iso) (y dead)) (option_or (beside (x dead) (y iso))
-    (option_or (beside (x narrow) (spanned (y dead) (y total))) (beside (x canc) (y cond))))
-pair_examples x y canc = option_or (beside (x canc) (y dead)) (beside (x dead) (y canc))
-pair_examples x y cond = option_or (beside (x cond) (y dead)) (beside (x dead) (y cond))
-pair_examples x y narrow = option_or (beside (x narrow) (y dead)) (beside (x dead) (y narrow))
+pair_examples x y Total = option_or (beside (x Total) (some_value y)) (beside (some_value x) (y Total))
+pair_examples x y Dead = beside (x Dead) (y Dead)
+pair_examples x y Monotone = option_or (beside (x Monotone) (y Dead)) (beside (x Strict) (y Monotone))
+pair_examples x y Strict = option_or (beside (x Monotone) (y Dead)) (beside (x Strict) (y Strict))
+pair_examples x y Isotone =
+    option_or (beside (x Isotone) (y Dead)) (option_or (beside (x Dead) (y Isotone))
+    (option_or (beside (x Narrow) (spanned (y Dead) (y Total))) (beside (x Cancellative) (y Condensed))))
+pair_examples x y Cancellative = option_or (beside (x Cancellative) (y Dead)) (beside (x Dead) (y Cancellative))
+pair_examples x y Condensed = option_or (beside (x Condensed) (y Dead)) (beside (x Dead) (y Condensed))
+pair_examples x y Narrow = option_or (beside (x Narrow) (y Dead)) (beside (x Dead) (y Narrow))

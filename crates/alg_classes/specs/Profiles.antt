@@ -4,18 +4,20 @@ use Rattle.alg_model.specs.Expressions.{Expression, PureCarrier, PureLabel}
 use Rattle.alg_model.specs.Carriers.{carrier_of}
 use Rattle.alg_model.specs.Application.{App}
 use Rattle.alg_classes.specs.declared.profile.Profile.{Profile}
-use Rattle.alg_classes.specs.Facts.{Action, Fact, total, dead, mono, strict, iso, canc, cond, narrow, Holds}
+use Rattle.alg_classes.specs.declared.fact.Fact.{Fact}
+use Rattle.alg_classes.specs.declared.fact.Fact.TheVariants.{Total, Dead, Monotone, Strict, Isotone, Cancellative, Condensed, Narrow}
+use Rattle.alg_classes.specs.Facts.{Action, Holds}
 
 -- what the profile says of the fact
 abbrev pub bit : Profile → Fact → Bool
-bit p total = p.total
-bit p dead = p.dead
-bit p mono = p.mono
-bit p strict = p.strict
-bit p iso = p.iso
-bit p canc = p.canc
-bit p cond = p.cond
-bit p narrow = p.narrow
+bit p Total = p.total
+bit p Dead = p.dead
+bit p Monotone = p.mono
+bit p Strict = p.strict
+bit p Isotone = p.iso
+bit p Cancellative = p.canc
+bit p Condensed = p.cond
+bit p Narrow = p.narrow
 
 -- the profile says of each fact that it holds, exactly where it does
 abbrev pub IsProfile : PureCarrier → Action → Profile → Type 0

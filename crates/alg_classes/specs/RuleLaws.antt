@@ -2,7 +2,7 @@
 -- example where it tells that it doesn't, and its examples refute.
 use Rattle.std.proofs.Common.{◌≡◌, refl, sym, subst, Bool, true, false, Option, Some, None}
 use Rattle.std.specs.Option.{option_or}
-use Rattle.alg_model.specs.declared.alg.TheConstants.{MAX_INSTANCE_NUMBER}
+use Rattle.alg_model.specs.Numbers.{max_instance_number}
 use Rattle.alg_model.specs.Expressions.{PureAlg, PureCarrier, PureValue, PureLabel}
 use Rattle.alg_model.specs.Views.{pure_label}
 use Rattle.alg_model.specs.Carriers.{carrier_of, In}
@@ -10,7 +10,8 @@ use Rattle.alg_model.specs.Application.{IsLabel, App}
 use Rattle.alg_model.specs.Bounds.{LabelAtMost, greatest_number}
 use Rattle.alg_classes.specs.declared.profile.Profile.{Profile}
 use Rattle.alg_classes.specs.declared.class.Class.{Class}
-use Rattle.alg_classes.specs.Facts.{Action, Fact, Holds, PureExample, at, between, Refutes}
+use Rattle.alg_classes.specs.declared.fact.Fact.{Fact}
+use Rattle.alg_classes.specs.Facts.{Action, Holds, PureExample, at, between, Refutes}
 use Rattle.alg_classes.specs.Profiles.{bit}
 use Rattle.alg_classes.specs.Classes.{PureExamples, pure_examples, Settles, IsSettledBy, ExampleAtMost, ExamplesAtMost, ClassOf}
 use Rattle.alg_classes.specs.FactLaws.{Keeps, example_refutes}
@@ -41,11 +42,11 @@ settle c f k true (Some e) holds there r = absurd (example_refutes c f k e r (ho
 settle c f k false None holds there r = let t = (there refl).1 in absurd (cc)
 settle c f k false (Some e) holds there r = r
 
-told_by : (c : PureCarrier) (f : Action) (k : Fact) (b : Bool) (o : Option PureExample) → Settles c f k b o → b ≡ true → Holds c f k
-told_by c f k true None s e = s
-told_by c f k true (Some x) s e = absurd s
-told_by c f k false None s e = absurd s
-told_by c f k false (Some x) s e = absurd (cc)
+reported_by : (c : PureCarrier) (f : Action) (k : Fact) (b : Bool) (o : Option PureExample) → Settles c f k b o → b ≡ true → Holds c f k
+reported_by c f k true None s e = s
+reported_by c f k true (Some x) s e = absurd s
+reported_by c f k false None s e = absurd s
+reported_by c f k false (Some x) s e = absurd (cc)
 
 there_by : (c : PureCarrier) (f : Action) (k : Fact) (b : Bool) (o : Option PureExample) → Settles c f k b o → b ≡ false → IsThere o
 there_by c f k true None s e = absurd (cc)
@@ -60,8 +61,8 @@ shown_by c f k false None s = absurd s
 shown_by c f k false (Some x) s = s
 
 -- a fact that the profile tells holds
-pub told : {c : PureCarrier} {f : Action} {p : Profile} {x : PureExamples} (a : IsKnown c f p x) (k : Fact) → bit p k ≡ true → Holds c f k
-told {c} {f} {p} {x} a k = told_by c f k (bit p k) (x k) (a.settled k)
+pub reported : {c : PureCarrier} {f : Action} {p : Profile} {x : PureExamples} (a : IsKnown c f p x) (k : Fact) → bit p k ≡ true → Holds c f k
+reported {c} {f} {p} {x} a k = reported_by c f k (bit p k) (x k) (a.settled k)
 
 -- one that it denies has an example
 pub there : {c : PureCarrier} {f : Action} {p : Profile} {x : PureExamples} (a : IsKnown c f p x) (k : Fact) → bit p k ≡ false → IsThere (x k)
@@ -88,7 +89,7 @@ there_right (Some e) y h = (e, refl)
 pub class_from : (a : PureAlg) (class : Class) (l : PureLabel) (p : Profile) (x : PureExamples)
     → pure_label class.label ≡ l → class.profile ≡ p → ((k : Fact) → pure_examples class.examples k ≡ x k)
     → IsLabel a.expression l → LabelAtMost (greatest_number a.edition) l → IsSettledBy (carrier_of a.expression) (App a.expression l) p x
-    → ExamplesAtMost MAX_INSTANCE_NUMBER x → ClassOf a class
+    → ExamplesAtMost max_instance_number x → ClassOf a class
 class_from a class l p x label_is profile_is examples_are label label_bound settled bound = record {
   label = subst (IsLabel a.expression) (sym label_is) label;
   label_bound = subst (LabelAtMost (greatest_number a.edition)) (sym label_is) label_bound;
@@ -96,5 +97,5 @@ class_from a class l p x label_is profile_is examples_are label label_bound sett
       subst (λ o. Settles (carrier_of a.expression) (App a.expression (pure_label class.label)) k (bit class.profile k) o) (sym (examples_are k))
       (subst (λ q. Settles (carrier_of a.expression) (App a.expression (pure_label class.label)) k (bit q k) (x k)) (sym profile_is)
       (subst (λ m. Settles (carrier_of a.expression) (App a.expression m) k (bit p k) (x k)) (sym label_is) (settled k)));
-  bound = λ k. subst (ExampleAtMost MAX_INSTANCE_NUMBER) (sym (examples_are k)) (bound k);
+  bound = λ k. subst (ExampleAtMost max_instance_number) (sym (examples_are k)) (bound k);
 }

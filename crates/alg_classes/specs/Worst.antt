@@ -5,6 +5,7 @@ use Rattle.alg_model.specs.Expressions.{PureValue, number, symbols, marks, unit,
 use Rattle.alg_model.specs.Carriers.{In}
 use Rattle.alg_model.specs.Application.{both}
 use Rattle.alg_model.specs.Bounds.{AtMost}
+use Rattle.alg_model.specs.CarrierBounds.{CarrierAtMost}
 use Rattle.alg_classes.specs.Flat.{HasWorse, numbers_below}
 
 -- a value than which none is worse, unless each value has a worse one
@@ -24,19 +25,6 @@ worst (sides c d) = option_map second (worst d)
 abbrev pub IsWorstIfAny : PureCarrier → Option PureValue → Type 0
 IsWorstIfAny c None = (v : PureValue) → In c v → HasWorse c v
 IsWorstIfAny c (Some w) = In c w × ¬ HasWorse c w
-
--- no number of the carrier is above n
-abbrev pub CarrierAtMost : ℕ → PureCarrier → Type 0
-CarrierAtMost n whole = Unit {0}
-CarrierAtMost n (up_to top) = top ≤ n
-CarrierAtMost n (down_from top) = top ≤ n
-CarrierAtMost n (seqs k) = k ≤ n
-CarrierAtMost n (simseqs k) = k ≤ n
-CarrierAtMost n (sets k) = k ≤ n
-CarrierAtMost n one = Unit {0}
-CarrierAtMost n (named names ranks) = Unit {0}
-CarrierAtMost n (pairs c d) = CarrierAtMost n c × CarrierAtMost n d
-CarrierAtMost n (sides c d) = CarrierAtMost n c × CarrierAtMost n d
 
 -- no number of the value is above all numbers of the carrier
 abbrev pub IsWithin : PureCarrier → PureValue → Type 0

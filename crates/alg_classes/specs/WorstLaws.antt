@@ -8,19 +8,19 @@ use Rattle.std.proofs.lemmas.Bool.Decides.{nat_tests}
 use Rattle.std.proofs.lemmas.Nat.{pow_pos}
 use Rattle.std.proofs.lemmas.Option.{same_Some, none-some}
 use Rattle.alg_model.specs.declared.edition.Edition.{Edition}
-use Rattle.alg_model.specs.Expressions.{Expression, add, cap, width, pref, orig, seq, simseq, tags, guard, gate, table, lex, scoped, union, sum, plus, left, right}
-use Rattle.alg_model.specs.Expressions as model
+use Rattle.alg_model.specs.Expressions.{Expression}
 use Rattle.alg_model.specs.Expressions.{PureCarrier, whole, up_to, down_from, seqs, simseqs, sets, one, named, pairs, sides}
 use Rattle.alg_model.specs.Expressions.{PureValue, pair, first, second}
 use Rattle.alg_model.specs.Carriers.{carrier_of, In, Order}
 use Rattle.alg_model.specs.Application.{both}
 use Rattle.alg_model.specs.Bounds.{AtMost, ExpressionAtMost, greatest_number}
+use Rattle.alg_model.specs.CarrierBounds.{CarrierAtMost, carrier_at_most}
 use Rattle.alg_model.specs.Formation.{IsCarrier}
 use Rattle.alg_model.specs.PreferenceLaws.{each_pair, each_side}
 use Rattle.alg_classes.specs.Constants.{constant_bits, constant_profile}
 use Rattle.alg_classes.specs.Flat.{is_flat, has_worse, last_rank, numbers_below, best, worse_than}
 use Rattle.alg_classes.specs.FlatLaws.{values_are, all_below, distinct_below, length_below, below_at_most, best_in, worse_than_is_worse, flat_is_equivalent, some_is_worse, worse_exactly}
-use Rattle.alg_classes.specs.Worst.{worst, IsWorstIfAny, CarrierAtMost, IsWithin}
+use Rattle.alg_classes.specs.Worst.{worst, IsWorstIfAny, IsWithin}
 
 -- the same as a worst value's law, said by the test
 abbrev pub IsWorstByTest : PureCarrier → Option PureValue → Type 0
@@ -72,27 +72,6 @@ pub worst_is_worst : (c : PureCarrier) → IsCarrier c → IsWorstIfAny c (worst
 worst_is_worst c is = by_test c (worst c) is (worst_by_test c is)
 
 -- The numbers of both.
-
-carrier_at_most : (n : ℕ) (a : Expression) → ExpressionAtMost n a → CarrierAtMost n (carrier_of a)
-carrier_at_most n (add low high) h = tt
-carrier_at_most n (cap top low high) h = h.0
-carrier_at_most n (model.worst top low high) h = h.0
-carrier_at_most n (width top low high) h = h.0
-carrier_at_most n (pref top) h = h
-carrier_at_most n (orig top) h = h
-carrier_at_most n (seq k) h = h
-carrier_at_most n (simseq k) h = h
-carrier_at_most n (tags k) h = h
-carrier_at_most n (guard k) h = h
-carrier_at_most n gate h = tt
-carrier_at_most n (table t) h = tt
-carrier_at_most n (lex a b) h = (carrier_at_most n a h.0, carrier_at_most n b h.1)
-carrier_at_most n (scoped a b) h = (carrier_at_most n a h.0, carrier_at_most n b h.1)
-carrier_at_most n (union a b) h = (carrier_at_most n a h.0, carrier_at_most n b h.1)
-carrier_at_most n (sum a b) h = (carrier_at_most n a h.0, carrier_at_most n b h.1)
-carrier_at_most n (plus a b) h = carrier_at_most n a h.0
-carrier_at_most n (left a) h = carrier_at_most n a h
-carrier_at_most n (right a) h = carrier_at_most n a h
 
 best_at_most : (n : ℕ) (c : PureCarrier) → CarrierAtMost n c → AtMost n (best c)
 best_at_most n whole h = omega arith

@@ -1,17 +1,18 @@
 ghost use Rattle.std.specs.Prelude.{◌≡◌, IfOk};
 ghost use Rattle.alg_model.specs.Bounds.{AtMost};
 ghost use Rattle.alg_model.specs.Carriers.{In};
+ghost use Rattle.alg_model.specs.Expressions.{PureCarrier, PureValue};
 ghost use Rattle.alg_model.specs.Formation.{IsCarrier};
 ghost use Rattle.alg_model.specs.Views.{pure_carrier, pure_value};
 ghost use Rattle.alg_model.specs.declared.alg.TheConstants.{MAX_INSTANCE_NUMBER};
 ghost use Rattle.alg_model.specs.declared.edition.TheConstants.{MAX_LABEL_NUMBER};
 ghost use Rattle.alg_classes.specs.Classes.{pure_examples, IsSettledBy, ExamplesAtMost};
-ghost use Rattle.alg_classes.specs.Constants.{constant, kept, constant_profile, kept_profile};
+ghost use Rattle.alg_classes.specs.Constants.{constant, kept, denied, constant_profile, kept_profile, denied_profile};
 ghost use Rattle.alg_classes.specs.Profiles.{IsProfile};
 
 use crate::worse::best;
-use crate::{Examples, Profile, Shaped, apart, has_worse, is_flat, worse_than};
-use alg_model::{Carrier, Value};
+use crate::{Examples, Profile, apart, has_worse, is_flat, worse_than};
+use alg_model::{Carrier, Shaped, Value};
 use meta_base::NoMemory;
 use std::alloc::Global;
 
@@ -49,6 +50,24 @@ pub fn kept_profile<C: Shaped>(shaped: &C) -> Profile
         canc: true,
         cond: flat,
         narrow: flat,
+    }
+}
+
+/// The profile of what sends every value of a carrier to none. It takes no memory.
+#[tactic(auto, using(crate::specs::Constants::denied_is_profile))]
+pub fn denied_profile() -> Profile
+    ensures profile { result ≡ denied_profile }
+    ensures exact { (c : PureCarrier) (v : PureValue) → In c v → IsProfile c denied result }
+{
+    Profile {
+        total: false,
+        dead: true,
+        mono: true,
+        strict: true,
+        iso: true,
+        canc: true,
+        cond: true,
+        narrow: true,
     }
 }
 

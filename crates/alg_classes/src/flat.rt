@@ -1,4 +1,4 @@
-ghost use Rattle.std.specs.Prelude.{◌≡◌, slice_index};
+ghost use Rattle.std.specs.Prelude.{◌≡◌};
 ghost use Rattle.alg_model.specs.Carriers.{In};
 ghost use Rattle.alg_model.specs.Views.{pure_value};
 ghost use Rattle.alg_model.specs.Expressions.{PureCarrier, PureValue};
@@ -6,8 +6,7 @@ ghost use Rattle.alg_model.specs.Formation.{IsCarrier};
 ghost use Rattle.alg_classes.specs.Classes.{IsTruthOf};
 ghost use Rattle.alg_classes.specs.Flat.{IsFlat, HasWorse, is_flat, has_worse, last_rank};
 
-use crate::{Form, Shaped};
-use alg_model::{Amount, Value};
+use alg_model::{Amount, Form, Shaped, Value, rank_at};
 
 /// Whether all values of the carrier are equivalent. It takes no memory.
 pub fn is_flat<C: Shaped>(shaped: &C) -> bool
@@ -29,13 +28,6 @@ fn last_rank(ranks: &[u8]) -> u8
     ranks.last().copied().unwrap_or(0)
 }
 
-// The rank of the value at that place of a table. A table of an algebra has one for each place.
-fn rank(ranks: &[u8], place: u8) -> u8
-    ensures { result ≡ slice_index ranks.now place }
-{
-    ranks.get(usize::from(place)).copied().unwrap_or(0)
-}
-
 /// Whether some value of the carrier is worse than this one. It takes no memory.
 pub fn has_worse<C: Shaped>(shaped: &C, value: &Value) -> bool
     ensures { result ≡ has_worse (C.carrier shaped.now) (pure_value value.now) }
@@ -45,7 +37,7 @@ pub fn has_worse<C: Shaped>(shaped: &C, value: &Value) -> bool
         (Form::UpTo(top), Value::Number(n)) => *n < Amount::from(top),
         (Form::DownFrom(_), Value::Number(n)) => 0 < *n,
         (Form::SimSeqs(symbols), Value::Symbols(ns)) => (ns.as_slice().len() as u64) < symbols,
-        (Form::Named(_, ranks), Value::Name(place)) => rank(ranks, *place) < last_rank(ranks),
+        (Form::Named(_, ranks), Value::Name(place)) => rank_at(ranks, *place) < last_rank(ranks),
         (Form::Pair(c, d), Value::Pair(u, v)) => has_worse(c, u) || has_worse(d, v),
         (Form::Side(_, _), Value::First(_)) => true,
         (Form::Side(_, d), Value::Second(v)) => has_worse(d, v),

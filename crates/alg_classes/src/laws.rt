@@ -1,5 +1,6 @@
 ghost use Rattle.alg_classes.specs.Classes.{ClassOf};
-ghost use Rattle.alg_classes.specs.Facts.{Action, Fact, Holds, PureExample, Refutes};
+ghost use Rattle.alg_classes.specs.declared.fact.Fact.{Fact};
+ghost use Rattle.alg_classes.specs.Facts.{Action, Holds, PureExample, Refutes};
 ghost use Rattle.alg_classes.specs.Profiles.{ProfileOf};
 ghost use Rattle.alg_classes.specs.declared.class.Class.{Class};
 ghost use Rattle.alg_model.specs.Expressions.{PureAlg, PureCarrier};

@@ -1,5 +1,5 @@
 ghost use Rattle.std.specs.Prelude.{◌≡◌, [], OnOk, OnErr};
-ghost use Rattle.alg_classes.specs.Classes.{HasProfile, IsTruthOf, AreDistinct, IsGrownBy};
+ghost use Rattle.alg_classes.specs.Classes.{HasBy, HasProfile, IsTruthOf, AreDistinct, IsGrownBy};
 
 use crate::{Class, Profile};
 use meta_base::{List, NoMemory};
@@ -30,13 +30,35 @@ impl Model for ClassList {
     ghost invariant = { λ s. AreDistinct s.classes };
 }
 
-// A class of the slice has the profile.
-fn has_profile(classes: &[Class], profile: &Profile) -> bool
-    ensures { IsTruthOf result (HasProfile classes.now profile.now) }
+/// What has a profile: a class, and whatever else stands for all labels that have the same.
+pub trait Profiled: Sized {
+    ghost use Rattle.alg_classes.specs.declared.profile.Profile.{Profile};
+
+    /// The profile.
+    ghost profile_of: { Self → Profile };
+
+    /// Lends the profile.
+    fn profile(&self) -> &Profile
+        ensures { result.now ≡ profile_of self.now };
+}
+
+impl Profiled for Class {
+    ghost use Rattle.alg_classes.specs.Classes.{of_class};
+
+    ghost profile_of = { of_class };
+
+    fn profile(&self) -> &Profile {
+        &self.profile
+    }
+}
+
+/// Whether an item of the slice has the profile. It takes no memory.
+pub fn has_profile<T: Profiled>(items: &[T], profile: &Profile) -> bool
+    ensures { IsTruthOf result (HasBy T.profile_of items.now profile.now) }
 {
-    match classes {
+    match items {
         [] => false,
-        [class, rest @ ..] => class.profile == *profile || has_profile(rest, profile),
+        [item, rest @ ..] => *item.profile() == *profile || has_profile(rest, profile),
     }
 }
 

@@ -3,7 +3,8 @@ ghost use Rattle.std.specs.Prelude.{◌≡◌, option_map, IfOk};
 ghost use Rattle.std.specs.Option.{option_or};
 ghost use Rattle.alg_model.specs.Expressions as pure;
 ghost use Rattle.alg_model.specs.Views.{pure_value};
-ghost use Rattle.alg_classes.specs.Facts as facts;
+ghost use Rattle.alg_classes.specs.declared.fact.Fact.{Fact};
+ghost use Rattle.alg_classes.specs.declared.fact.Fact.TheVariants as fact;
 ghost use Rattle.alg_classes.specs.Classes.{pure_at, pure_between, pure_examples};
 ghost use Rattle.alg_classes.specs.Pairs as rule;
 
@@ -20,9 +21,9 @@ pub fn pair_profile(l: &Profile, m: &Profile) -> Profile
     Profile {
         total: l.total && m.total,
         dead: is_dead(l, m),
-        mono: is_mono(l, m),
+        mono: is_monotone(l, m),
         strict: is_strict(l, m),
-        iso: is_iso(l, m),
+        iso: is_isotone(l, m),
         canc: is_dead(l, m) || l.canc && m.canc,
         cond: is_dead(l, m) || l.cond && m.cond,
         narrow: is_dead(l, m) || l.narrow && m.narrow,
@@ -36,7 +37,7 @@ fn is_dead(l: &Profile, m: &Profile) -> bool
 }
 
 // The first part decides, or else it is at best kept, and the second decides.
-fn is_mono(l: &Profile, m: &Profile) -> bool
+fn is_monotone(l: &Profile, m: &Profile) -> bool
     ensures { result ≡ (rule.pair_profile l.now m.now).mono }
 {
     is_dead(l, m) || l.strict || l.mono && m.mono
@@ -51,7 +52,7 @@ fn is_strict(l: &Profile, m: &Profile) -> bool
 // Each part keeps its order, and the second can't turn that of the first: no first parts that have images
 // are in order, or each second part has an image, and where first parts come to be equivalent, the second
 // ones do too.
-fn is_iso(l: &Profile, m: &Profile) -> bool
+fn is_isotone(l: &Profile, m: &Profile) -> bool
     ensures { result ≡ (rule.pair_profile l.now m.now).iso }
 {
     is_dead(l, m) || l.iso && m.iso && (l.narrow || m.total && (l.canc || m.cond))
@@ -60,7 +61,7 @@ fn is_iso(l: &Profile, m: &Profile) -> bool
 /// The examples of such a label from those of its parts. Each carrier has a value, so that one is inside
 /// or outside. It is refused for want of memory alone.
 pub fn pair_examples(alloc: Global, x: &Examples, y: &Examples) -> Result<Examples, NoMemory>
-    ensures { IfOk result (λ z. (k : facts.Fact) →
+    ensures { IfOk result (λ z. (k : Fact) →
         pure_examples z k ≡ rule.pair_examples (pure_examples x.now) (pure_examples y.now) k) }
 {
     Ok(Examples {
@@ -78,7 +79,7 @@ pub fn pair_examples(alloc: Global, x: &Examples, y: &Examples) -> Result<Exampl
 // A pair that is sent to none: a part is.
 fn outside(alloc: Global, x: &Examples, y: &Examples) -> Result<Option<Value>, NoMemory>
     ensures { IfOk result (λ z. option_map pure_at z
-        ≡ rule.pair_examples (pure_examples x.now) (pure_examples y.now) facts.total) }
+        ≡ rule.pair_examples (pure_examples x.now) (pure_examples y.now) fact.Total) }
 {
     match at_both(alloc, &x.outside, some_value(y))? {
         None => at_both(alloc, some_value(x), &y.outside),
@@ -90,7 +91,7 @@ fn outside(alloc: Global, x: &Examples, y: &Examples) -> Result<Option<Value>, N
 // and the image of the second is preferred to that.
 fn not_mono(alloc: Global, x: &Examples, y: &Examples) -> Result<Option<Value>, NoMemory>
     ensures { IfOk result (λ z. option_map pure_at z
-        ≡ rule.pair_examples (pure_examples x.now) (pure_examples y.now) facts.mono) }
+        ≡ rule.pair_examples (pure_examples x.now) (pure_examples y.now) fact.Monotone) }
 {
     match at_both(alloc, &x.not_mono, &y.inside)? {
         None => at_both(alloc, &x.not_strict, &y.not_mono),
@@ -101,7 +102,7 @@ fn not_mono(alloc: Global, x: &Examples, y: &Examples) -> Result<Option<Value>, 
 // A pair that has an image and isn't preferred to it.
 fn not_strict(alloc: Global, x: &Examples, y: &Examples) -> Result<Option<Value>, NoMemory>
     ensures { IfOk result (λ z. option_map pure_at z
-        ≡ rule.pair_examples (pure_examples x.now) (pure_examples y.now) facts.strict) }
+        ≡ rule.pair_examples (pure_examples x.now) (pure_examples y.now) fact.Strict) }
 {
     match at_both(alloc, &x.not_mono, &y.inside)? {
         None => at_both(alloc, &x.not_strict, &y.not_strict),
@@ -113,7 +114,7 @@ fn not_strict(alloc: Global, x: &Examples, y: &Examples) -> Result<Option<Value>
 // ones turn it where the first pair has no image, or where the images of the first parts are equivalent.
 fn not_iso(alloc: Global, x: &Examples, y: &Examples) -> Result<Option<(Value, Value)>, NoMemory>
     ensures { IfOk result (λ z. option_map pure_between z
-        ≡ rule.pair_examples (pure_examples x.now) (pure_examples y.now) facts.iso) }
+        ≡ rule.pair_examples (pure_examples x.now) (pure_examples y.now) fact.Isotone) }
 {
     match of_either(alloc, &x.not_iso, &x.inside, &y.not_iso, &y.inside)? {
         None => {}

@@ -1,3 +1,8 @@
+ghost use Rattle.std.specs.Prelude.{◌≡◌};
+ghost use Rattle.alg_classes.specs.Facts.{fact_of};
+ghost use Rattle.alg_classes.specs.Instances.{pure_property};
+
+use crate::Fact;
 use alg_model::{Label, Value};
 
 /// A property of labels. An algebra has it if all its labels have it.
@@ -24,6 +29,19 @@ impl Property {
         Property::Cancellative,
         Property::Total,
     ];
+
+    /// The fact of a label that the property is.
+    pub fn fact(self) -> Fact
+        ensures { result ≡ fact_of (pure_property self) }
+    {
+        match self {
+            Property::Monotone => Fact::Monotone,
+            Property::Strict => Fact::Strict,
+            Property::Isotone => Fact::Isotone,
+            Property::Cancellative => Fact::Cancellative,
+            Property::Total => Fact::Total,
+        }
+    }
 }
 
 /// Values at which a label doesn't have a property.

@@ -85,7 +85,7 @@ distinct_front (x ∷ xs) ys h =
 
 -- one more symbol that is there for the first time
 pub distinct_more : (ns : List ℕ) (i : ℕ) → i < length ns → distinct (take i ns) ≡ true → list_any (λ m. m == get_or ns i 0) (take i ns) ≡ false → distinct (take (i + 1) ns) ≡ true
-distinct_more ns i h d lacks = rw (take_more ns i 0 h, distinct-push (take i ns) (get_or ns i 0), d, lacks) refl
+distinct_more ns i h d misses = rw (take_more ns i 0 h, distinct-push (take i ns) (get_or ns i 0), d, misses) refl
 
 -- a symbol that was there before
 pub repeated : (ns : List ℕ) (i : ℕ) → i < length ns → list_any (λ m. m == get_or ns i 0) (take i ns) ≡ true → distinct ns ≡ false

@@ -1,7 +1,6 @@
 -- What a label needs to act on a value, and what comes of it.
 use Rattle.std.specs.Prelude.{◌≡◌, Option, Some, None, Bool, true, false, option_map}
-use Rattle.alg_model.specs.declared.edition.TheConstants.{MAX_LABEL_NUMBER}
-use Rattle.alg_model.specs.declared.alg.TheConstants.{MAX_VALUE_NUMBER}
+use Rattle.alg_model.specs.Numbers.{max_label_number, max_value_number}
 use Rattle.alg_model.specs.Expressions.{Expression, PureLabel, PureValue}
 use Rattle.alg_model.specs.Carriers.{carrier_of, In}
 use Rattle.alg_model.specs.Application.{IsLabel, App}
@@ -17,8 +16,8 @@ pub record MayAct (a : Expression) (l : PureLabel) (v : PureValue) : Type 0 wher
   pub carriers : MeetsCarriers a
   pub label : IsLabel a l
   pub value : In (carrier_of a) v
-  pub small_label : LabelAtMost MAX_LABEL_NUMBER l
-  pub small_value : AtMost MAX_VALUE_NUMBER v
+  pub small_label : LabelAtMost max_label_number l
+  pub small_value : AtMost max_value_number v
 
 -- the same of a label and a value of the program
 abbrev pub MayActOn : Expression → Label → Value → Type 0

@@ -4,7 +4,7 @@ use Rattle.std.proofs.Common.{◌≡◌, ℕ, ◌+◌, ◌-◌, ◌^◌, ◌≤�
 use Rattle.std.specs.Prelude.{nat_le, max, min, bit_or, bit_and}
 use Rattle.std.specs.List.{AllByRecursion, list_any}
 use Rattle.alg_model.specs.declared.tree.TableSpec.{TableSpec}
-use Rattle.alg_model.specs.declared.edition.TheConstants.{MAX_LABEL_NUMBER}
+use Rattle.alg_model.specs.Numbers.{max_label_number}
 use Rattle.alg_model.specs.declared.edition.Edition.{Edition}
 use Rattle.alg_model.specs.declared.edition.Edition.TheVariants.{One, Two}
 use Rattle.alg_model.specs.Expressions.{Expression, add, cap, worst, width, pref, orig, seq, simseq, tags, guard, gate, table, lex, scoped, union, sum, plus, left, right}
@@ -51,7 +51,7 @@ label_at_most_more m n (outer k v) h i = (label_at_most_more m n k h i.0, at_mos
 label_at_most_more m n (inner l) h i = label_at_most_more m n l h i
 
 -- no edition's texts hold a greater number than labels may
-pub greatest_is_bounded : (e : Edition) → greatest_number e ≤ MAX_LABEL_NUMBER
+pub greatest_is_bounded : (e : Edition) → greatest_number e ≤ max_label_number
 greatest_is_bounded One = omega arith
 greatest_is_bounded Two = omega arith
 

@@ -1,18 +1,15 @@
 -- Bounds on the numbers of expressions, values and labels.
 use Rattle.std.specs.Prelude.{ℕ, ◌≤◌}
 use Rattle.std.specs.List.{AllByRecursion}
-use Rattle.meta_base.specs.declared.limits.TheConstants.{MAX_NUMBER}
-use Rattle.alg_model.specs.declared.edition.TheConstants.{MAX_LABEL_NUMBER}
+use Rattle.alg_model.specs.Numbers.{limits_of}
 use Rattle.alg_model.specs.declared.edition.Edition.{Edition}
-use Rattle.alg_model.specs.declared.edition.Edition.TheVariants.{One, Two}
 use Rattle.alg_model.specs.Expressions.{Expression, add, cap, worst, width, pref, orig, seq, simseq, tags, guard, gate, table, lex, scoped, union, sum, plus, left, right}
 use Rattle.alg_model.specs.Expressions.{PureValue, number, symbols, marks, unit, name, pair, first, second}
 use Rattle.alg_model.specs.Expressions.{PureLabel, number_label, keep, symbol_label, mark, unmark, need, bar, allow, deny, row_label, pair_label, both_label, first_label, second_label, const_label, outer, inner}
 
 -- the greatest number that a text of this edition may hold
 abbrev pub greatest_number : Edition → ℕ
-greatest_number One = MAX_NUMBER
-greatest_number Two = MAX_LABEL_NUMBER
+greatest_number e = (limits_of e).number
 
 -- no number of the expression is above n
 abbrev pub ExpressionAtMost : ℕ → Expression → Type 0

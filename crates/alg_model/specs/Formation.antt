@@ -10,7 +10,7 @@ use Rattle.alg_model.specs.Expressions.{PureAlg}
 use Rattle.alg_model.specs.Expressions.{PureCarrier, whole, up_to, down_from, seqs, simseqs, sets, one, named, pairs, sides}
 use Rattle.alg_model.specs.Carriers.{carrier_of}
 use Rattle.alg_model.specs.Bounds.{ExpressionAtMost, greatest_number}
-use Rattle.alg_model.specs.declared.alg.TheConstants.{MAX_TREE_NODES, MAX_TABLE_NAMES, MAX_SIMPLE_SYMBOLS, MAX_MARKS}
+use Rattle.alg_model.specs.Numbers.{max_tree_nodes, max_table_names, max_simple_symbols, max_marks}
 use Rattle.alg_model.specs.declared.alg.Shape.{Shape}
 use Rattle.alg_model.specs.declared.alg.Shape.TheVariants.{Range, Carriers, Size, Names}
 
@@ -35,7 +35,7 @@ is_row_over count row = length row.images == count && list_all (is_place_or_none
 
 -- between 1 and the most names that a table may have
 abbrev pub is_table_count : ℕ → Bool
-is_table_count count = nat_le 1 count && nat_le count MAX_TABLE_NAMES
+is_table_count count = nat_le 1 count && nat_le count max_table_names
 
 -- what the rule on ranges asks of a table
 abbrev pub is_table : TableSpec → Bool
@@ -50,9 +50,9 @@ MeetsRanges (width top low high) = (low ≤ high) × (high ≤ top)
 MeetsRanges (pref top) = Unit {0}
 MeetsRanges (orig top) = Unit {0}
 MeetsRanges (seq n) = 1 ≤ n
-MeetsRanges (simseq n) = (1 ≤ n) × (n ≤ MAX_SIMPLE_SYMBOLS)
-MeetsRanges (tags n) = (1 ≤ n) × (n ≤ MAX_MARKS)
-MeetsRanges (guard n) = (1 ≤ n) × (n ≤ MAX_MARKS)
+MeetsRanges (simseq n) = (1 ≤ n) × (n ≤ max_simple_symbols)
+MeetsRanges (tags n) = (1 ≤ n) × (n ≤ max_marks)
+MeetsRanges (guard n) = (1 ≤ n) × (n ≤ max_marks)
 MeetsRanges gate = Unit {0}
 MeetsRanges (table t) = is_table t ≡ true
 MeetsRanges (lex a b) = MeetsRanges a × MeetsRanges b
@@ -150,7 +150,7 @@ MeetsNames (right a) = MeetsNames a
 pub record IsFormed (a : Expression) : Type 0 where
   pub ranges : MeetsRanges a
   pub carriers : MeetsCarriers a
-  pub size : node_count a ≤ MAX_TREE_NODES
+  pub size : node_count a ≤ max_tree_nodes
   pub names : MeetsNames a
 
 -- it breaks no rule, and its numbers are those of a text of its edition
@@ -162,8 +162,8 @@ pub record IsAlg (a : PureAlg) : Type 0 where
 abbrev pub IsFirstBroken : Expression → Shape → Type 0
 IsFirstBroken a Range = ¬ MeetsRanges a
 IsFirstBroken a Carriers = MeetsRanges a × ¬ MeetsCarriers a
-IsFirstBroken a Size = MeetsRanges a × MeetsCarriers a × (MAX_TREE_NODES < node_count a)
-IsFirstBroken a Names = MeetsRanges a × MeetsCarriers a × (node_count a ≤ MAX_TREE_NODES) × ¬ MeetsNames a
+IsFirstBroken a Size = MeetsRanges a × MeetsCarriers a × (max_tree_nodes < node_count a)
+IsFirstBroken a Names = MeetsRanges a × MeetsCarriers a × (node_count a ≤ max_tree_nodes) × ¬ MeetsNames a
 
 -- the names and ranks are those of a table's values
 abbrev pub are_values : List (List ℕ) → List ℕ → Bool
@@ -175,8 +175,8 @@ IsCarrier whole = Unit {0}
 IsCarrier (up_to top) = Unit {0}
 IsCarrier (down_from top) = Unit {0}
 IsCarrier (seqs n) = 1 ≤ n
-IsCarrier (simseqs n) = (1 ≤ n) × (n ≤ MAX_SIMPLE_SYMBOLS)
-IsCarrier (sets n) = (1 ≤ n) × (n ≤ MAX_MARKS)
+IsCarrier (simseqs n) = (1 ≤ n) × (n ≤ max_simple_symbols)
+IsCarrier (sets n) = (1 ≤ n) × (n ≤ max_marks)
 IsCarrier one = Unit {0}
 IsCarrier (named names ranks) = are_values names ranks ≡ true
 IsCarrier (pairs c d) = IsCarrier c × IsCarrier d

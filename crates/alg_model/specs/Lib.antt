@@ -1,3 +1,4 @@
+pub mod Numbers
 pub mod Expressions
 pub mod Codes
 pub mod Carriers
@@ -7,6 +8,8 @@ pub mod Actions
 pub mod Views
 pub mod Bounds
 pub mod Formation
+pub mod Forms
+pub mod FormLaws
 pub mod Scoped
 pub mod Properties
 pub mod Verdicts
@@ -17,6 +20,7 @@ pub mod BoundLaws
 pub mod PreferenceLaws
 pub mod ImageLaws
 pub mod PartLaws
+pub mod CarrierBounds
 pub mod CarrierLaws
 pub mod Laws
 pub mod Names

@@ -3,9 +3,10 @@ ghost use Rattle.alg_model.specs.declared.edition.Edition.TheVariants.{One};
 ghost use Rattle.alg_model.specs.Views.{expression_of};
 ghost use Rattle.alg_model.specs.Formation.{IsFormed, IsAlg, IsFirstBroken};
 ghost use Rattle.alg_model.specs.Bounds.{ExpressionAtMost, greatest_number};
+ghost use Rattle.alg_model.specs.Numbers.{max_instance_number, max_marks, max_simple_symbols, max_table_names, max_tree_nodes, max_value_number};
 ghost use Rattle.meta_base.specs.declared.limits.TheConstants.{MAX_NUMBER};
 
-use crate::formation::{meets_carriers, meets_names, meets_ranges, room_behind};
+use crate::formation::{meets_carriers, meets_names, meets_ranges, room_after};
 use crate::{Amount, Edition, Tree};
 use meta_base::NoMemory;
 use std::alloc::Global;
@@ -30,6 +31,16 @@ pub const MAX_VALUE_NUMBER: Amount = 1 << 120;
 
 /// The greatest number of the values of an instance.
 pub const MAX_INSTANCE_NUMBER: Amount = 1 << 66;
+
+/// The bounds of expressions and of values are the numbers of the specification.
+pub fn numbers_are_specified()
+    ensures tree_nodes { MAX_TREE_NODES ≡ max_tree_nodes }
+    ensures table_names { MAX_TABLE_NAMES ≡ max_table_names }
+    ensures simple_symbols { MAX_SIMPLE_SYMBOLS ≡ max_simple_symbols }
+    ensures marks { MAX_MARKS ≡ max_marks }
+    ensures value { MAX_VALUE_NUMBER ≡ max_value_number }
+    ensures instance { MAX_INSTANCE_NUMBER ≡ max_instance_number }
+{}
 
 /// The first formation rule that a tree breaks, in this order.
 #[derive(Clone, Copy, Debug, PartialEq, Eq, Error)]
@@ -98,6 +109,15 @@ impl Alg {
         }
     }
 
+    /// The algebra of this edition of a tree that is known to meet the formation rules and the edition's bound. It
+    /// takes no memory, and tests nothing.
+    pub fn formed(tree: Tree, edition: Edition) -> Alg
+        requires { IsAlg (record { expression = expression_of tree; edition = edition }) }
+        ensures { result ≡ record { expression = expression_of tree; edition = edition } }
+    {
+        Alg { tree, edition }
+    }
+
     /// The algebra of the same edition with a tree equal to `part`, which meets the formation rules and
     /// the edition's bound, as each part of an algebra's tree does. Given the algebra's own tree it
     /// copies the whole.
@@ -136,7 +156,7 @@ fn first_broken(tree: &Tree) -> Option<Shape>
         Some(Shape::Range)
     } else if !meets_carriers(tree) {
         Some(Shape::Carriers)
-    } else if room_behind(tree, MAX_TREE_NODES).is_none() {
+    } else if room_after(tree, MAX_TREE_NODES).is_none() {
         Some(Shape::Size)
     } else if !meets_names(tree) {
         Some(Shape::Names)

@@ -207,7 +207,7 @@ fn simseq_image(
     }
 }
 
-pub(crate) fn tags_image(count: u64, label: &Label, value: &Value) -> Option<Value>
+fn tags_image(count: u64, label: &Label, value: &Value) -> Option<Value>
     requires { MayActOn (tags count) label.now value.now }
     ensures { IsImage (tags count) label.now value.now result }
 {
@@ -274,7 +274,7 @@ pub(crate) fn number_image(tree: &Tree, n: u64, m: Amount) -> Option<Amount>
 fn appended(alloc: Global, ns: &List<u64>, n: u64) -> Result<List<u64>, NoMemory>
     ensures { IfOk result (λ symbols. symbols ≡ ns.now ++ n ∷ []) }
 {
-    let mut symbols = copy_list(alloc, ns)?;
+    let mut symbols = copy_list(alloc, ns.as_slice())?;
     symbols.push(n)?;
     Ok(symbols)
 }

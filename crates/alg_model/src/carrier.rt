@@ -5,10 +5,9 @@ ghost use Rattle.alg_model.specs.Views.{expression_of, pure_carrier, pure_value}
 ghost use Rattle.alg_model.specs.Carriers.{carrier_of, In};
 ghost use Rattle.alg_model.specs.Formation.{IsCarrier};
 ghost use Rattle.alg_model.specs.Bounds.{AtMost};
-ghost use Rattle.alg_model.specs.Expressions.{named};
 
 use crate::copying::{copy_list, copy_texts};
-use crate::{Alg, Carrier, TableSpec, Tree, Value};
+use crate::{Alg, Carrier, Form, Tree, Value};
 use meta_base::{List, NoMemory, Text};
 use std::alloc::Global;
 
@@ -33,36 +32,27 @@ pub fn carrier_of(alloc: Global, alg: &Alg) -> Result<Carrier, NoMemory>
 pub fn tree_carrier(alloc: Global, tree: &Tree) -> Result<Carrier, NoMemory>
     ensures { IfOk result (λ c. pure_carrier c ≡ carrier_of (expression_of tree.now)) }
 {
-    match tree {
-        Tree::Add { .. } => Ok(Carrier::Whole),
-        Tree::Cap { top, .. } | Tree::Worst { top, .. } | Tree::Orig { top } => {
-            Ok(Carrier::UpTo(*top))
-        }
-        Tree::Width { top, .. } | Tree::Pref { top } => Ok(Carrier::DownFrom(*top)),
-        Tree::Seq { symbols } => Ok(Carrier::Seqs(*symbols)),
-        Tree::SimSeq { symbols } => Ok(Carrier::SimSeqs(*symbols)),
-        Tree::Tags { count } | Tree::Guard { count } => Ok(Carrier::Sets(*count)),
-        Tree::Gate => Ok(Carrier::One),
-        Tree::Table(table) => table_carrier(alloc, table),
-        Tree::Lex(a, b) | Tree::Scoped(a, b) => Ok(Carrier::Pair(
+    match tree.value_form() {
+        Form::Whole => Ok(Carrier::Whole),
+        Form::UpTo(top) => Ok(Carrier::UpTo(top)),
+        Form::DownFrom(top) => Ok(Carrier::DownFrom(top)),
+        Form::Seqs(symbols) => Ok(Carrier::Seqs(symbols)),
+        Form::SimSeqs(symbols) => Ok(Carrier::SimSeqs(symbols)),
+        Form::Sets(count) => Ok(Carrier::Sets(count)),
+        Form::One => Ok(Carrier::One),
+        Form::Named(names, ranks) => Ok(Carrier::Named(
+            copy_texts(alloc, names)?,
+            copy_list(alloc, ranks)?,
+        )),
+        Form::Pair(a, b) => Ok(Carrier::Pair(
             Box::new(alloc, tree_carrier(alloc, a)?)?,
             Box::new(alloc, tree_carrier(alloc, b)?)?,
         )),
-        Tree::Union(a, b) | Tree::Sum(a, b) => Ok(Carrier::Side(
+        Form::Side(a, b) => Ok(Carrier::Side(
             Box::new(alloc, tree_carrier(alloc, a)?)?,
             Box::new(alloc, tree_carrier(alloc, b)?)?,
         )),
-        Tree::Plus(a, _) | Tree::Left(a) | Tree::Right(a) => tree_carrier(alloc, a),
     }
-}
-
-fn table_carrier(alloc: Global, table: &TableSpec) -> Result<Carrier, NoMemory>
-    ensures { IfOk result (λ c. pure_carrier c ≡ named table.now.names table.now.ranks) }
-{
-    Ok(Carrier::Named(
-        copy_texts(alloc, &table.names)?,
-        copy_list(alloc, &table.ranks)?,
-    ))
 }
 
 impl Carrier {
@@ -92,38 +82,21 @@ impl Carrier {
 pub fn have_same_carrier(a: &Tree, b: &Tree) -> bool
     ensures { (result ≡ true) ↔ (carrier_of (expression_of a.now) ≡ carrier_of (expression_of b.now)) }
 {
-    match (a, b) {
-        (Tree::Plus(a, _) | Tree::Left(a) | Tree::Right(a), _) => have_same_carrier(a, b),
-        (_, Tree::Plus(b, _) | Tree::Left(b) | Tree::Right(b)) => have_same_carrier(a, b),
-        (Tree::Add { .. }, Tree::Add { .. }) | (Tree::Gate, Tree::Gate) => true,
-        (
-            Tree::Cap { top: k, .. } | Tree::Worst { top: k, .. } | Tree::Orig { top: k },
-            Tree::Cap { top: n, .. } | Tree::Worst { top: n, .. } | Tree::Orig { top: n },
-        )
-        | (
-            Tree::Width { top: k, .. } | Tree::Pref { top: k },
-            Tree::Width { top: n, .. } | Tree::Pref { top: n },
-        )
-        | (Tree::Seq { symbols: k }, Tree::Seq { symbols: n })
-        | (Tree::SimSeq { symbols: k }, Tree::SimSeq { symbols: n })
-        | (
-            Tree::Tags { count: k } | Tree::Guard { count: k },
-            Tree::Tags { count: n } | Tree::Guard { count: n },
-        ) => k == n,
-        (Tree::Table(t), Tree::Table(u)) => have_same_values(t, u),
-        (Tree::Lex(a, b) | Tree::Scoped(a, b), Tree::Lex(c, d) | Tree::Scoped(c, d))
-        | (Tree::Union(a, b) | Tree::Sum(a, b), Tree::Union(c, d) | Tree::Sum(c, d)) =>
-            have_same_carrier(a, c) && have_same_carrier(b, d),
+    match (a.value_form(), b.value_form()) {
+        (Form::Whole, Form::Whole) | (Form::One, Form::One) => true,
+        (Form::UpTo(k), Form::UpTo(n))
+        | (Form::DownFrom(k), Form::DownFrom(n))
+        | (Form::Seqs(k), Form::Seqs(n))
+        | (Form::SimSeqs(k), Form::SimSeqs(n))
+        | (Form::Sets(k), Form::Sets(n)) => k == n,
+        (Form::Named(ts, ranks), Form::Named(us, others)) => {
+            are_same_texts(ts, us) && ranks == others
+        }
+        (Form::Pair(a, b), Form::Pair(c, d)) | (Form::Side(a, b), Form::Side(c, d)) => {
+            have_same_carrier(a, c) && have_same_carrier(b, d)
+        }
         _ => false,
     }
-}
-
-// Whether two tables have the same values: the same names in the same order with the same ranks.
-fn have_same_values(t: &TableSpec, u: &TableSpec) -> bool
-    ensures { (result ≡ true) ↔ ((t.now.names ≡ u.now.names) × (t.now.ranks ≡ u.now.ranks)) }
-{
-    are_same_texts(t.names.as_slice(), u.names.as_slice())
-        && t.ranks.as_slice() == u.ranks.as_slice()
 }
 
 // Whether there are the same texts in the same order.

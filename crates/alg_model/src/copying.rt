@@ -7,11 +7,11 @@ use crate::{Amount, Label, TableRow, TableSpec, Tree, Value};
 use meta_base::{List, NoMemory, Text};
 use std::alloc::Global;
 
-/// An equal list.
-pub fn copy_list<T: Copy>(alloc: Global, list: &List<T>) -> Result<List<T>, NoMemory>
-    ensures { IfOk result (λ copied. copied ≡ list.now) }
+/// A list of the same items.
+pub fn copy_list<T: Copy>(alloc: Global, items: &[T]) -> Result<List<T>, NoMemory>
+    ensures { IfOk result (λ copied. copied ≡ items.now) }
 {
-    Ok(List::from_vec(Vec::from_slice(alloc, list.as_slice())?))
+    Ok(List::from_vec(Vec::from_slice(alloc, items)?))
 }
 
 impl Value {
@@ -22,7 +22,7 @@ impl Value {
     {
         Ok(match self {
             Value::Number(n) => Value::Number(*n),
-            Value::Symbols(ns) => Value::Symbols(copy_list(alloc, ns)?),
+            Value::Symbols(ns) => Value::Symbols(copy_list(alloc, ns.as_slice())?),
             Value::Marks(m) => Value::Marks(*m),
             Value::Unit => Value::Unit,
             Value::Name(k) => Value::Name(*k),
@@ -158,11 +158,11 @@ fn copy_boxed_label(alloc: Global, label: &Box<Label>) -> Result<Box<Label>, NoM
 }
 
 /// Equal texts.
-pub fn copy_texts(alloc: Global, texts: &List<Text>) -> Result<List<Text>, NoMemory>
+pub fn copy_texts(alloc: Global, texts: &[Text]) -> Result<List<Text>, NoMemory>
     ensures { IfOk result (λ copied. copied ≡ texts.now) }
 {
     let mut copied = List::new(alloc);
-    for text in texts.as_slice() {
+    for text in texts {
         copied.push(Text::copy(alloc, text.as_str())?)?;
     }
     Ok(copied)
@@ -175,7 +175,7 @@ impl TableRow {
     {
         Ok(TableRow {
             name: Text::copy(alloc, self.name.as_str())?,
-            images: copy_list(alloc, &self.images)?,
+            images: copy_list(alloc, self.images.as_slice())?,
         })
     }
 }
@@ -196,8 +196,8 @@ impl TableSpec {
         ensures { IfOk result (λ copied. copied ≡ self.now) }
     {
         Ok(TableSpec {
-            names: copy_texts(alloc, &self.names)?,
-            ranks: copy_list(alloc, &self.ranks)?,
+            names: copy_texts(alloc, self.names.as_slice())?,
+            ranks: copy_list(alloc, self.ranks.as_slice())?,
             rows: copy_rows(alloc, &self.rows)?,
         })
     }

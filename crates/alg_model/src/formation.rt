@@ -128,7 +128,7 @@ pub fn meets_carriers(tree: &Tree) -> bool
 
 /// How much room for nodes the tree leaves, if it has room.
 #[tactic(auto, using(crate::proofs::Nodes::some_node))]
-pub fn room_behind(tree: &Tree, room: usize) -> Option<usize>
+pub fn room_after(tree: &Tree, room: usize) -> Option<usize>
     ensures { MatchOption result (room < node_count (expression_of tree.now))
         (λ left. left + node_count (expression_of tree.now) ≡ room) }
 {
@@ -138,8 +138,8 @@ pub fn room_behind(tree: &Tree, room: usize) -> Option<usize>
         | Tree::Scoped(a, b)
         | Tree::Union(a, b)
         | Tree::Sum(a, b)
-        | Tree::Plus(a, b) => room_behind(b, room_behind(a, room)?),
-        Tree::Left(a) | Tree::Right(a) => room_behind(a, room),
+        | Tree::Plus(a, b) => room_after(b, room_after(a, room)?),
+        Tree::Left(a) | Tree::Right(a) => room_after(a, room),
         Tree::Add { .. }
         | Tree::Cap { .. }
         | Tree::Worst { .. }

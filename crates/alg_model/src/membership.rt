@@ -7,9 +7,12 @@ ghost use Rattle.alg_model.specs.Views.{expression_of, pure_value, pure_label};
 ghost use Rattle.alg_model.specs.Carriers.{carrier_of, In, distinct};
 ghost use Rattle.alg_model.specs.Application.{IsLabel};
 ghost use Rattle.alg_model.specs.Formation.{MeetsRanges};
+ghost use Rattle.alg_model.specs.Forms.{form_expression};
 ghost use Rattle.alg_model.specs.declared.alg.TheConstants.{MAX_SIMPLE_SYMBOLS};
 
-use crate::{Alg, Amount, Label, MAX_MARKS, MAX_SIMPLE_SYMBOLS, TableSpec, Tree, Value};
+use crate::{
+    Alg, Amount, Form, Label, LabelForm, MAX_MARKS, MAX_SIMPLE_SYMBOLS, TableSpec, Tree, Value,
+};
 
 /// Whether the value is in the algebra's carrier. It takes no memory, and time in proportion to the
 /// value and the algebra's tree.
@@ -31,82 +34,84 @@ pub(crate) fn is_member(tree: &Tree, value: &Value) -> bool
     requires { MeetsRanges (expression_of tree.now) }
     ensures { (result ≡ true) ↔ In (carrier_of (expression_of tree.now)) (pure_value value.now) }
 {
-    match tree {
-        Tree::Add { .. } => matches!(value, Value::Number(_)),
-        Tree::Cap { top, .. }
-        | Tree::Worst { top, .. }
-        | Tree::Width { top, .. }
-        | Tree::Pref { top }
-        | Tree::Orig { top } => matches!(value, Value::Number(n) if *n <= Amount::from(*top)),
-        Tree::Seq { symbols } => match value {
-            Value::Symbols(ns) => are_below(*symbols, ns.as_slice()),
+    match tree.value_form() {
+        Form::Whole => matches!(value, Value::Number(_)),
+        Form::UpTo(top) | Form::DownFrom(top) => {
+            matches!(value, Value::Number(n) if *n <= Amount::from(top))
+        }
+        Form::Seqs(symbols) => match value {
+            Value::Symbols(ns) => are_below(symbols, ns.as_slice()),
             _ => false,
         },
-        Tree::SimSeq { symbols } => match value {
-            Value::Symbols(ns) => is_simple(*symbols, ns.as_slice()),
+        Form::SimSeqs(symbols) => match value {
+            Value::Symbols(ns) => is_simple(symbols, ns.as_slice()),
             _ => false,
         },
-        Tree::Tags { count } | Tree::Guard { count } => match value {
-            Value::Marks(marks) => is_set_below(*count, *marks),
+        Form::Sets(count) => match value {
+            Value::Marks(marks) => is_set_below(count, *marks),
             _ => false,
         },
-        Tree::Gate => matches!(value, Value::Unit),
-        Tree::Table(table) => match value {
-            Value::Name(place) => usize::from(*place) < table.names.as_slice().len(),
+        Form::One => matches!(value, Value::Unit),
+        Form::Named(names, _) => match value {
+            Value::Name(place) => usize::from(*place) < names.len(),
             _ => false,
         },
-        Tree::Lex(a, b) | Tree::Scoped(a, b) => match value {
+        Form::Pair(a, b) => match value {
             Value::Pair(u, v) => is_member(a, u) && is_member(b, v),
             _ => false,
         },
-        Tree::Union(a, b) | Tree::Sum(a, b) => match value {
+        Form::Side(a, b) => match value {
             Value::First(u) => is_member(a, u),
             Value::Second(v) => is_member(b, v),
             _ => false,
         },
-        Tree::Plus(a, _) | Tree::Left(a) | Tree::Right(a) => is_member(a, value),
     }
 }
 
+#[cycle(is_label)]
 pub(crate) fn is_label(tree: &Tree, label: &Label) -> bool
     requires { MeetsRanges (expression_of tree.now) }
     ensures { (result ≡ true) ↔ IsLabel (expression_of tree.now) (pure_label label.now) }
 {
-    match tree {
-        Tree::Add { low, high }
-        | Tree::Cap { low, high, .. }
-        | Tree::Worst { low, high, .. }
-        | Tree::Width { low, high, .. } => {
-            matches!(label, Label::Number(n) if low <= n && n <= high)
+    is_label_of(tree.label_form(), label)
+}
+
+// Whether the label is one of those of the form.
+#[cycle(is_label)]
+fn is_label_of(form: LabelForm<'_>, label: &Label) -> bool
+    requires { MeetsRanges (form_expression form) }
+    ensures { (result ≡ true) ↔ IsLabel (form_expression form.entry) (pure_label label.now) }
+{
+    match form {
+        LabelForm::Numbers(low, high) => {
+            matches!(label, Label::Number(n) if low <= *n && *n <= high)
         }
-        Tree::Pref { top } => matches!(label, Label::Number(n) if n <= top),
-        Tree::Orig { .. } | Tree::Right(_) => matches!(label, Label::Keep),
-        Tree::Seq { symbols } | Tree::SimSeq { symbols } => {
-            matches!(label, Label::Symbol(n) if n < symbols)
-        }
-        Tree::Tags { count } => is_tag_label(*count, label),
-        Tree::Guard { count } => is_guard_label(*count, label),
-        Tree::Gate => matches!(label, Label::Allow | Label::Deny),
-        Tree::Table(table) => is_row_label(table, label),
-        Tree::Lex(a, b) => match label {
+        LabelForm::UpTo(top) => matches!(label, Label::Number(n) if *n <= top),
+        LabelForm::Keep | LabelForm::Right(_) => matches!(label, Label::Keep),
+        LabelForm::Symbol(symbols) => matches!(label, Label::Symbol(n) if *n < symbols),
+        LabelForm::Tag(count) => is_tag_label(count, label),
+        LabelForm::Guard(count) => is_guard_label(count, label),
+        LabelForm::Gate => matches!(label, Label::Allow | Label::Deny),
+        LabelForm::Table(table) => is_row_label(table, label),
+        LabelForm::Lex(a, b) => match label {
             Label::Pair(l, m) => is_label(a, l) && is_label(b, m),
             _ => false,
         },
-        Tree::Scoped(a, b) => match label {
+        LabelForm::Scoped(a, b) => match label {
             Label::Outer(l, v) => is_label(a, l) && is_member(b, v),
             Label::Inner(m) => is_label(b, m),
             _ => false,
         },
-        Tree::Union(a, b) | Tree::Plus(a, b) => match label {
+        LabelForm::Union(a, b) | LabelForm::Plus(a, b) => match label {
             Label::First(l) => is_label(a, l),
             Label::Second(m) => is_label(b, m),
             _ => false,
         },
-        Tree::Sum(a, b) => match label {
+        LabelForm::Sum(a, b) => match label {
             Label::Both(l, m) => is_label(a, l) && is_label(b, m),
             _ => false,
         },
-        Tree::Left(a) => match label {
+        LabelForm::Left(a) => match label {
             Label::Const(v) => is_member(a, v),
             _ => false,
         },

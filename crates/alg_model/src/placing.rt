@@ -8,11 +8,9 @@ ghost use Rattle.alg_model.specs.Application.{IsLabel, App};
 ghost use Rattle.alg_model.specs.Bounds.{AtMost, LabelAtMost};
 ghost use Rattle.alg_model.specs.Actions.{MayActOn, IsImage, held};
 
-use crate::application::{
-    image, in_first, in_second, lex_image, number_image, scoped_image, tags_image,
-};
+use crate::application::{image, in_first, in_second, lex_image, number_image, scoped_image};
 use crate::copying::{copy_into, put_number};
-use crate::{Alg, Amount, Label, Tree, Value};
+use crate::{Alg, Amount, Label, LabelForm, Tree, Value};
 use meta_base::NoMemory;
 use std::alloc::Global;
 
@@ -53,32 +51,33 @@ fn image_into(
     requires { MayActOn (expression_of tree.now) label.now value.now }
     ensures { IfOk result (λ placed. IsImage (expression_of tree.now) label.now value.now (held placed out.new)) }
 {
-    match tree {
-        Tree::Add { .. }
-        | Tree::Cap { .. }
-        | Tree::Worst { .. }
-        | Tree::Width { .. }
-        | Tree::Pref { .. } => match (label, value) {
+    match tree.label_form() {
+        LabelForm::Numbers(_, _) | LabelForm::UpTo(_) => match (label, value) {
             (Label::Number(n), Value::Number(m)) => {
                 Ok(put_if_number(number_image(tree, *n, *m), out))
             }
-            _ => Ok(false),
+            _ => Ok(put(image(alloc, tree, label, value)?, out)),
         },
-        Tree::Lex(a, b) => lex_into(alloc, a, b, label, value, out),
-        Tree::Scoped(a, b) => scoped_into(alloc, a, b, label, value, out),
-        Tree::Union(a, b) => union_into(alloc, a, b, label, value, out),
-        Tree::Sum(a, b) => sum_into(alloc, a, b, label, value, out),
-        Tree::Plus(a, b) => match label {
+        LabelForm::Lex(a, b) => lex_into(alloc, a, b, label, value, out),
+        LabelForm::Scoped(a, b) => scoped_into(alloc, a, b, label, value, out),
+        LabelForm::Union(a, b) => union_into(alloc, a, b, label, value, out),
+        LabelForm::Sum(a, b) => sum_into(alloc, a, b, label, value, out),
+        LabelForm::Plus(a, b) => match label {
             Label::First(l) => image_into(alloc, a, l, value, out),
             Label::Second(m) => image_into(alloc, b, m, value, out),
             _ => Ok(false),
         },
-        Tree::Right(_) => match label {
+        LabelForm::Right(_) => match label {
             Label::Keep => put_copy(alloc, value, out),
             _ => Ok(false),
         },
-        Tree::Tags { count } => Ok(put(tags_image(*count, label, value), out)),
-        _ => Ok(put(image(alloc, tree, label, value)?, out)),
+        LabelForm::Keep
+        | LabelForm::Symbol(_)
+        | LabelForm::Tag(_)
+        | LabelForm::Guard(_)
+        | LabelForm::Gate
+        | LabelForm::Table(_)
+        | LabelForm::Left(_) => Ok(put(image(alloc, tree, label, value)?, out)),
     }
 }
 

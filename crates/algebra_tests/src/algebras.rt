@@ -112,7 +112,7 @@ fn other_image_cases() -> &'static str {
 }
 
 #[test]
-fn other_images_are_told_apart(rt: HostRuntime) -> Result<(), Fail> {
+fn other_images_are_stated_apart(rt: HostRuntime) -> Result<(), Fail> {
     for case in other_image_cases().lines() {
         assert!(rt; !is_image_case(rt.alloc(), case)?, "{case}");
     }
@@ -277,7 +277,7 @@ fn gates_have_one_value(rt: HostRuntime) -> Result<(), Fail> {
 }
 
 #[test]
-fn broken_rules_are_told(rt: HostRuntime) -> Result<(), Fail> {
+fn broken_rules_are_stated(rt: HostRuntime) -> Result<(), Fail> {
     let empty = Tree::Add { low: 5, high: 4 };
     assert_eq!(rt; Alg::checked(empty).err(), Some(Shape::Range));
     let numbers = Box::new(rt.alloc(), Tree::Add { low: 1, high: 2 })?;

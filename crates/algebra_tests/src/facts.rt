@@ -2,7 +2,7 @@
 use alg_classes::Property;
 use alg_model::Label;
 use meta_base::ArcId;
-use net_facts::{Lack, first_lack};
+use net_facts::{Missing, first_missing};
 use std::alloc::Global;
 use std::test::Fail;
 use testkit_readers::network;
@@ -94,26 +94,27 @@ const CASES: &[Case] = &[
 ];
 
 // The arc, and the property that it doesn't have.
-fn told(lack: &Option<Lack>) -> Option<(u32, Property)> {
-    lack.as_ref()
-        .map(|lack| (lack.arc.0, lack.instance.property))
+fn reported(missing: &Option<Missing>) -> Option<(u32, Property)> {
+    missing
+        .as_ref()
+        .map(|missing| (missing.arc.0, missing.instance.property))
 }
 
-fn lack_of(
+fn missing_of(
     alloc: Global,
     expression: &str,
     lines: &[u8],
     properties: &[Property],
-) -> Result<Option<Lack>, Fail> {
+) -> Result<Option<Missing>, Fail> {
     let net = network(alloc, expression, lines)?;
-    Ok(first_lack(alloc, &net, properties)?)
+    Ok(first_missing(alloc, &net, properties)?)
 }
 
 #[test]
-fn first_lacks_are_found(rt: HostRuntime) -> Result<(), Fail> {
+fn first_misses_are_found(rt: HostRuntime) -> Result<(), Fail> {
     for (expression, lines, properties, expected) in CASES {
-        let lack = lack_of(rt.alloc(), *expression, *lines, *properties)?;
-        assert_eq!(rt; told(&lack), *expected, "{expression}");
+        let missing = missing_of(rt.alloc(), *expression, *lines, *properties)?;
+        assert_eq!(rt; reported(&missing), *expected, "{expression}");
     }
     Ok(())
 }
@@ -122,10 +123,10 @@ fn first_lacks_are_found(rt: HostRuntime) -> Result<(), Fail> {
 #[test]
 fn instances_are_of_the_arc(rt: HostRuntime) -> Result<(), Fail> {
     let lines: &[u8] = b"node a b c\nlink a b : 7\nlink b c : 0\n";
-    let lack = lack_of(rt.alloc(), HOPS, lines, SETTLED)?.ok_or("no lack")?;
-    assert_eq!(rt; lack.arc, ArcId(1));
-    assert!(rt; matches!(&lack.instance.label, Label::Number(0)));
-    assert!(rt; lack.instance.second.is_none());
+    let missing = missing_of(rt.alloc(), HOPS, lines, SETTLED)?.ok_or("no lack")?;
+    assert_eq!(rt; missing.arc, ArcId(1));
+    assert!(rt; matches!(&missing.instance.label, Label::Number(0)));
+    assert!(rt; missing.instance.second.is_none());
     Ok(())
 }
 
@@ -152,7 +153,7 @@ fn many_arcs(alloc: Global) -> Result<Vec<u8>, Fail> {
 #[test]
 fn the_last_of_many_arcs_is_found(rt: HostRuntime) -> Result<(), Fail> {
     let lines = many_arcs(rt.alloc())?;
-    let lack = lack_of(rt.alloc(), HOPS, &lines, SETTLED)?;
-    assert_eq!(rt; told(&lack), Some((8191, Property::Strict)));
+    let missing = missing_of(rt.alloc(), HOPS, &lines, SETTLED)?;
+    assert_eq!(rt; reported(&missing), Some((8191, Property::Strict)));
     Ok(())
 }

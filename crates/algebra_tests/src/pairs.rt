@@ -206,7 +206,7 @@ fn parts() -> &'static str {
 }
 
 #[test]
-fn pairs_of_a_part_tell_less(rt: HostRuntime) -> Result<(), Fail> {
+fn pairs_of_a_part_state_less(rt: HostRuntime) -> Result<(), Fail> {
     for case in parts().lines() {
         assert!(rt; !decide_as_inferred(rt.alloc(), case)?, "{case}");
     }

@@ -152,7 +152,7 @@ fn is_inferred_as_tried(alloc: Global, case: &str) -> Result<bool, Fail> {
 }
 
 #[test]
-fn what_is_inferred_is_what_trial_tells(rt: HostRuntime) -> Result<(), Fail> {
+fn what_is_inferred_is_what_trial_states(rt: HostRuntime) -> Result<(), Fail> {
     for case in small_algebras().lines() {
         assert!(rt; is_inferred_as_tried(rt.alloc(), case)?, "{case}");
     }
@@ -170,7 +170,7 @@ fn parts() -> &'static str {
 }
 
 #[test]
-fn trial_of_a_part_tells_more(rt: HostRuntime) -> Result<(), Fail> {
+fn trial_of_a_part_states_more(rt: HostRuntime) -> Result<(), Fail> {
     for case in parts().lines() {
         assert!(rt; !is_inferred_as_tried(rt.alloc(), case)?, "{case}");
     }
@@ -320,7 +320,7 @@ fn other_fact_cases() -> &'static str {
 }
 
 #[test]
-fn other_facts_are_told_apart(rt: HostRuntime) -> Result<(), Fail> {
+fn other_facts_are_stated_apart(rt: HostRuntime) -> Result<(), Fail> {
     for case in other_fact_cases().lines() {
         assert!(rt; !is_fact_case(rt.alloc(), case)?, "{case}");
     }
@@ -341,7 +341,7 @@ fn have_same_facts(
 
 // The labels differ in strictness, in monotonicity, and in totality and strictness.
 #[test]
-fn other_verdicts_are_told_apart(rt: HostRuntime) -> Result<(), Fail> {
+fn other_verdicts_are_stated_apart(rt: HostRuntime) -> Result<(), Fail> {
     let pairs: &[(&str, &str, &str)] = &[
         ("add(0..1)", "0", "1"),
         ("plus(lp(2), lp(2))", "l:0", "l:1"),

@@ -1,9 +1,9 @@
 -- The numbers of labels of base algebras and of the examples of their facts are bounded, and so what the
 -- table tells and its witnesses make a class.
-use Rattle.std.proofs.Common.{◌≡◌, ℕ, ◌≤◌, ◌<◌, ◌==◌, sym, subst, Bool, true, false, Some, arith}
+use Rattle.std.proofs.Common.{◌≡◌, refl, ◌∙◌, Option, None, option_map, ℕ, ◌≤◌, ◌<◌, ◌==◌, sym, subst, Bool, true, false, Some, arith}
 use Rattle.std.specs.Prelude.{if◌then◌else◌}
 use Rattle.alg_model.specs.declared.alg.TheConstants.{MAX_INSTANCE_NUMBER}
-use Rattle.alg_model.specs.Expressions.{Expression, PureAlg, add, cap, worst, width, pref, orig, seq, simseq, tags, guard, gate}
+use Rattle.alg_model.specs.Expressions.{Expression, PureAlg, PureCarrier, PureValue, add, cap, worst, width, pref, orig, seq, simseq, tags, guard, gate}
 use Rattle.alg_model.specs.Expressions.{PureLabel, number_label, symbol_label, need, bar}
 use Rattle.alg_model.specs.Views.{pure_label}
 use Rattle.alg_model.specs.Carriers.{carrier_of}
@@ -12,17 +12,20 @@ use Rattle.alg_model.specs.Bounds.{ExpressionAtMost, LabelAtMost, greatest_numbe
 use Rattle.alg_model.specs.BoundLaws.{greatest_is_bounded}
 use Rattle.alg_model.specs.declared.edition.Edition.{Edition}
 use Rattle.alg_model.specs.Formation.{IsAlg, MeetsRanges}
+use Rattle.alg_model.specs.Forms.{IsBase}
 use Rattle.alg_classes.specs.declared.class.Class.{Class}
 use Rattle.alg_classes.specs.declared.class.Examples.{Examples}
 use Rattle.alg_classes.specs.declared.profile.Profile.{Profile}
-use Rattle.alg_classes.specs.Facts.{Fact, PureExample}
+use Rattle.alg_classes.specs.declared.fact.Fact.{Fact}
+use Rattle.alg_classes.specs.declared.fact.Fact.TheVariants.{Total, Dead, Monotone, Strict, Isotone, Cancellative, Condensed, Narrow}
+use Rattle.alg_classes.specs.Facts.{Action, PureExample, at, between, FailsAt}
 use Rattle.alg_classes.specs.Profiles.{bit}
 use Rattle.alg_classes.specs.ClassLaws.{on_all}
-use Rattle.alg_classes.specs.Classes.{Settles, IsSettledBy, ExampleAtMost, ExamplesAtMost, ClassOf, pure_examples}
+use Rattle.alg_classes.specs.Classes.{pure_at, pure_between, Settles, IsSettledBy, ExampleAtMost, ExamplesAtMost, ClassOf, pure_examples}
 use Rattle.base_classes.specs.declared.examples.Numbers.{Numbers}
-use Rattle.base_classes.specs.Kinds.{IsBase, number_in}
+use Rattle.base_classes.specs.Kinds.{number_in}
 use Rattle.base_classes.specs.Profiles.{base_profile_of}
-use Rattle.base_classes.specs.Witnesses.{Witness, AreExamples, unless, failing, base_witness_of, number_witness, set_witness, guard_witness, sequence_witness, unit_witness, other_symbol}
+use Rattle.base_classes.specs.Witnesses.{Witness, AreExamples, of_one, of_two, unless, failing, base_witness_of, number_witness, set_witness, guard_witness, sequence_witness, unit_witness, other_symbol}
 use Rattle.base_classes.specs.Witnesses.{add_numbers, cap_numbers, worst_numbers, width_numbers, pref_numbers, orig_numbers}
 use Rattle.base_classes.specs.BaseLaws.{base_settled}
 use Rattle.base_classes.specs.CandidateLaws.{label_bounded}
@@ -82,26 +85,77 @@ failing_bounded n false e h = h
 edition_bounded : (e : Edition) → greatest_number e < MAX_INSTANCE_NUMBER
 edition_bounded e = omega (arith, greatest_is_bounded e)
 
--- examples by the witnesses settle the facts as the table tells
-pub examples_settled : (a : Expression) (l : PureLabel) (p : Profile) (x : Examples) → IsBase a → MeetsRanges a → IsLabel a l
-    → p ≡ base_profile_of a l → AreExamples x p (base_witness_of a l) → IsSettledBy (carrier_of a) (App a l) p (pure_examples x)
-examples_settled a l p x base ranges i told e = λ k.
-    subst (λ o. Settles (carrier_of a) (App a l) k (bit p k) o) (sym (e k))
-    (subst (λ q. Settles (carrier_of a) (App a l) k (bit q k) (failing q (base_witness_of a l) k)) (sym told) (base_settled a l base ranges i k))
+-- an example by the witness settles its fact as the table tells
+pub example_settled : (a : Expression) (l : PureLabel) (p : Profile) (k : Fact) (o : Option PureExample) → IsBase a → MeetsRanges a → IsLabel a l
+    → p ≡ base_profile_of a l → o ≡ failing p (base_witness_of a l) k → Settles (carrier_of a) (App a l) k (bit (base_profile_of a l) k) o
+example_settled a l p k o base ranges i reported e =
+    subst (Settles (carrier_of a) (App a l) k (bit (base_profile_of a l) k)) (sym e)
+    (subst (λ q. Settles (carrier_of a) (App a l) k (bit (base_profile_of a l) k) (failing q (base_witness_of a l) k)) (sym reported) (base_settled a l base ranges i k))
 
--- and no number of them is above the bound
-pub examples_bounded : (e : Edition) (a : Expression) (l : PureLabel) (p : Profile) (x : Examples) → IsBase a → ExpressionAtMost (greatest_number e) a
-    → IsLabel a l → AreExamples x p (base_witness_of a l) → ExamplesAtMost MAX_INSTANCE_NUMBER (pure_examples x)
-examples_bounded e a l p x base small i are = λ k.
-    subst (ExampleAtMost MAX_INSTANCE_NUMBER) (sym (are k)) (failing_bounded MAX_INSTANCE_NUMBER (bit p k) (base_witness_of a l k)
+-- and no number of it is above the bound
+pub example_bounded : (e : Edition) (a : Expression) (l : PureLabel) (p : Profile) (k : Fact) (o : Option PureExample) → IsBase a
+    → ExpressionAtMost (greatest_number e) a → IsLabel a l → o ≡ failing p (base_witness_of a l) k → ExampleAtMost MAX_INSTANCE_NUMBER o
+example_bounded e a l p k o base small i is =
+    subst (ExampleAtMost MAX_INSTANCE_NUMBER) (sym is) (failing_bounded MAX_INSTANCE_NUMBER (bit p k) (base_witness_of a l k)
     (witness_bounded (greatest_number e) a l (edition_bounded e) base small (label_bounded (greatest_number e) a l base small i) i k))
+
+-- so do examples of all facts
+examples_settled : (a : Expression) (l : PureLabel) (p : Profile) (x : Examples) → IsBase a → MeetsRanges a → IsLabel a l
+    → p ≡ base_profile_of a l → AreExamples x p (base_witness_of a l) → IsSettledBy (carrier_of a) (App a l) p (pure_examples x)
+examples_settled a l p x base ranges i reported e = λ k.
+    subst (λ q. Settles (carrier_of a) (App a l) k (bit q k) (pure_examples x k)) (sym reported)
+    (example_settled a l p k (pure_examples x k) base ranges i reported (e k))
+
+examples_bounded : (e : Edition) (a : Expression) (l : PureLabel) (p : Profile) (x : Examples) → IsBase a → ExpressionAtMost (greatest_number e) a
+    → IsLabel a l → AreExamples x p (base_witness_of a l) → ExamplesAtMost MAX_INSTANCE_NUMBER (pure_examples x)
+examples_bounded e a l p x base small i are = λ k. example_bounded e a l p k (pure_examples x k) base small i (are k)
+
+-- an example that settles a fact is one value, or two, as the fact wants
+one_value : (c : PureCarrier) (f : Action) (k : Fact) (b : Bool) (o : Option PureExample) → Settles c f k b o
+    → ((u v : PureValue) → ¬ FailsAt c f k (between u v)) → of_one o ≡ o
+one_value c f k b None s not_two = refl
+one_value c f k b (Some (at v)) s not_two = refl
+one_value c f k true (Some (between u v)) s not_two = absurd s
+one_value c f k false (Some (between u v)) s not_two = absurd (not_two u v s.1)
+
+two_values : (c : PureCarrier) (f : Action) (k : Fact) (b : Bool) (o : Option PureExample) → Settles c f k b o
+    → ((v : PureValue) → ¬ FailsAt c f k (at v)) → of_two o ≡ o
+two_values c f k b None s not_one = refl
+two_values c f k b (Some (between u v)) s not_one = refl
+two_values c f k true (Some (at v)) s not_one = absurd s
+two_values c f k false (Some (at v)) s not_one = absurd (not_one v s.1)
+
+-- so what is left of each is the whole example
+pub examples_of_witness : (a : Expression) (l : PureLabel) (p : Profile) (x : Examples) → IsBase a → MeetsRanges a → IsLabel a l
+    → p ≡ base_profile_of a l
+    → option_map pure_at x.outside ≡ of_one (failing p (base_witness_of a l) Total)
+    → option_map pure_at x.inside ≡ of_one (failing p (base_witness_of a l) Dead)
+    → option_map pure_at x.not_mono ≡ of_one (failing p (base_witness_of a l) Monotone)
+    → option_map pure_at x.not_strict ≡ of_one (failing p (base_witness_of a l) Strict)
+    → option_map pure_between x.not_iso ≡ of_two (failing p (base_witness_of a l) Isotone)
+    → option_map pure_between x.not_canc ≡ of_two (failing p (base_witness_of a l) Cancellative)
+    → option_map pure_between x.not_cond ≡ of_two (failing p (base_witness_of a l) Condensed)
+    → option_map pure_between x.not_narrow ≡ of_two (failing p (base_witness_of a l) Narrow)
+    → AreExamples x p (base_witness_of a l)
+examples_of_witness a l p x base ranges i reported h1 h2 h3 h4 h5 h6 h7 h8 =
+    let c = carrier_of a in
+    let f = App a l in
+    let w = base_witness_of a l in
+    let s : IsSettledBy c f p (failing p w) = subst (λ q. IsSettledBy c f q (failing q w)) (sym reported) (base_settled a l base ranges i) in
+    let one : (k : Fact) → ((u v : PureValue) → ¬ FailsAt c f k (between u v)) → of_one (failing p w k) ≡ failing p w k =
+    λ k n. one_value c f k (bit p k) (failing p w k) (s k) n in
+    let two : (k : Fact) → ((v : PureValue) → ¬ FailsAt c f k (at v)) → of_two (failing p w k) ≡ failing p w k =
+    λ k n. two_values c f k (bit p k) (failing p w k) (s k) n in
+    on_all (λ k. pure_examples x k ≡ failing p w k)
+    (h1 ∙ one Total (λ u v n. n)) (h2 ∙ one Dead (λ u v n. n)) (h3 ∙ one Monotone (λ u v n. n)) (h4 ∙ one Strict (λ u v n. n))
+    (h5 ∙ two Isotone (λ v n. n)) (h6 ∙ two Cancellative (λ v n. n)) (h7 ∙ two Condensed (λ v n. n)) (h8 ∙ two Narrow (λ v n. n))
 
 -- a copy of the label, what the table tells of it, and the examples by its witnesses make a class of it
 pub class_is : (a : PureAlg) (class : Class) (l : PureLabel) (x y : Expression) → IsAlg a → IsBase a.expression → IsLabel a.expression l
     → x ≡ a.expression → y ≡ a.expression → pure_label class.label ≡ l → class.profile ≡ base_profile_of x l
     → AreExamples class.examples class.profile (base_witness_of y l) → ClassOf a class
-class_is a class l x y is base i ex ey copied told examples =
-    let p : class.profile ≡ base_profile_of a.expression l = subst (λ z. class.profile ≡ base_profile_of z l) ex told in
+class_is a class l x y is base i ex ey copied reported examples =
+    let p : class.profile ≡ base_profile_of a.expression l = subst (λ z. class.profile ≡ base_profile_of z l) ex reported in
     let e : AreExamples class.examples class.profile (base_witness_of a.expression l) =
     subst (λ z. AreExamples class.examples class.profile (base_witness_of z l)) ey examples in
     record {

@@ -5,11 +5,11 @@ use Rattle.alg_model.specs.Expressions.{PureAlg, PureLabel}
 use Rattle.alg_model.specs.Views.{pure_label}
 use Rattle.alg_model.specs.Application.{IsLabel}
 use Rattle.alg_model.specs.Formation.{IsAlg}
+use Rattle.alg_model.specs.Forms.{IsBase}
 use Rattle.alg_classes.specs.declared.class.Class.{Class}
 use Rattle.alg_classes.specs.ClassLaws.{class_profile}
 use Rattle.alg_classes.specs.Classes.{IsGrownBy, ClassOf, IsCovered, Covers}
 use Rattle.alg_classes.specs.GrowthLaws.{grown_by_one}
-use Rattle.base_classes.specs.Kinds.{IsBase}
 use Rattle.base_classes.specs.Lists.{candidate, HasBefore}
 use Rattle.base_classes.specs.CandidateLaws.{has_candidate}
 

@@ -10,10 +10,12 @@ use Rattle.alg_model.specs.Carriers.{carrier_of}
 use Rattle.alg_model.specs.Application.{IsLabel, App}
 use Rattle.alg_model.specs.Bounds.{ExpressionAtMost, LabelAtMost}
 use Rattle.alg_model.specs.Formation.{MeetsRanges}
+use Rattle.alg_model.specs.Forms.{IsBase}
 use Rattle.alg_classes.specs.declared.profile.Profile.{Profile}
-use Rattle.alg_classes.specs.Facts.{Action, Fact, total, dead, mono, strict, iso, canc, cond, narrow, Holds}
+use Rattle.alg_classes.specs.declared.fact.Fact.{Fact}
+use Rattle.alg_classes.specs.declared.fact.Fact.TheVariants.{Total, Dead, Monotone, Strict, Isotone, Cancellative, Condensed, Narrow}
+use Rattle.alg_classes.specs.Facts.{Action, Holds}
 use Rattle.alg_classes.specs.Profiles.{bit, IsProfile, ProfileOf}
-use Rattle.base_classes.specs.Kinds.{IsBase}
 use Rattle.base_classes.specs.Profiles.{base_profile_of, add_profile, cap_profile, worst_profile, width_profile, pref_profile}
 use Rattle.base_classes.specs.Lists.{candidate_number, candidate}
 use Rattle.base_classes.specs.BaseLaws.{base_is_profile}
@@ -106,18 +108,18 @@ one_bit false false H s t = refl
 
 abbrev of_bits : (Fact → Bool) → Profile
 of_bits b = record {
-  total = b total;
-  dead = b dead;
-  mono = b mono;
-  strict = b strict;
-  iso = b iso;
-  canc = b canc;
-  cond = b cond;
-  narrow = b narrow;
+  total = b Total;
+  dead = b Dead;
+  mono = b Monotone;
+  strict = b Strict;
+  iso = b Isotone;
+  canc = b Cancellative;
+  cond = b Condensed;
+  narrow = b Narrow;
 }
 
 same_bits : (b c : Fact → Bool) → ((k : Fact) → b k ≡ c k) → of_bits b ≡ of_bits c
-same_bits b c e = rw (e total, e dead, e mono, e strict, e iso, e canc, e cond, e narrow) refl
+same_bits b c e = rw (e Total, e Dead, e Monotone, e Strict, e Isotone, e Cancellative, e Condensed, e Narrow) refl
 
 one_profile : (c : PureCarrier) (f : Action) (p q : Profile) → IsProfile c f p → IsProfile c f q → p ≡ q
 one_profile c f p q s t = same_bits (bit p) (bit q) (λ k. one_bit (bit p k) (bit q k) (Holds c f k) (s k) (t k))

@@ -3,7 +3,7 @@ pub mod Profiles
 pub mod Witnesses
 pub mod Lists
 pub mod Compare
-pub mod Told
+pub mod Reported
 pub mod Kept
 pub mod Numbers
 pub mod Sets

@@ -3,6 +3,7 @@ use Rattle.std.specs.Prelude.{ℕ, ◌==◌, Bool, true, false, not, nat_lt, nat
 use Rattle.alg_model.specs.Expressions.{Expression, add, cap, worst, width, pref, orig, seq, simseq, tags, guard, gate, table, lex, scoped, union, sum, plus, left, right}
 use Rattle.alg_model.specs.Expressions.{PureLabel}
 use Rattle.alg_classes.specs.declared.profile.Profile.{Profile}
+use Rattle.alg_classes.specs.Constants.{denied_profile}
 use Rattle.base_classes.specs.Kinds.{number_in, is_allow}
 
 abbrev pub add_profile : ℕ → Profile
@@ -79,19 +80,6 @@ keep_profile flat = record {
   narrow = flat;
 }
 
--- of a label that sends each value to none
-abbrev pub dead_profile : Profile
-dead_profile = record {
-  total = false;
-  dead = true;
-  mono = true;
-  strict = true;
-  iso = true;
-  canc = true;
-  cond = true;
-  narrow = true;
-}
-
 abbrev pub seq_profile : Profile
 seq_profile = record {
   total = true;
@@ -141,12 +129,12 @@ base_profile_of (seq k) l = seq_profile
 base_profile_of (simseq k) l = simseq_profile k
 base_profile_of (tags k) l = keep_profile true
 base_profile_of (guard k) l = guard_profile
-base_profile_of gate l = if is_allow l then keep_profile true else dead_profile
-base_profile_of (table t) l = dead_profile
-base_profile_of (lex a b) l = dead_profile
-base_profile_of (scoped a b) l = dead_profile
-base_profile_of (union a b) l = dead_profile
-base_profile_of (sum a b) l = dead_profile
-base_profile_of (plus a b) l = dead_profile
-base_profile_of (left a) l = dead_profile
-base_profile_of (right a) l = dead_profile
+base_profile_of gate l = if is_allow l then keep_profile true else denied_profile
+base_profile_of (table t) l = denied_profile
+base_profile_of (lex a b) l = denied_profile
+base_profile_of (scoped a b) l = denied_profile
+base_profile_of (union a b) l = denied_profile
+base_profile_of (sum a b) l = denied_profile
+base_profile_of (plus a b) l = denied_profile
+base_profile_of (left a) l = denied_profile
+base_profile_of (right a) l = denied_profile

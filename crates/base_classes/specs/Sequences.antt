@@ -13,7 +13,7 @@ use Rattle.alg_classes.specs.ClassLaws.{on_all}
 use Rattle.base_classes.specs.Profiles.{seq_profile, simseq_profile}
 use Rattle.base_classes.specs.Witnesses.{Witness, sequence_witness, other_symbol}
 use Rattle.base_classes.specs.Compare.{less, alike, when_less, when_alike, not_below, not_less_itself, same, other, positive, tests_same, tests_other}
-use Rattle.base_classes.specs.Told.{Tells, Told, always, never}
+use Rattle.base_classes.specs.Reported.{Reports, Reported, always, never}
 
 on_seq : (k : ℕ) (P : PureValue → Type 0) → ((ns : List ℕ) → P (symbols ns)) → (v : PureValue) → In (seqs k) v → P v
 on_seq k P f (symbols ns) i = f ns
@@ -37,8 +37,8 @@ one_more ns n = length-append ns (n ∷ [])
 abbrev appends : ℕ → ℕ → Action
 appends k n = App (seq k) (symbol_label n)
 
-pub seq_told : (k n : ℕ) → n < k → Told (seqs k) (appends k n) seq_profile (sequence_witness n n)
-seq_told k n below = on_all (λ j. Tells (seqs k) (appends k n) j (bit seq_profile j) (sequence_witness n n j))
+pub seq_stated : (k n : ℕ) → n < k → Reported (seqs k) (appends k n) seq_profile (sequence_witness n n)
+seq_stated k n below = on_all (λ j. Reports (seqs k) (appends k n) j (bit seq_profile j) (sequence_witness n n j))
     (always (on_seq k (λ v. (w : PureValue) × (appends k n v ≡ Some w)) (λ ns. (symbols (ns ++ n ∷ []), refl))))
     (never (tt, (symbols (n ∷ []), refl)))
     (always (on_seq k (λ v. ¬ IsPreferred (seqs k) (appends k n v) (Some v)) (λ ns e. omega (arith, one_more ns n, when_less (length (ns ++ n ∷ [])) (length ns) e))))
@@ -61,18 +61,18 @@ has n ns = list_any (λ m. m == n) ns
 abbrev longer : Bool → List ℕ → ℕ → Option PureValue
 longer b ns n = if b then None else Some (symbols (ns ++ n ∷ []))
 
-longer_mono : (k : ℕ) (b : Bool) (ns : List ℕ) (n : ℕ) → ¬ IsPreferred (simseqs k) (longer b ns n) (Some (symbols ns))
-longer_mono k true ns n e = cc
-longer_mono k false ns n e = omega (arith, one_more ns n, when_less (length (ns ++ n ∷ [])) (length ns) e)
+longer_monotone : (k : ℕ) (b : Bool) (ns : List ℕ) (n : ℕ) → ¬ IsPreferred (simseqs k) (longer b ns n) (Some (symbols ns))
+longer_monotone k true ns n e = cc
+longer_monotone k false ns n e = omega (arith, one_more ns n, when_less (length (ns ++ n ∷ [])) (length ns) e)
 
 longer_strict : (k : ℕ) (b : Bool) (ns : List ℕ) (n : ℕ) → IsPreferred (simseqs k) (Some (symbols ns)) (longer b ns n)
 longer_strict k true ns n = refl
 longer_strict k false ns n = less (length ns) (length (ns ++ n ∷ [])) (omega (arith, one_more ns n))
 
-longer_canc : (k : ℕ) (b c : Bool) (ls ms : List ℕ) (n : ℕ) → AreEquivalent (simseqs k) (longer b ls n) (longer c ms n) → length ls ≡ length ms
-longer_canc k false false ls ms n h = omega (arith, one_more ls n, one_more ms n, when_alike (length (ls ++ n ∷ [])) (length (ms ++ n ∷ [])) h)
-longer_canc k true c ls ms n h = absurd h
-longer_canc k false true ls ms n h = absurd h
+longer_cancellative : (k : ℕ) (b c : Bool) (ls ms : List ℕ) (n : ℕ) → AreEquivalent (simseqs k) (longer b ls n) (longer c ms n) → length ls ≡ length ms
+longer_cancellative k false false ls ms n h = omega (arith, one_more ls n, one_more ms n, when_alike (length (ls ++ n ∷ [])) (length (ms ++ n ∷ [])) h)
+longer_cancellative k true c ls ms n h = absurd h
+longer_cancellative k false true ls ms n h = absurd h
 
 was_longer : (b : Bool) (ns : List ℕ) (n : ℕ) (w : PureValue) → longer b ns n ≡ Some w → (b ≡ false) × (w ≡ symbols (ns ++ n ∷ []))
 was_longer true ns n w e = absurd (cc)
@@ -87,13 +87,13 @@ empty k n (m ∷ ms) e below a h =
     absurd (let f : true ≡ false = rw t at h in cc)
 
 -- and its image is better than none alone
-alone_iso : (k n : ℕ) (ls ms : List ℕ) (b c : Bool) → (c ≡ false → ms ≡ []) → (ls ≡ [] → b ≡ false) → length ls ≤ length ms
+alone_isotone : (k n : ℕ) (ls ms : List ℕ) (b c : Bool) → (c ≡ false → ms ≡ []) → (ls ≡ [] → b ≡ false) → length ls ≤ length ms
     → ¬ IsPreferred (simseqs k) (longer c ms n) (longer b ls n)
-alone_iso k n ls ms true true i j h e = cc
-alone_iso k n ls ms false true i j h e = cc
-alone_iso k n [] ms true false i j h e = let f = j refl in cc
-alone_iso k n (l ∷ ls) ms true false i j h e = let f : length ms ≡ 0 = rw (i refl) refl in omega (arith, f)
-alone_iso k n ls ms false false i j h e = omega (arith, one_more ls n, one_more ms n, when_less (length (ms ++ n ∷ [])) (length (ls ++ n ∷ [])) e)
+alone_isotone k n ls ms true true i j h e = cc
+alone_isotone k n ls ms false true i j h e = cc
+alone_isotone k n [] ms true false i j h e = let f = j refl in cc
+alone_isotone k n (l ∷ ls) ms true false i j h e = let f : length ms ≡ 0 = rw (i refl) refl in omega (arith, f)
+alone_isotone k n ls ms false false i j h e = omega (arith, one_more ls n, one_more ms n, when_less (length (ms ++ n ∷ [])) (length (ls ++ n ∷ [])) e)
 
 below_by : (b : Bool) (k n : ℕ) → (n == 0) ≡ b → ¬ (k ≡ 1) → n < k → (if b then 1 else 0) < k
 below_by true k n z e below = omega (arith, e)
@@ -119,14 +119,14 @@ other_kept k n o e = rw e refl
 abbrev simple_witness : ℕ → Witness
 simple_witness n = sequence_witness n (other_symbol n)
 
-pub simseq_told : (k n : ℕ) → n < k → Told (simseqs k) (joins k n) (simseq_profile k) (simple_witness n)
-simseq_told k n below = on_all (λ j. Tells (simseqs k) (joins k n) j (bit (simseq_profile k) j) (simple_witness n j))
+pub simseq_stated : (k n : ℕ) → n < k → Reported (simseqs k) (joins k n) (simseq_profile k) (simple_witness n)
+simseq_stated k n below = on_all (λ j. Reports (simseqs k) (joins k n) j (bit (simseq_profile k) j) (simple_witness n j))
     (never (((below, tt), refl), own_gone k n))
     (never ((tt, refl), (symbols (n ∷ []), refl)))
-    (always (on_simple k (λ v. ¬ IsPreferred (simseqs k) (joins k n v) (Some v)) (λ ns a. longer_mono k (has n ns) ns n)))
+    (always (on_simple k (λ v. ¬ IsPreferred (simseqs k) (joins k n v) (Some v)) (λ ns a. longer_monotone k (has n ns) ns n)))
     (always (on_simple k (λ v. IsPreferred (simseqs k) (Some v) (joins k n v)) (λ ns a. longer_strict k (has n ns) ns n))) (
       λ e. on_two_simple k (λ u v. ¬ IsPreferred (simseqs k) (Some v) (Some u) → ¬ IsPreferred (simseqs k) (joins k n v) (joins k n u))
-          (λ ls ms a b h. alone_iso k n ls ms (has n ls) (has n ms) (empty k n ms (same k 1 e) below b) (λ z. rw z refl) (not_below (length ms) (length ls) h)),
+          (λ ls ms a b h. alone_isotone k n ls ms (has n ls) (has n ms) (empty k n ms (same k 1 e) below b) (λ z. rw z refl) (not_below (length ms) (length ls) h)),
       λ e. (
         (((below, tt), refl), ((other_is_below k n e below, tt), refl)),
         (
@@ -137,7 +137,7 @@ simseq_told k n below = on_all (λ j. Tells (simseqs k) (joins k n) j (bit (sims
       ),
     )
     (always (on_two_simple k (λ u v. AreEquivalent (simseqs k) (joins k n u) (joins k n v) → AreEquivalent (simseqs k) (Some u) (Some v))
-    (λ ls ms a b h. alike (length ls) (length ms) (longer_canc k (has n ls) (has n ms) ls ms n h)))) (
+    (λ ls ms a b h. alike (length ls) (length ms) (longer_cancellative k (has n ls) (has n ms) ls ms n h)))) (
       λ e u v w x i j g h. on_two_simple k (λ u v. joins k n u ≡ Some w → joins k n v ≡ Some x → Order (simseqs k) w x ≡ Equal)
           (λ ls ms a b g h.
           let p = was_longer (has n ls) ls n w g in

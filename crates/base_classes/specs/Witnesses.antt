@@ -4,7 +4,9 @@ use Rattle.alg_model.specs.Expressions.{Expression, add, cap, worst, width, pref
 use Rattle.alg_model.specs.Expressions.{PureLabel, need, bar, number, symbols, marks, unit}
 use Rattle.alg_classes.specs.declared.profile.Profile.{Profile}
 use Rattle.alg_classes.specs.declared.class.Examples.{Examples}
-use Rattle.alg_classes.specs.Facts.{Fact, total, strict, iso, canc, cond, narrow, PureExample, at, between}
+use Rattle.alg_classes.specs.declared.fact.Fact.{Fact}
+use Rattle.alg_classes.specs.declared.fact.Fact.TheVariants.{Total, Strict, Isotone, Cancellative, Condensed, Narrow}
+use Rattle.alg_classes.specs.Facts.{PureExample, at, between}
 use Rattle.alg_classes.specs.Profiles.{bit}
 use Rattle.alg_classes.specs.Classes.{PureExamples, pure_examples}
 use Rattle.base_classes.specs.declared.examples.Numbers.{Numbers}
@@ -23,35 +25,44 @@ unless false e = Some e
 abbrev pub failing : Profile → Witness → PureExamples
 failing p w k = unless (bit p k) (w k)
 
+-- the example, if it is one value, or if it is two
+abbrev pub of_one : Option PureExample → Option PureExample
+of_one (Some (at v)) = Some (at v)
+of_one _ = None
+
+abbrev pub of_two : Option PureExample → Option PureExample
+of_two (Some (between u v)) = Some (between u v)
+of_two _ = None
+
 -- the program's examples are those
 abbrev pub AreExamples : Examples → Profile → Witness → Type 0
 AreExamples x p w = (k : Fact) → pure_examples x k ≡ failing p w k
 
 abbrev pub number_witness : Numbers → Witness
-number_witness n total = at (number n.outside)
-number_witness n strict = at (number n.kept)
-number_witness n canc = between (number n.merged.0) (number n.merged.1)
-number_witness n cond = between (number n.apart.0) (number n.apart.1)
-number_witness n narrow = between (number n.apart.0) (number n.apart.1)
+number_witness n Total = at (number n.outside)
+number_witness n Strict = at (number n.kept)
+number_witness n Cancellative = between (number n.merged.0) (number n.merged.1)
+number_witness n Condensed = between (number n.apart.0) (number n.apart.1)
+number_witness n Narrow = between (number n.apart.0) (number n.apart.1)
 number_witness n _ = at (number 0)
 
 -- a set without an image, and one with
 abbrev pub set_witness : ℕ → ℕ → Witness
-set_witness outside inside total = at (marks outside)
-set_witness outside inside iso = between (marks outside) (marks inside)
+set_witness outside inside Total = at (marks outside)
+set_witness outside inside Isotone = between (marks outside) (marks inside)
 set_witness outside inside _ = at (marks inside)
 
 -- the label's symbol, and one that another sequence has
 abbrev pub sequence_witness : ℕ → ℕ → Witness
-sequence_witness own other total = at (symbols (own ∷ []))
-sequence_witness own other iso = between (symbols (own ∷ [])) (symbols (other ∷ []))
-sequence_witness own other cond = between (symbols []) (symbols (other ∷ []))
-sequence_witness own other narrow = between (symbols []) (symbols (other ∷ []))
+sequence_witness own other Total = at (symbols (own ∷ []))
+sequence_witness own other Isotone = between (symbols (own ∷ [])) (symbols (other ∷ []))
+sequence_witness own other Condensed = between (symbols []) (symbols (other ∷ []))
+sequence_witness own other Narrow = between (symbols []) (symbols (other ∷ []))
 sequence_witness own other _ = at (symbols [])
 
 abbrev pub unit_witness : Witness
-unit_witness cond = between unit unit
-unit_witness narrow = between unit unit
+unit_witness Condensed = between unit unit
+unit_witness Narrow = between unit unit
 unit_witness _ = at unit
 
 -- where the facts of a label fail that do, by the top and the label's number

@@ -1,21 +1,21 @@
 // Values at which facts fail.
-ghost use Rattle.std.specs.Prelude.{◌≡◌, ◌≤◌, [], ◌∷◌, true, option_map, IfOk};
-ghost use Rattle.alg_model.specs.Expressions.{symbols, guard};
+ghost use Rattle.std.specs.Prelude.{◌≡◌, ◌≤◌, [], ◌∷◌, option_map, IfOk};
+ghost use Rattle.alg_model.specs.Expressions.{number, symbols, guard};
 ghost use Rattle.alg_model.specs.Views.{expression_of, pure_value, pure_label};
 ghost use Rattle.alg_model.specs.Application.{IsLabel};
 ghost use Rattle.alg_model.specs.Formation.{MeetsRanges};
 ghost use Rattle.alg_model.specs.declared.alg.TheConstants.{MAX_MARKS};
+ghost use Rattle.alg_model.specs.Forms.{IsBase};
 ghost use Rattle.alg_classes.specs.Facts.{at, between};
-ghost use Rattle.alg_classes.specs.Classes.{pure_at, pure_between};
-ghost use Rattle.base_classes.specs.Kinds.{IsBase};
+ghost use Rattle.alg_classes.specs.Classes.{pure_at, pure_between, pure_example};
 ghost use Rattle.base_classes.specs.Profiles.{base_profile_of};
-ghost use Rattle.base_classes.specs.Witnesses.{unless, AreExamples, AreExamplesOf, number_witness, set_witness};
+ghost use Rattle.base_classes.specs.Witnesses.{AreExamplesOf, base_witness_of, failing, number_witness, of_one, of_two, set_witness};
 ghost use Rattle.base_classes.specs.Witnesses.{sequence_witness, unit_witness, guard_witness, other_symbol};
 ghost use Rattle.base_classes.specs.Witnesses.{add_numbers, cap_numbers, worst_numbers, width_numbers};
 ghost use Rattle.base_classes.specs.Witnesses.{pref_numbers, orig_numbers};
 
 use crate::profile::number_in;
-use alg_classes::{Examples, Profile};
+use alg_classes::{Example, Examples, Fact, Profile};
 use alg_model::{Amount, Label, Tree, Value};
 use meta_base::{List, NoMemory};
 use std::alloc::Global;
@@ -47,19 +47,59 @@ pub(crate) fn examples(
     requires profile { profile.now ≡ base_profile_of (expression_of tree.now) (pure_label label.now) }
     ensures { IfOk result (AreExamplesOf (expression_of tree.now) (pure_label label.now) profile.now) }
 {
+    Ok(Examples {
+        inside: one(example(alloc, tree, label, profile, Fact::Dead)?),
+        outside: one(example(alloc, tree, label, profile, Fact::Total)?),
+        not_mono: one(example(alloc, tree, label, profile, Fact::Monotone)?),
+        not_strict: one(example(alloc, tree, label, profile, Fact::Strict)?),
+        not_iso: two(example(alloc, tree, label, profile, Fact::Isotone)?),
+        not_canc: two(example(alloc, tree, label, profile, Fact::Cancellative)?),
+        not_cond: two(example(alloc, tree, label, profile, Fact::Condensed)?),
+        not_narrow: two(example(alloc, tree, label, profile, Fact::Narrow)?),
+    })
+}
+
+// The example against the fact, unless the profile has it.
+pub(crate) fn example(
+    alloc: Global,
+    tree: &Tree,
+    label: &Label,
+    profile: &Profile,
+    fact: Fact,
+) -> Result<Option<Example>, NoMemory>
+    requires base { IsBase (expression_of tree.now) }
+    requires ranges { MeetsRanges (expression_of tree.now) }
+    requires label { IsLabel (expression_of tree.now) (pure_label label.now) }
+    ensures { IfOk result (λ x. option_map pure_example x ≡
+        failing profile.now (base_witness_of (expression_of tree.now) (pure_label label.now)) fact) }
+{
+    if profile.has(fact) {
+        return Ok(None);
+    }
+    Ok(Some(witness(alloc, tree, label, fact)?))
+}
+
+// Values at which the fact fails, if it does.
+fn witness(alloc: Global, tree: &Tree, label: &Label, fact: Fact) -> Result<Example, NoMemory>
+    requires base { IsBase (expression_of tree.now) }
+    requires ranges { MeetsRanges (expression_of tree.now) }
+    requires label { IsLabel (expression_of tree.now) (pure_label label.now) }
+    ensures { IfOk result (λ x.
+        pure_example x ≡ base_witness_of (expression_of tree.now) (pure_label label.now) fact) }
+{
     let n = number_in(label);
     match tree {
-        Tree::Add { .. } => Ok(number_examples(profile, add_numbers())),
-        Tree::Cap { top, .. } => Ok(number_examples(profile, cap_numbers(*top, n))),
-        Tree::Worst { top, .. } => Ok(number_examples(profile, worst_numbers(*top, n))),
-        Tree::Width { top, .. } => Ok(number_examples(profile, width_numbers(*top, n))),
-        Tree::Pref { top } => Ok(number_examples(profile, pref_numbers(*top, n))),
-        Tree::Orig { top } => Ok(number_examples(profile, orig_numbers(*top))),
-        Tree::Seq { .. } => sequence_examples(alloc, profile, n, n),
-        Tree::SimSeq { .. } => sequence_examples(alloc, profile, n, other_symbol(n)),
-        Tree::Tags { .. } => Ok(set_examples(profile, 0, 0)),
-        Tree::Guard { count } => Ok(guard_examples(*count, label, profile)),
-        Tree::Gate => Ok(unit_examples(profile)),
+        Tree::Add { .. } => Ok(number_witness(add_numbers(), fact)),
+        Tree::Cap { top, .. } => Ok(number_witness(cap_numbers(*top, n), fact)),
+        Tree::Worst { top, .. } => Ok(number_witness(worst_numbers(*top, n), fact)),
+        Tree::Width { top, .. } => Ok(number_witness(width_numbers(*top, n), fact)),
+        Tree::Pref { top } => Ok(number_witness(pref_numbers(*top, n), fact)),
+        Tree::Orig { top } => Ok(number_witness(orig_numbers(*top), fact)),
+        Tree::Seq { .. } => sequence_witness(alloc, n, n, fact),
+        Tree::SimSeq { .. } => sequence_witness(alloc, n, other_symbol(n), fact),
+        Tree::Tags { .. } => Ok(set_witness(0, 0, fact)),
+        Tree::Guard { count } => Ok(guard_witness(*count, label, fact)),
+        Tree::Gate => Ok(unit_witness(fact)),
         Tree::Table(_)
         | Tree::Lex(_, _)
         | Tree::Scoped(_, _)
@@ -71,36 +111,48 @@ pub(crate) fn examples(
     }
 }
 
-// The value, unless the fact holds.
-fn unless(holds: bool, value: Value) -> Option<Value>
-    ensures { option_map pure_at result ≡ unless holds (at (pure_value value)) }
+// The one value of the example.
+fn one(example: Option<Example>) -> Option<Value>
+    ensures { option_map pure_at result ≡ of_one (option_map pure_example example) }
 {
-    if holds { None } else { Some(value) }
-}
-
-// The two values, unless the fact holds.
-fn two_unless(holds: bool, first: Value, second: Value) -> Option<(Value, Value)>
-    ensures { option_map pure_between result ≡ unless holds (between (pure_value first) (pure_value second)) }
-{
-    if holds { None } else { Some((first, second)) }
-}
-
-fn number_examples(profile: &Profile, numbers: Numbers) -> Examples
-    requires { profile.now.iso ≡ true }
-    ensures { AreExamples result profile.now (number_witness numbers) }
-{
-    let (u, v) = numbers.merged;
-    let (x, y) = numbers.apart;
-    Examples {
-        inside: unless(profile.dead, Value::Number(0)),
-        outside: unless(profile.total, Value::Number(numbers.outside)),
-        not_mono: unless(profile.mono, Value::Number(0)),
-        not_strict: unless(profile.strict, Value::Number(numbers.kept)),
-        not_iso: None,
-        not_canc: two_unless(profile.canc, Value::Number(u), Value::Number(v)),
-        not_cond: two_unless(profile.cond, Value::Number(x), Value::Number(y)),
-        not_narrow: two_unless(profile.narrow, Value::Number(x), Value::Number(y)),
+    match example? {
+        Example::At(value) => Some(value),
+        Example::Between(_, _) => None,
     }
+}
+
+// The two values of the example.
+fn two(example: Option<Example>) -> Option<(Value, Value)>
+    ensures { option_map pure_between result ≡ of_two (option_map pure_example example) }
+{
+    match example? {
+        Example::At(_) => None,
+        Example::Between(first, second) => Some((first, second)),
+    }
+}
+
+fn number_witness(numbers: Numbers, fact: Fact) -> Example
+    ensures { pure_example result ≡ number_witness numbers fact }
+{
+    match fact {
+        Fact::Total => at_number(numbers.outside),
+        Fact::Strict => at_number(numbers.kept),
+        Fact::Cancellative => between_numbers(numbers.merged),
+        Fact::Condensed | Fact::Narrow => between_numbers(numbers.apart),
+        Fact::Dead | Fact::Monotone | Fact::Isotone => at_number(0),
+    }
+}
+
+fn at_number(n: Amount) -> Example
+    ensures { pure_example result ≡ at (number n) }
+{
+    Example::At(Value::Number(n))
+}
+
+fn between_numbers(numbers: (Amount, Amount)) -> Example
+    ensures { pure_example result ≡ between (number numbers.0) (number numbers.1) }
+{
+    Example::Between(Value::Number(numbers.0), Value::Number(numbers.1))
 }
 
 fn add_numbers() -> Numbers
@@ -172,36 +224,16 @@ fn orig_numbers(top: u64) -> Numbers
 }
 
 // By the label's own symbol, and one that another sequence has.
-fn sequence_examples(
-    alloc: Global,
-    profile: &Profile,
-    own: u64,
-    other: u64,
-) -> Result<Examples, NoMemory>
-    requires mono { profile.now.mono ≡ true }
-    requires strict { profile.now.strict ≡ true }
-    requires canc { profile.now.canc ≡ true }
-    ensures { IfOk result (λ x. AreExamples x profile.now (sequence_witness own other)) }
+fn sequence_witness(alloc: Global, own: u64, other: u64, fact: Fact) -> Result<Example, NoMemory>
+    ensures { IfOk result (λ x. pure_example x ≡ sequence_witness own other fact) }
 {
-    let first = sequence_of(alloc, own)?;
-    Ok(Examples {
-        inside: unless(profile.dead, Value::Symbols(List::new(alloc))),
-        outside: unless(profile.total, sequence_of(alloc, own)?),
-        not_mono: None,
-        not_strict: None,
-        not_iso: two_unless(profile.iso, first, sequence_of(alloc, other)?),
-        not_canc: None,
-        not_cond: two_unless(
-            profile.cond,
-            Value::Symbols(List::new(alloc)),
-            sequence_of(alloc, other)?,
-        ),
-        not_narrow: two_unless(
-            profile.narrow,
-            Value::Symbols(List::new(alloc)),
-            sequence_of(alloc, other)?,
-        ),
-    })
+    let none = Value::Symbols(List::new(alloc));
+    match fact {
+        Fact::Total => Ok(Example::At(sequence_of(alloc, own)?)),
+        Fact::Isotone => Ok(Example::Between(sequence_of(alloc, own)?, sequence_of(alloc, other)?)),
+        Fact::Condensed | Fact::Narrow => Ok(Example::Between(none, sequence_of(alloc, other)?)),
+        Fact::Dead | Fact::Monotone | Fact::Strict | Fact::Cancellative => Ok(Example::At(none)),
+    }
 }
 
 // The sequence of this symbol alone.
@@ -220,58 +252,44 @@ fn other_symbol(n: u64) -> u64
 }
 
 // By a set that has no image, and one that has.
-fn set_examples(profile: &Profile, outside: u64, inside: u64) -> Examples
-    requires mono { profile.now.mono ≡ true }
-    requires canc { profile.now.canc ≡ true }
-    requires cond { profile.now.cond ≡ true }
-    requires narrow { profile.now.narrow ≡ true }
-    ensures { AreExamples result profile.now (set_witness outside inside) }
+fn set_witness(outside: u64, inside: u64, fact: Fact) -> Example
+    ensures { pure_example result ≡ set_witness outside inside fact }
 {
-    Examples {
-        inside: unless(profile.dead, Value::Marks(inside)),
-        outside: unless(profile.total, Value::Marks(outside)),
-        not_mono: None,
-        not_strict: unless(profile.strict, Value::Marks(inside)),
-        not_iso: two_unless(profile.iso, Value::Marks(outside), Value::Marks(inside)),
-        not_canc: None,
-        not_cond: None,
-        not_narrow: None,
+    match fact {
+        Fact::Total => Example::At(Value::Marks(outside)),
+        Fact::Isotone => Example::Between(Value::Marks(outside), Value::Marks(inside)),
+        Fact::Dead
+        | Fact::Monotone
+        | Fact::Strict
+        | Fact::Cancellative
+        | Fact::Condensed
+        | Fact::Narrow => Example::At(Value::Marks(inside)),
     }
 }
 
-fn guard_examples(count: u64, label: &Label, profile: &Profile) -> Examples
+fn guard_witness(count: u64, label: &Label, fact: Fact) -> Example
     requires count { count ≤ MAX_MARKS }
     requires label { IsLabel (guard count) (pure_label label.now) }
-    requires mono { profile.now.mono ≡ true }
-    requires canc { profile.now.canc ≡ true }
-    requires cond { profile.now.cond ≡ true }
-    requires narrow { profile.now.narrow ≡ true }
-    ensures { AreExamples result profile.now (guard_witness (pure_label label.now)) }
+    ensures { pure_example result ≡ guard_witness (pure_label label.now) fact }
 {
     match label {
-        Label::Need(k) => set_examples(profile, 0, 1 << *k),
-        Label::Bar(k) => set_examples(profile, 1 << *k, 0),
+        Label::Need(k) => set_witness(0, 1 << *k, fact),
+        Label::Bar(k) => set_witness(1 << *k, 0, fact),
         _ => unreachable!(),
     }
 }
 
 // By the one value.
-fn unit_examples(profile: &Profile) -> Examples
-    requires mono { profile.now.mono ≡ true }
-    requires iso { profile.now.iso ≡ true }
-    requires canc { profile.now.canc ≡ true }
-    requires cond { profile.now.cond ≡ true }
-    requires narrow { profile.now.narrow ≡ true }
-    ensures { AreExamples result profile.now unit_witness }
+fn unit_witness(fact: Fact) -> Example
+    ensures { pure_example result ≡ unit_witness fact }
 {
-    Examples {
-        inside: unless(profile.dead, Value::Unit),
-        outside: unless(profile.total, Value::Unit),
-        not_mono: None,
-        not_strict: unless(profile.strict, Value::Unit),
-        not_iso: None,
-        not_canc: None,
-        not_cond: None,
-        not_narrow: None,
+    match fact {
+        Fact::Condensed | Fact::Narrow => Example::Between(Value::Unit, Value::Unit),
+        Fact::Total
+        | Fact::Dead
+        | Fact::Monotone
+        | Fact::Strict
+        | Fact::Isotone
+        | Fact::Cancellative => Example::At(Value::Unit),
     }
 }

@@ -7,6 +7,6 @@ mod examples;
 mod list;
 mod profile;
 
-pub use class::{base_class, base_examples};
-pub use list::{BASE_CANDIDATES, base_candidate, base_class_list};
-pub use profile::{base_profile, base_tree_profile};
+pub use class::{base_class, base_example};
+pub use list::{BASE_CANDIDATES, base_class_list};
+pub use profile::{base_candidate, base_profile, base_tree_profile};

@@ -1,15 +1,18 @@
-// The facts of labels, by the table of rules.
-ghost use Rattle.std.specs.Prelude.{◌≡◌};
+// The facts of labels, by the table of rules, and the labels that show each of their profiles.
+ghost use Rattle.std.specs.Prelude.{◌≡◌, ◌≤◌, IfNone, IfSome};
 ghost use Rattle.alg_model.specs.Views.{expression_of, pure_label};
 ghost use Rattle.alg_model.specs.Application.{IsLabel};
+ghost use Rattle.alg_model.specs.Expressions.{number_label};
 ghost use Rattle.alg_model.specs.Formation.{MeetsRanges};
+ghost use Rattle.alg_model.specs.Forms.{IsBase};
 ghost use Rattle.alg_classes.specs.Profiles.{ProfileOf};
-ghost use Rattle.base_classes.specs.Kinds.{IsBase, number_in, is_allow};
+ghost use Rattle.base_classes.specs.Kinds.{number_in, is_allow};
+ghost use Rattle.base_classes.specs.Lists.{candidate, candidate_number};
 ghost use Rattle.base_classes.specs.Profiles.{base_profile_of, add_profile, cap_profile, worst_profile, width_profile};
-ghost use Rattle.base_classes.specs.Profiles.{pref_profile, keep_profile, dead_profile, seq_profile, simseq_profile};
+ghost use Rattle.base_classes.specs.Profiles.{pref_profile, keep_profile, seq_profile, simseq_profile};
 ghost use Rattle.base_classes.specs.Profiles.{guard_profile};
 
-use alg_classes::Profile;
+use alg_classes::{Profile, denied_profile};
 use alg_model::{Alg, Label, Tree};
 
 /// Which facts the label of a base algebra has. It takes no memory.
@@ -51,7 +54,7 @@ pub(crate) fn rule(tree: &Tree, label: &Label) -> Profile
         Tree::Tags { .. } => keep_rule(true),
         Tree::Guard { .. } => guard_rule(),
         Tree::Gate if is_allow(label) => keep_rule(true),
-        Tree::Gate => dead_rule(),
+        Tree::Gate => denied_profile(),
         Tree::Table(_)
         | Tree::Lex(_, _)
         | Tree::Scoped(_, _)
@@ -60,6 +63,66 @@ pub(crate) fn rule(tree: &Tree, label: &Label) -> Profile
         | Tree::Plus(_, _)
         | Tree::Left(_)
         | Tree::Right(_) => unreachable!(),
+    }
+}
+
+/// The label at that place, below [`crate::BASE_CANDIDATES`], among those of which each profile of a label is that of one;
+/// `None` where it is none of the algebra's. It takes no memory.
+///
+/// The tree is a base algebra other than a table, and meets the formation rule on ranges.
+pub fn base_candidate(tree: &Tree, place: usize) -> Option<Label>
+    requires base { IsBase (expression_of tree.now) }
+    requires ranges { MeetsRanges (expression_of tree.now) }
+    ensures some { IfSome result (λ label. (pure_label label ≡ candidate (expression_of tree.now) place) ×
+        IsLabel (expression_of tree.now) (pure_label label)) }
+    ensures none { IfNone result (¬ IsLabel (expression_of tree.now) (candidate (expression_of tree.now) place)) }
+{
+    match tree {
+        Tree::Add { low, high } => {
+            number_between(*low, *high, candidate_number(place, *low, *low, *high))
+        }
+        Tree::Cap { top, low, high }
+        | Tree::Worst { top, low, high }
+        | Tree::Width { top, low, high } => {
+            number_between(*low, *high, candidate_number(place, *low, *top, *high))
+        }
+        Tree::Pref { top } => number_between(0, *top, candidate_number(place, 0, *top, *top)),
+        Tree::Orig { .. } | Tree::Tags { .. } => Some(Label::Keep),
+        Tree::Seq { .. } | Tree::SimSeq { .. } => Some(Label::Symbol(0)),
+        Tree::Guard { .. } => Some(Label::Need(0)),
+        Tree::Gate if place == 0 => Some(Label::Allow),
+        Tree::Gate => Some(Label::Deny),
+        Tree::Table(_)
+        | Tree::Lex(_, _)
+        | Tree::Scoped(_, _)
+        | Tree::Union(_, _)
+        | Tree::Sum(_, _)
+        | Tree::Plus(_, _)
+        | Tree::Left(_)
+        | Tree::Right(_) => unreachable!(),
+    }
+}
+
+// The label of the number, if it is in the range.
+fn number_between(low: u64, high: u64, n: u64) -> Option<Label>
+    ensures some { IfSome result (λ label. (pure_label label ≡ number_label n) × (low ≤ n) × (n ≤ high)) }
+    ensures none { IfNone result (¬ ((low ≤ n) × (n ≤ high))) }
+{
+    if low <= n && n <= high {
+        Some(Label::Number(n))
+    } else {
+        None
+    }
+}
+
+fn candidate_number(place: usize, low: u64, top: u64, high: u64) -> u64
+    ensures { result ≡ candidate_number place low top high }
+{
+    match place {
+        0 => low,
+        1 => 1,
+        2 => top,
+        _ => high,
     }
 }
 
@@ -176,20 +239,5 @@ fn keep_rule(flat: bool) -> Profile
         canc: true,
         cond: flat,
         narrow: flat,
-    }
-}
-
-fn dead_rule() -> Profile
-    ensures { result ≡ dead_profile }
-{
-    Profile {
-        total: false,
-        dead: true,
-        mono: true,
-        strict: true,
-        iso: true,
-        canc: true,
-        cond: true,
-        narrow: true,
     }
 }

@@ -12,26 +12,26 @@ use Rattle.frontier.specs.Tournaments.{PureTournament}
 use Rattle.alg_model.specs.Expressions.{PureCarrier, PureValue}
 use Rattle.net_graph.specs.Nets.{CanBeNumbered}
 use Rattle.net_graph.specs.Routes.{PureRoute}
-use Rattle.net_graph.specs.Tables.{Told}
+use Rattle.net_graph.specs.Tables.{Reported}
 use Rattle.best_first.specs.declared.fixed.FixedRoute.{FixedRoute}
 use Rattle.best_first.specs.declared.route.OpenRoute.{OpenRoute}
 use Rattle.best_first.specs.Found.{found-map, found_at, AllFound, none_count}
 use Rattle.best_first.specs.Keys.{RouteKey, key_of, best_of, route_of, routes_of, path_or_none, IsShaped}
-use Rattle.best_first.specs.Fixed.{fixed_route, told_by, open_routes, path_behind, AreFixedBy, FixesNext}
-use Rattle.best_first.specs.Queue.{IsBestAt, IsOpen, IsNext, with_told}
+use Rattle.best_first.specs.Fixed.{fixed_route, reported_by, open_routes, path_after, AreFixedBy, FixesNext}
+use Rattle.best_first.specs.Queue.{IsBestAt, IsOpen, IsNext, with_reported}
 use Rattle.best_first.proofs.Places.{found-set, all-set, found_within, from_none, from_some, none_count-set}
 use Rattle.best_first.proofs.Queues.{open-found}
 
 -- the path of a row is that of the store
-told-path : {S : Type 0} (value : S → PureValue) (paths : List (List NodeId)) (o : Option (FixedRoute S)) → path_or_none (option_map (fixed_route value paths) o) ≡ numbers (path_behind paths o)
-told-path value paths None = refl
-told-path value paths (Some f) = refl
+reported-path : {S : Type 0} (value : S → PureValue) (paths : List (List NodeId)) (o : Option (FixedRoute S)) → path_or_none (option_map (fixed_route value paths) o) ≡ numbers (path_after paths o)
+reported-path value paths None = refl
+reported-path value paths (Some f) = refl
 
 -- with a path more in the store the rows tell the same
-told-more : {S : Type 0} (value : S → PureValue) (paths : List (List NodeId)) (path : List NodeId) (o : Option (FixedRoute S)) → IfSome o (λ f. f.path.0 < length paths)
+reported-more : {S : Type 0} (value : S → PureValue) (paths : List (List NodeId)) (path : List NodeId) (o : Option (FixedRoute S)) → IfSome o (λ f. f.path.0 < length paths)
     → option_map (fixed_route value (paths ++ path ∷ [])) o ≡ option_map (fixed_route value paths) o
-told-more value paths path None h = refl
-told-more value paths path (Some f) h = rw (get_or_append_left paths (path ∷ []) [] f.path.0 h) refl
+reported-more value paths path None h = refl
+reported-more value paths path (Some f) h = rw (get_or_append_left paths (path ∷ []) [] f.path.0 h) refl
 
 -- a node without a row
 one_none : {X : Type 0} (xs : List (Option X)) (i : ℕ) → i < length xs → found_at xs i ≡ None → 0 < none_count xs
@@ -52,18 +52,18 @@ some_none o x e f = absurd (cc)
 
 module _ {S : Type 0} (value : S → PureValue) (is_sig : S → Type 0) (c : PureCarrier) (rows : List (Option (FixedRoute S))) (paths : List (List NodeId)) (best : List (Option (OpenRoute S)))
     (old_standing standing : PureTournament) (i : ℕ) (count : length rows ≡ length best) (fixed : AreFixedBy is_sig rows paths)
-    (opened : IsOpen value is_sig c (told_by value paths rows) best old_standing) (next : IsNext c (told_by value paths rows) (best_of value best) standing i)
+    (opened : IsOpen value is_sig c (reported_by value paths rows) best old_standing) (next : IsNext c (reported_by value paths rows) (best_of value best) standing i)
   where
-    told : Told
-    told = told_by value paths rows
+    reported : Reported
+    reported = reported_by value paths rows
 
     -- what is open at node i
-    at_i : (r : PureRoute) × (found_at (routes_of (told_by value paths rows) (best_of value best)) i ≡ Some r)
+    at_i : (r : PureRoute) × (found_at (routes_of (reported_by value paths rows) (best_of value best)) i ≡ Some r)
     at_i = (next.best_of_all.0, next.best_of_all.1)
 
     key_at_i : (b : RouteKey) × (found_at (best_of value best) i ≡ Some b)
     key_at_i =
-        let from = from_some (route_of (told_by value paths rows)) (found_at (best_of value best) i) at_i.0 (sym (open-found (told_by value paths rows) (best_of value best) i) ∙ at_i.1) in
+        let from = from_some (route_of (reported_by value paths rows)) (found_at (best_of value best) i) at_i.0 (sym (open-found (reported_by value paths rows) (best_of value best) i) ∙ at_i.1) in
         (from.0, from.1)
 
     pub best_within : i < length best
@@ -88,7 +88,7 @@ module _ {S : Type 0} (value : S → PureValue) (is_sig : S → Type 0) (c : Pur
       here : found_at (best_of value best) i ≡ Some (key_of value route)
       here = found-map (key_of value) best i ∙ ap (option_map (key_of value)) is
 
-      at_best : IsBestAt c (told_by value paths rows) i (key_of value route)
+      at_best : IsBestAt c (reported_by value paths rows) i (key_of value route)
       at_best = opened.queue.bests i (key_of value route) here
 
       pub node_is : route.place.node.0 ≡ i
@@ -100,20 +100,20 @@ module _ {S : Type 0} (value : S → PureValue) (is_sig : S → Type 0) (c : Pur
       pub next_within : route.place.next.0 < length rows
       next_within = by at_best.shaped
         where
-          by : IsShaped (told_by value paths rows) (key_of value route) → route.place.next.0 < length rows
+          by : IsShaped (reported_by value paths rows) (key_of value route) → route.place.next.0 < length rows
           by (inl own) = rw own.0 node_within
           by (inr b) =
-              let from = from_some (fixed_route value paths) (found_at rows route.place.next.0) b.next (sym (found-map (fixed_route value paths) rows route.place.next.0) ∙ b.is_told) in
+              let from = from_some (fixed_route value paths) (found_at rows route.place.next.0) b.next (sym (found-map (fixed_route value paths) rows route.place.next.0) ∙ b.is_reported) in
               found_within rows route.place.next.0 from.0 from.1
 
       r : PureRoute
-      r = route_of (told_by value paths rows) (key_of value route)
+      r = route_of (reported_by value paths rows) (key_of value route)
 
-      open_is : found_at (open_routes value paths rows best) i ≡ Some (route_of (told_by value paths rows) (key_of value route))
-      open_is = open-found (told_by value paths rows) (best_of value best) i ∙ ap (option_map (route_of (told_by value paths rows))) here
+      open_is : found_at (open_routes value paths rows best) i ≡ Some (route_of (reported_by value paths rows) (key_of value route))
+      open_is = open-found (reported_by value paths rows) (best_of value best) i ∙ ap (option_map (route_of (reported_by value paths rows))) here
 
       path : List NodeId
-      path = route.place.node ∷ path_behind paths (found_at rows route.place.next.0)
+      path = route.place.node ∷ path_after paths (found_at rows route.place.next.0)
 
       row : FixedRoute S
       row = record { sig = route.sig; path = record { 0 = length paths } }
@@ -121,7 +121,7 @@ module _ {S : Type 0} (value : S → PureValue) (is_sig : S → Type 0) (c : Pur
       -- with the node's row written and its path added
       module _ (new_rows : List (Option (FixedRoute S))) (new_paths : List (List NodeId)) (new_best : List (Option (OpenRoute S)))
           (rows_is : new_rows ≡ set rows route.place.node.0 (Some (record { sig = route.sig; path = record { 0 = length paths } })))
-          (paths_is : new_paths ≡ paths ++ (route.place.node ∷ path_behind paths (found_at rows route.place.next.0)) ∷ [])
+          (paths_is : new_paths ≡ paths ++ (route.place.node ∷ path_after paths (found_at rows route.place.next.0)) ∷ [])
           (best_is : new_best ≡ set best i None)
         where
           rows_written : (k : ℕ) → found_at new_rows k ≡ (if k == i then Some row else found_at rows k)
@@ -131,21 +131,21 @@ module _ {S : Type 0} (value : S → PureValue) (is_sig : S → Type 0) (c : Pur
           row_is : fixed_route value new_paths row ≡ r
           unfolding row r
           row_is =
-              let path_is : path_of new_paths record { 0 = length paths } ≡ route.place.node ∷ path_behind paths (found_at rows route.place.next.0) =
-              rw paths_is (get_or-append_seam paths (route.place.node ∷ path_behind paths (found_at rows route.place.next.0)) [] []) in
-              let rest : path_or_none (told_by value paths rows route.place.next.0) ≡ numbers (path_behind paths (found_at rows route.place.next.0)) =
-              ap path_or_none (found-map (fixed_route value paths) rows route.place.next.0) ∙ told-path value paths (found_at rows route.place.next.0) in
+              let path_is : path_of new_paths record { 0 = length paths } ≡ route.place.node ∷ path_after paths (found_at rows route.place.next.0) =
+              rw paths_is (get_or-append_seam paths (route.place.node ∷ path_after paths (found_at rows route.place.next.0)) [] []) in
+              let rest : path_or_none (reported_by value paths rows route.place.next.0) ≡ numbers (path_after paths (found_at rows route.place.next.0)) =
+              ap path_or_none (found-map (fixed_route value paths) rows route.place.next.0) ∙ reported-path value paths (found_at rows route.place.next.0) in
               rw (path_is, rest) refl
 
-          told_at : (k : ℕ) → told_by value new_paths new_rows k ≡ with_told (told_by value paths rows) i r k
-          told_at k = found-map (fixed_route value new_paths) new_rows k ∙ by (k == i) refl
+          reported_at : (k : ℕ) → reported_by value new_paths new_rows k ≡ with_reported (reported_by value paths rows) i r k
+          reported_at k = found-map (fixed_route value new_paths) new_rows k ∙ by (k == i) refl
             where
-              by : (b : Bool) → (k == i) ≡ b → option_map (fixed_route value new_paths) (found_at new_rows k) ≡ (if k == i then Some r else told_by value paths rows k)
+              by : (b : Bool) → (k == i) ≡ b → option_map (fixed_route value new_paths) (found_at new_rows k) ≡ (if k == i then Some r else reported_by value paths rows k)
               by true e = rw (rows_written k, e) (ap (λ z. Some z) row_is)
-              by false e = rw (rows_written k, e, paths_is) (told-more value paths (route.place.node ∷ path_behind paths (found_at rows route.place.next.0)) (found_at rows k) (fixed.ids k) ∙ sym (found-map (fixed_route value paths) rows k))
+              by false e = rw (rows_written k, e, paths_is) (reported-more value paths (route.place.node ∷ path_after paths (found_at rows route.place.next.0)) (found_at rows k) (fixed.ids k) ∙ sym (found-map (fixed_route value paths) rows k))
 
-          told_is : told_by value new_paths new_rows ≡ with_told (told_by value paths rows) i r
-          told_is = fun_ext told_at
+          reported_is : reported_by value new_paths new_rows ≡ with_reported (reported_by value paths rows) i r
+          reported_is = fun_ext reported_at
 
           best_set : best_of value new_best ≡ set (best_of value best) i None
           best_set = rw best_is (map-set (option_map (key_of value)) best i None)
@@ -153,40 +153,40 @@ module _ {S : Type 0} (value : S → PureValue) (is_sig : S → Type 0) (c : Pur
           bests_within : i < length (best_of value best)
           bests_within = omega (arith, best_within, length-map best (option_map (key_of value)))
 
-          same_route : (k : ℕ) (b : RouteKey) → (k == i) ≡ false → IsBestAt c (told_by value paths rows) k b
-              → route_of (with_told (told_by value paths rows) i r) b ≡ route_of (told_by value paths rows) b
+          same_route : (k : ℕ) (b : RouteKey) → (k == i) ≡ false → IsBestAt c (reported_by value paths rows) k b
+              → route_of (with_reported (reported_by value paths rows) i r) b ≡ route_of (reported_by value paths rows) b
           same_route k b apart at_b = rw apart_next refl
             where
               apart_next : (b.next == i) ≡ false
               apart_next = by at_b.shaped (b.next == i) refl
                 where
-                  by : IsShaped (told_by value paths rows) b → (t : Bool) → (b.next == i) ≡ t → (b.next == i) ≡ false
+                  by : IsShaped (reported_by value paths rows) b → (t : Bool) → (b.next == i) ≡ t → (b.next == i) ≡ false
                   by shaped false e = e
                   by (inl own) true e = (let f : b.next ≡ k = own.0 ∙ at_b.node in rw f apart)
-                  by (inr behind) true e =
+                  by (inr after) true e =
                       let same : b.next ≡ i = grind (arith, nat_tests) in
-                      some_none (told_by value paths rows i) behind.next next.is_open (rw same at behind.is_told)
+                      some_none (reported_by value paths rows i) after.next next.is_open (rw same at after.is_reported)
 
           open_at : (k : ℕ) → found_at (open_routes value new_paths new_rows new_best) k ≡ (if k == i then None else found_at (open_routes value paths rows best) k)
           open_at k =
-              open-found (told_by value new_paths new_rows) (best_of value new_best) k
-              ∙ (ap (option_map (route_of (told_by value new_paths new_rows))) (ap (λ z. found_at z k) best_set ∙ found-set (best_of value best) i k None bests_within) ∙ by (k == i) refl)
+              open-found (reported_by value new_paths new_rows) (best_of value new_best) k
+              ∙ (ap (option_map (route_of (reported_by value new_paths new_rows))) (ap (λ z. found_at z k) best_set ∙ found-set (best_of value best) i k None bests_within) ∙ by (k == i) refl)
             where
               key_same : (k == i) ≡ false → (o : Option RouteKey) → found_at (best_of value best) k ≡ o
-                  → option_map (route_of (told_by value new_paths new_rows)) o ≡ option_map (route_of (told_by value paths rows)) o
+                  → option_map (route_of (reported_by value new_paths new_rows)) o ≡ option_map (route_of (reported_by value paths rows)) o
               key_same e None f = refl
-              key_same e (Some b) f = ap (λ (z : Told). Some (route_of z b)) told_is ∙ ap (λ z. Some z) (same_route k b e (opened.queue.bests k b f))
+              key_same e (Some b) f = ap (λ (z : Reported). Some (route_of z b)) reported_is ∙ ap (λ z. Some z) (same_route k b e (opened.queue.bests k b f))
 
               by : (t : Bool) → (k == i) ≡ t
-                  → option_map (route_of (told_by value new_paths new_rows)) (if k == i then None else found_at (best_of value best) k) ≡ (if k == i then None else found_at (open_routes value paths rows best) k)
+                  → option_map (route_of (reported_by value new_paths new_rows)) (if k == i then None else found_at (best_of value best) k) ≡ (if k == i then None else found_at (open_routes value paths rows best) k)
               by true e = rw e refl
-              by false e = rw e (key_same e (found_at (best_of value best) k) refl ∙ sym (open-found (told_by value paths rows) (best_of value best) k))
+              by false e = rw e (key_same e (found_at (best_of value best) k) refl ∙ sym (open-found (reported_by value paths rows) (best_of value best) k))
 
           pub fixes : FixesNext value c rows paths best new_rows new_paths new_best i
           unfolding r row
           fixes = record {
             best_of_all = next.best_of_all;
-            rows_at = λ k. told_at k ∙ ap (λ o. if k == i then o else told_by value paths rows k) (sym open_is);
+            rows_at = λ k. reported_at k ∙ ap (λ o. if k == i then o else reported_by value paths rows k) (sym open_is);
             open_at = open_at;
             fewer = rw (rows_is, node_is) (none_count-set rows i row row_within no_row);
           }
@@ -210,13 +210,13 @@ module _ {S : Type 0} (value : S → PureValue) (is_sig : S → Type 0) (c : Pur
           }
             where
               more : length new_paths ≡ length paths + 1
-              more = rw paths_is (length-append paths ((route.place.node ∷ path_behind paths (found_at rows route.place.next.0)) ∷ []))
+              more = rw paths_is (length-append paths ((route.place.node ∷ path_after paths (found_at rows route.place.next.0)) ∷ []))
 
               all_sig : is_sig route.sig
               all_sig = rw is at (opened.sigs i)
 
-          pub open_after : IsOpen value is_sig c (told_by value new_paths new_rows) new_best standing
+          pub open_after : IsOpen value is_sig c (reported_by value new_paths new_rows) new_best standing
           open_after = record {
             sigs = rw best_is (all-set (λ o. is_sig o.sig) best i None best_within opened.sigs tt);
-            queue = rw (told_is, best_set) (next.queue r);
+            queue = rw (reported_is, best_set) (next.queue r);
           }

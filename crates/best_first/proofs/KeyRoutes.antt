@@ -8,7 +8,7 @@ use Rattle.alg_model.specs.Expressions.{PureCarrier}
 use Rattle.alg_model.specs.Carriers.{Order}
 use Rattle.meta_base.specs.NodePaths.{compare_nodes, compare_paths}
 use Rattle.net_graph.specs.Routes.{compare_routes, is_less, is_better}
-use Rattle.net_graph.specs.Tables.{Told}
+use Rattle.net_graph.specs.Tables.{Reported}
 use Rattle.best_first.specs.Keys.{RouteKey, compare_keys, is_first, route_of, path_or_none, IsShaped}
 
 cmp_same : (n : ℕ) → nat_cmp n n ≡ Equal
@@ -46,35 +46,35 @@ origins Greater = refl
 
 -- the path of so many nodes goes from node i over the next node n along what is after
 abbrev IsPathOf : (ℕ → List ℕ) → List ℕ → ℕ → ℕ → ℕ → Type 0
-IsPathOf behind path size i n = ((path ≡ i ∷ []) × (n ≡ i) × (length path ≡ size)) ⊎ ((rest : List ℕ) × (path ≡ i ∷ n ∷ rest) × (behind n ≡ n ∷ rest) × (length path ≡ size))
+IsPathOf after path size i n = ((path ≡ i ∷ []) × (n ≡ i) × (length path ≡ size)) ⊎ ((rest : List ℕ) × (path ≡ i ∷ n ∷ rest) × (after n ≡ n ∷ rest) × (length path ≡ size))
 
-tails : (behind : ℕ → List ℕ) (p q : List ℕ) (ks ls i j n m : ℕ) → IsPathOf behind p ks i n → IsPathOf behind q ls j m
+tails : (after : ℕ → List ℕ) (p q : List ℕ) (ks ls i j n m : ℕ) → IsPathOf after p ks i n → IsPathOf after q ls j m
     → ordering_then (nat_cmp ks ls) (ordering_then (nat_cmp i j) (nat_cmp n m)) ≡ compare_paths p q
-tails behind p q ks ls i j n m (inl (e, f, a)) (inl (g, h, b)) = rw (← a, ← b, e, g, f, h) (origins (nat_cmp i j))
-tails behind p q ks ls i j n m (inl (e, f, a)) (inr (t, g, h, b)) =
+tails after p q ks ls i j n m (inl (e, f, a)) (inl (g, h, b)) = rw (← a, ← b, e, g, f, h) (origins (nat_cmp i j))
+tails after p q ks ls i j n m (inl (e, f, a)) (inr (t, g, h, b)) =
     rw (← a, ← b, e, g) (unequal (length (i ∷ [])) (length (j ∷ m ∷ t)) _ _ (omega arith))
-tails behind p q ks ls i j n m (inr (t, e, f, a)) (inl (g, h, b)) =
+tails after p q ks ls i j n m (inr (t, e, f, a)) (inl (g, h, b)) =
     rw (← a, ← b, e, g) (unequal (length (i ∷ n ∷ t)) (length (j ∷ [])) _ _ (omega arith))
-tails behind p q ks ls i j n m (inr (t, e, f, a)) (inr (u, g, h, b)) =
+tails after p q ks ls i j n m (inr (t, e, f, a)) (inr (u, g, h, b)) =
     let same : n ≡ m → t ≡ u = λ k. cc in
     rw (← a, ← b, e, g) (ap (λ o. ordering_then (nat_cmp (length (i ∷ n ∷ t)) (length (j ∷ m ∷ u))) (ordering_then (nat_cmp i j) o)) (fronts n m t u same))
 
 -- the path of a key of a node that isn't fixed
-shape : (told : Told) (k : RouteKey) → told k.node ≡ None → IsShaped told k → IsPathOf (λ n. path_or_none (told n)) (route_of told k).path k.size k.node k.next
-shape told k none (inl (e, f)) =
-    let behind : told k.next ≡ None = rw e none in
-    let one : path_or_none (told k.next) ≡ [] = ap path_or_none behind in
+shape : (reported : Reported) (k : RouteKey) → reported k.node ≡ None → IsShaped reported k → IsPathOf (λ n. path_or_none (reported n)) (route_of reported k).path k.size k.node k.next
+shape reported k none (inl (e, f)) =
+    let after : reported k.next ≡ None = rw e none in
+    let one : path_or_none (reported k.next) ≡ [] = ap path_or_none after in
     inl (ap (λ p. k.node ∷ p) one, e, rw (one, f) refl)
-shape told k none (inr b) =
-    let behind : path_or_none (told k.next) ≡ b.next.path = ap path_or_none b.is_told in
-    inr (b.begins.0, ap (λ p. k.node ∷ p) (behind ∙ b.begins.1), behind ∙ b.begins.1, rw (b.size, behind) (omega arith))
+shape reported k none (inr b) =
+    let after : path_or_none (reported k.next) ≡ b.next.path = ap path_or_none b.is_reported in
+    inr (b.begins.0, ap (λ p. k.node ∷ p) (after ∙ b.begins.1), after ∙ b.begins.1, rw (b.size, after) (omega arith))
 
-pub keys_agree : (c : PureCarrier) (told : Told) (k l : RouteKey) → told k.node ≡ None → told l.node ≡ None → IsShaped told k → IsShaped told l
-    → compare_keys c k l ≡ compare_routes c (route_of told k) (route_of told l)
-keys_agree c told k l none nobody f g =
+pub keys_agree : (c : PureCarrier) (reported : Reported) (k l : RouteKey) → reported k.node ≡ None → reported l.node ≡ None → IsShaped reported k → IsShaped reported l
+    → compare_keys c k l ≡ compare_routes c (route_of reported k) (route_of reported l)
+keys_agree c reported k l none nobody f g =
     ap (λ o. ordering_then (Order c k.value l.value) o)
-    (tails (λ n. path_or_none (told n)) (route_of told k).path (route_of told l).path k.size l.size k.node l.node k.next l.next (shape told k none f) (shape told l nobody g))
+    (tails (λ n. path_or_none (reported n)) (route_of reported k).path (route_of reported l).path k.size l.size k.node l.node k.next l.next (shape reported k none f) (shape reported l nobody g))
 
-pub first_agree : (c : PureCarrier) (told : Told) (k l : RouteKey) → told k.node ≡ None → told l.node ≡ None → IsShaped told k → IsShaped told l
-    → is_first c k l ≡ is_better c (route_of told k) (route_of told l)
-first_agree c told k l none nobody f g = ap is_less (keys_agree c told k l none nobody f g)
+pub first_agree : (c : PureCarrier) (reported : Reported) (k l : RouteKey) → reported k.node ≡ None → reported l.node ≡ None → IsShaped reported k → IsShaped reported l
+    → is_first c k l ≡ is_better c (route_of reported k) (route_of reported l)
+first_agree c reported k l none nobody f g = ap is_less (keys_agree c reported k l none nobody f g)

@@ -7,7 +7,7 @@ use Rattle.frontier.specs.Tournaments.{PureTournament, IsJudged, IsJudgedBut, Is
 use Rattle.frontier.specs.Orders.{IsOrderOf}
 use Rattle.alg_model.specs.Expressions.{PureCarrier, PureValue}
 use Rattle.alg_model.specs.Carriers.{In}
-use Rattle.net_graph.specs.Tables.{Told}
+use Rattle.net_graph.specs.Tables.{Reported}
 use Rattle.best_first.specs.declared.route.OpenRoute.{OpenRoute}
 use Rattle.best_first.specs.declared.route.Place.{Place}
 use Rattle.best_first.specs.Found.{found-map, found_at, AllFound}
@@ -72,30 +72,30 @@ module _ {S : Type 0} (value : S → PureValue) (is_sig : S → Type 0) (c : Pur
           transitive = λ k m n h l i. slots_transitive value is_sig c sig_in best sigs k m n;
         }
 
-    pub none_when_first_lacks : found_at best slot ≡ None → (k : ℕ) → found_at best k ≡ None
-    none_when_first_lacks lacks k = by (found_at best k) refl
+    pub none_when_first_misses : found_at best slot ≡ None → (k : ℕ) → found_at best k ≡ None
+    none_when_first_misses misses k = by (found_at best k) refl
       where
         by : (o : Option (OpenRoute S)) → found_at best k ≡ o → found_at best k ≡ None
         by None e = e
         by (Some route) e =
             let key : found_at (best_of value best) k ≡ Some (key_of value route) = found-map (key_of value) best k ∙ ap (option_map (key_of value)) e in
-            let no_key : found_at (best_of value best) slot ≡ None = found-map (key_of value) best slot ∙ ap (option_map (key_of value)) lacks in
+            let no_key : found_at (best_of value best) slot ≡ None = found-map (key_of value) best slot ∙ ap (option_map (key_of value)) misses in
             absurd (false≢true (sym (rw (key, no_key) at (first_of_all k (found_within best k route e)))))
 
 -- each best route stands at its node
-pub at_their_nodes : {S : Type 0} (value : S → PureValue) (is_sig : S → Type 0) (c : PureCarrier) (told : Told) (best : List (Option (OpenRoute S))) (t : PureTournament) → IsOpen value is_sig c told best t
+pub at_their_nodes : {S : Type 0} (value : S → PureValue) (is_sig : S → Type 0) (c : PureCarrier) (reported : Reported) (best : List (Option (OpenRoute S))) (t : PureTournament) → IsOpen value is_sig c reported best t
     → (k : ℕ) → IfSome (found_at best k) (λ o. o.place.node.0 ≡ k)
-at_their_nodes {S = S} value is_sig c told best t opened k = by (found_at best k) refl
+at_their_nodes {S = S} value is_sig c reported best t opened k = by (found_at best k) refl
   where
     by : (o : Option (OpenRoute S)) → found_at best k ≡ o → IfSome o (λ o. o.place.node.0 ≡ k)
     by None e = tt
     by (Some route) e = (opened.queue.bests k (key_of value route) (found-map (key_of value) best k ∙ ap (option_map (key_of value)) e)).node
 
 -- the best route of all was taken out
-pub next_taken : {S : Type 0} (value : S → PureValue) (is_sig : S → Type 0) (c : PureCarrier) (told : Told) (best new_best : List (Option (OpenRoute S))) (t new_t : PureTournament) (route : OpenRoute S)
-    → IsOpen value is_sig c told best t → found_at best route.place.node.0 ≡ Some route → IsFirstSlot (precedes c (best_of value best)) (length best) route.place.node.0
-    → new_best ≡ set best route.place.node.0 None → IsRanked c (best_of value new_best) new_t → IsNext c told (best_of value best) new_t route.place.node.0
-next_taken value is_sig c told best new_best t new_t route opened there first taken ranked =
-    next_is c told (best_of value best) t new_t route.place.node.0 (rw (length-map best (option_map (key_of value))) first) opened.queue (key_of value route)
+pub next_taken : {S : Type 0} (value : S → PureValue) (is_sig : S → Type 0) (c : PureCarrier) (reported : Reported) (best new_best : List (Option (OpenRoute S))) (t new_t : PureTournament) (route : OpenRoute S)
+    → IsOpen value is_sig c reported best t → found_at best route.place.node.0 ≡ Some route → IsFirstSlot (precedes c (best_of value best)) (length best) route.place.node.0
+    → new_best ≡ set best route.place.node.0 None → IsRanked c (best_of value new_best) new_t → IsNext c reported (best_of value best) new_t route.place.node.0
+next_taken value is_sig c reported best new_best t new_t route opened there first taken ranked =
+    next_is c reported (best_of value best) t new_t route.place.node.0 (rw (length-map best (option_map (key_of value))) first) opened.queue (key_of value route)
     (found-map (key_of value) best route.place.node.0 ∙ ap (option_map (key_of value)) there)
     (rw (taken, map-set (option_map (key_of value)) best route.place.node.0 None) at ranked)

@@ -43,7 +43,7 @@ offer_moves net dest t u before i r a (inr (j, among, by)) = inr (
   among,
   record {
     next = by.next;
-    is_told = sym (a j among) ∙ by.is_told;
+    is_reported = sym (a j among) ∙ by.is_reported;
     weighs = by.weighs;
     loopless = by.loopless;
     path = by.path;
@@ -63,16 +63,16 @@ same_offer net dest t before i r s h (inl a) (inl b) e =
     let v : r.value ≡ s.value = let x = a.0 in let y = b.0 in cc in
     same_route r s v e
 same_offer net dest t before i r s h (inl a) (inr (j, among, b)) e =
-    let begins = h j b.next among b.is_told in
+    let begins = h j b.next among b.is_reported in
     absurd (let x = a.1 in let y = b.path in let z = begins.1 in cc)
 same_offer net dest t before i r s h (inr (j, among, a)) (inl b) e =
-    let begins = h j a.next among a.is_told in
+    let begins = h j a.next among a.is_reported in
     absurd (let x = a.path in let y = b.1 in let z = begins.1 in cc)
 same_offer net dest t before i r s h (inr (j, among, a)) (inr (k, others, b)) e =
-    let p = h j a.next among a.is_told in
-    let q = h k b.next others b.is_told in
+    let p = h j a.next among a.is_reported in
+    let q = h k b.next others b.is_reported in
     let path : a.next.path ≡ b.next.path = let x = a.path in let y = b.path in cc in
     let node : j ≡ k = let x = p.1 in let y = q.1 in cc in
-    let next : a.next ≡ b.next = let x = a.is_told in let y = b.is_told in cc in
+    let next : a.next ≡ b.next = let x = a.is_reported in let y = b.is_reported in cc in
     let v : r.value ≡ s.value = let x = a.weighs in let y = b.weighs in cc in
     same_route r s v e

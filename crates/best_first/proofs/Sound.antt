@@ -33,7 +33,7 @@ offer_sound net dest t before i r n b (inl (value, path)) = record {
   ];
 }
 offer_sound net dest t before i r n b (inr (j, among, o)) =
-    let s = b j o.next among o.is_told in
+    let s = b j o.next among o.is_reported in
     let begins = s.begins in
     record {
       walk = rw (o.path, begins.1) (along_has net n i j (Some o.next.value) r.value o.weighs, rw begins.1 at s.walk);
@@ -50,7 +50,7 @@ offer_sound net dest t before i r n b (inr (j, among, o)) =
 -- with the next node too the routes are sound
 pub sound_more : (net : PureNet) (dest : ℕ) (t : List PureRow) (before : List ℕ) (i : ℕ) (r : PureRoute) → IsNet net → AreSound net dest t before
     → route_at t i ≡ Some r → IsOfferFrom net dest (route_at t) before i r → AreSound net dest t (i ∷ before)
-sound_more net dest t before i r n b told o j s e f = elim (among_split before i j e) [
+sound_more net dest t before i r n b reported o j s e f = elim (among_split before i j e) [
   | inl same ↦ rw (← same) (first s (rw (← same) at f))
   | inr m ↦ widen j s (b j s m f)
 ]
@@ -64,8 +64,8 @@ sound_more net dest t before i r n b told o j s e f = elim (among_split before i
         rw one at (offer_sound net dest t before i r n b o)
 
 last_walks : (net : PureNet) (dest : ℕ) (t : List PureRow) (before : List ℕ) → TableOf net dest t → AreSound net dest t before → AreFixed net dest t before [] → HasWalks net dest t
-last_walks net dest t before table b f i r told = elim (cases_lt i (length net.nodes)) [
-  | inl within ↦ walk_of (b i r (inside (is_among before i) refl within) told)
+last_walks net dest t before table b f i r reported = elim (cases_lt i (length net.nodes)) [
+  | inl within ↦ walk_of (b i r (inside (is_among before i) refl within) reported)
   | inr past ↦ absurd (let n = no_route_past net dest t table i past in cc)
 ]
   where

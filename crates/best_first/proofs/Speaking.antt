@@ -12,7 +12,7 @@ use Rattle.alg_model.specs.Application.{App}
 use Rattle.alg_model.specs.Carriers.{In}
 use Rattle.net_graph.specs.Nets.{PureArc, PureNet, IsNet, IsOriginOf, origins_of}
 use Rattle.net_graph.specs.Routes.{PureRoute}
-use Rattle.net_graph.specs.Tables.{Told, carrier}
+use Rattle.net_graph.specs.Tables.{Reported, carrier}
 use Rattle.net_graph.specs.Walks.{along}
 use Rattle.best_first.specs.declared.route.OpenRoute.{OpenRoute}
 use Rattle.best_first.specs.declared.route.Place.{Place}
@@ -46,13 +46,13 @@ nothing_open value is_sig c best t none count judged = record {
     no_key : (k : ℕ) → found_at (best_of value best) k ≡ None
     no_key k = found-map (key_of value) best k ∙ ap (option_map (key_of value)) (none k)
 
-pub nothing_found : {S : Type 0} (value : S → PureValue) (told : Told) (best : List (Option (OpenRoute S))) → ((k : ℕ) → found_at best k ≡ None) → (k : ℕ) → found_at (routes_of told (best_of value best)) k ≡ None
-nothing_found value told best none k = found-map (route_of told) (best_of value best) k ∙ ap (option_map (route_of told)) (found-map (key_of value) best k ∙ ap (option_map (key_of value)) (none k))
+pub nothing_found : {S : Type 0} (value : S → PureValue) (reported : Reported) (best : List (Option (OpenRoute S))) → ((k : ℕ) → found_at best k ≡ None) → (k : ℕ) → found_at (routes_of reported (best_of value best)) k ≡ None
+nothing_found value reported best none k = found-map (route_of reported) (best_of value best) k ∙ ap (option_map (route_of reported)) (found-map (key_of value) best k ∙ ap (option_map (key_of value)) (none k))
 
 -- the offer of the next arc was made
-module _ (net : PureNet) (n : IsNet net) (told : Told) (i m : ℕ) (r : PureRoute) (a : PureArc) (place : Place) (best new_best : List (Option RouteKey)) (t new_t : PureTournament) (is_told : told i ≡ Some r)
-    (can : CanSpeak net i r) (heard : IsHeard net i m a) (within : a.tail < length best) (is_open : told a.tail ≡ None) (size : place.size ≡ length r.path + 1) (node : place.node.0 ≡ a.tail) (next : place.next.0 ≡ i)
-    (q : IsQueue (carrier net) told best t) (offered : IsOfferedOf (carrier net) place (App net.alg.expression a.label r.value) best new_best) (ranked : IsRanked (carrier net) new_best new_t)
+module _ (net : PureNet) (n : IsNet net) (reported : Reported) (i m : ℕ) (r : PureRoute) (a : PureArc) (place : Place) (best new_best : List (Option RouteKey)) (t new_t : PureTournament) (is_reported : reported i ≡ Some r)
+    (can : CanSpeak net i r) (heard : IsHeard net i m a) (within : a.tail < length best) (is_open : reported a.tail ≡ None) (size : place.size ≡ length r.path + 1) (node : place.node.0 ≡ a.tail) (next : place.next.0 ≡ i)
+    (q : IsQueue (carrier net) reported best t) (offered : IsOfferedOf (carrier net) place (App net.alg.expression a.label r.value) best new_best) (ranked : IsRanked (carrier net) new_best new_t)
   where
     key : PureValue → RouteKey
     key v = record { value = v; size = place.size; node = place.node.0; next = place.next.0 }
@@ -66,37 +66,37 @@ module _ (net : PureNet) (n : IsNet net) (told : Told) (i m : ℕ) (r : PureRout
       made : IsOffered (carrier net) (key_at place v) best new_best
       made = rw e at offered
 
-      queue_made : IsQueue (carrier net) told new_best new_t
-      queue_made = offered_queue (carrier net) told (key_at place v) best t new_best (rw node within) (rw node is_open)
-          (inr record { next = r; is_told = rw next is_told; begins = rw next can.begins; size = size }) (image_in v e) q new_t made ranked
+      queue_made : IsQueue (carrier net) reported new_best new_t
+      queue_made = offered_queue (carrier net) reported (key_at place v) best t new_best (rw node within) (rw node is_open)
+          (inr record { next = r; is_reported = rw next is_reported; begins = rw next can.begins; size = size }) (image_in v e) q new_t made ranked
 
-      found_made : (k : ℕ) → found_at (routes_of told new_best) k ≡ (if k == a.tail then better_of (carrier net) (found_at (routes_of told best) k) (arc_offer net a.tail i r) else found_at (routes_of told best) k)
+      found_made : (k : ℕ) → found_at (routes_of reported new_best) k ≡ (if k == a.tail then better_of (carrier net) (found_at (routes_of reported best) k) (arc_offer net a.tail i r) else found_at (routes_of reported best) k)
       found_made k =
-          let found = offered_found (carrier net) told (key_at place v) best t new_best (rw node within) (rw node is_open)
-          (inr record { next = r; is_told = rw next is_told; begins = rw next can.begins; size = size }) (image_in v e) q made k in
-          let is : told place.next.0 ≡ Some r = rw next is_told in
-          let path : path_or_none (told place.next.0) ≡ r.path = ap path_or_none is in
+          let found = offered_found (carrier net) reported (key_at place v) best t new_best (rw node within) (rw node is_open)
+          (inr record { next = r; is_reported = rw next is_reported; begins = rw next can.begins; size = size }) (image_in v e) q made k in
+          let is : reported place.next.0 ≡ Some r = rw next is_reported in
+          let path : path_or_none (reported place.next.0) ≡ r.path = ap path_or_none is in
           let offer : arc_offer net a.tail i r ≡ Some (record { value = v; path = a.tail ∷ r.path }) = sym (made_offer net i m a r heard) ∙ rw e refl in
           rw offer (rw (node, path) at found)
 
-    pub spoken_queue : IsQueue (carrier net) told new_best new_t
+    pub spoken_queue : IsQueue (carrier net) reported new_best new_t
     spoken_queue = by (App net.alg.expression a.label r.value) refl
       where
-        by : (o : Option PureValue) → App net.alg.expression a.label r.value ≡ o → IsQueue (carrier net) told new_best new_t
+        by : (o : Option PureValue) → App net.alg.expression a.label r.value ≡ o → IsQueue (carrier net) reported new_best new_t
         by None e = let same = rw e at offered in record { bests = rw same q.bests; ranked = ranked }
         by (Some v) e = queue_made v e
 
-    pub spoken_found : (start : Option PureRoute) (k : ℕ) → found_at (routes_of told best) k ≡ relaxed (carrier net) (told k) start (heard_so_far net i r m k)
-        → found_at (routes_of told new_best) k ≡ relaxed (carrier net) (told k) start (heard_so_far net i r (m + 1) k)
+    pub spoken_found : (start : Option PureRoute) (k : ℕ) → found_at (routes_of reported best) k ≡ relaxed (carrier net) (reported k) start (heard_so_far net i r m k)
+        → found_at (routes_of reported new_best) k ≡ relaxed (carrier net) (reported k) start (heard_so_far net i r (m + 1) k)
     spoken_found start k old =
-        step_take net i r m k a (told k) start (found_at (routes_of told best) k) (found_at (routes_of told new_best) k) heard (λ e. rw e is_open) old (by (App net.alg.expression a.label r.value) refl)
+        step_take net i r m k a (reported k) start (found_at (routes_of reported best) k) (found_at (routes_of reported new_best) k) heard (λ e. rw e is_open) old (by (App net.alg.expression a.label r.value) refl)
       where
         by : (o : Option PureValue) → App net.alg.expression a.label r.value ≡ o
-            → found_at (routes_of told new_best) k ≡ (if k == a.tail then better_of (carrier net) (found_at (routes_of told best) k) (arc_offer net a.tail i r) else found_at (routes_of told best) k)
+            → found_at (routes_of reported new_best) k ≡ (if k == a.tail then better_of (carrier net) (found_at (routes_of reported best) k) (arc_offer net a.tail i r) else found_at (routes_of reported best) k)
         by None e =
             let same = rw e at offered in
             let offer : arc_offer net a.tail i r ≡ None = sym (made_offer net i m a r heard) ∙ rw e refl in
-            rw (same, offer) (either (k == a.tail) (found_at (routes_of told best) k))
+            rw (same, offer) (either (k == a.tail) (found_at (routes_of reported best) k))
           where
             either : (b : Bool) (x : Option PureRoute) → x ≡ (if b then x else x)
             either true x = refl

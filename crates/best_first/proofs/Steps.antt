@@ -11,7 +11,7 @@ use Rattle.alg_model.specs.Laws.{at_most_more}
 use Rattle.net_graph.specs.Nets.{PureNet, IsNet, origin_value, label_between}
 use Rattle.net_graph.specs.Routes.{PureRoute, Better, is_better}
 use Rattle.net_graph.specs.Walks.{along}
-use Rattle.net_graph.specs.declared.limits.TheConstants.{MAX_NODES_TWO}
+use Rattle.net_graph.specs.declared.limits.TheConstants.{MOST_NODES}
 use Rattle.net_graph.specs.Laws.{few_nodes}
 use Rattle.net_graph.specs.Tables.{PureRow, TableOf, IsRouteOf, AreRowsFrom, carrier, route_at, is_among, IsOfferBy, IsOfferFrom, AreFixed, BestFirst}
 use Rattle.best_first.specs.Found.{found_at, none_count, rows_from, better_of, own_offer, arc_offer}
@@ -97,7 +97,7 @@ offer_kept net dest t before k s n kept (inl (value, path)) =
       ];
     }
 offer_kept net dest t before k s n kept (inr (j, among, o)) =
-    let next = kept j o.next o.is_told in
+    let next = kept j o.next o.is_reported in
     record {
       value_in = of_some (In (carrier net)) (along net k j (Some o.next.value)) s.value (along_in net n k j (Some o.next.value) next.value_in) o.weighs;
       bound =
@@ -150,7 +150,7 @@ first_state net dest rows open_routes n a b none count own = record {
 
 -- what an arc makes of a route is an offer, and every offer by that node
 arc-offer : (net : PureNet) (t : List PureRow) (k i : ℕ) (r s : PureRoute) → route_at t i ≡ Some r → is_among r.path k ≡ false → arc_offer net k i r ≡ Some s → IsOfferBy net (route_at t) k i s
-arc-offer net t k i r s told out e = by (along net k i (Some r.value)) refl e
+arc-offer net t k i r s reported out e = by (along net k i (Some r.value)) refl e
   where
     by : (o : Option PureValue) → along net k i (Some r.value) ≡ o → option_map (λ (v : PureValue). record { value = v; path = k ∷ r.path }) o ≡ Some s → IsOfferBy net (route_at t) k i s
     by None h e = absurd (cc)
@@ -158,15 +158,15 @@ arc-offer net t k i r s told out e = by (along net k i (Some r.value)) refl e
         let same : route v (k ∷ r.path) ≡ s = cc in
         record {
           next = r;
-          is_told = told;
+          is_reported = reported;
           weighs = rw (← same) h;
           loopless = out;
           path = rw (← same) refl;
         }
 
 offer-arc : (net : PureNet) (t : List PureRow) (k i : ℕ) (r s : PureRoute) → route_at t i ≡ Some r → IsOfferBy net (route_at t) k i s → arc_offer net k i r ≡ Some s
-offer-arc net t k i r s told o =
-    let f = o.is_told in
+offer-arc net t k i r s reported o =
+    let f = o.is_reported in
     let same : r ≡ o.next = cc in
     rw (same, o.weighs) (ap (λ z. Some z) (same_route (route s.value (k ∷ o.next.path)) s refl (sym o.path)))
 
@@ -227,7 +227,7 @@ best_with c Old All (Some x) (Some y) i j ins split old new best = by (is_better
 
 -- the state with one node more
 module _ (net : PureNet) (dest : ℕ) (rows open_routes taken next_rows next_open : List (Option PureRoute)) (i : ℕ) (r : PureRoute) (n : IsNet net) (st : IsState net dest rows open_routes)
-    (told : found_at open_routes i ≡ Some r) (best : (k : ℕ) (s : PureRoute) → found_at open_routes k ≡ Some s → ¬ Better (carrier net) s r)
+    (reported : found_at open_routes i ≡ Some r) (best : (k : ℕ) (s : PureRoute) → found_at open_routes k ≡ Some s → ¬ Better (carrier net) s r)
     (taken_at : (k : ℕ) → found_at taken k ≡ (if k == i then None else found_at open_routes k))
     (open_at : (k : ℕ) → found_at next_open k ≡ relaxed (carrier net) (found_at rows k) (found_at taken k) (arc_offer net k i r))
     (rows_at : (k : ℕ) → found_at next_rows k ≡ (if k == i then Some r else found_at rows k))
@@ -277,7 +277,7 @@ module _ (net : PureNet) (dest : ℕ) (rows open_routes taken next_rows next_ope
 
     chosen_i : IsBestOffer net dest t st.before i (Some r)
     unfolding t
-    chosen_i = rw told at (st.chosen i within out)
+    chosen_i = rw reported at (st.chosen i within out)
 
     r_kept : IsKept net (i ∷ st.before) r
     r_kept = offer_kept net dest t st.before i r n row_kept chosen_i.0
@@ -420,7 +420,7 @@ last_state net dest rows open_routes n st none = record { table_of = table; orde
         let room = st.room in
         let bound = n.node_room in
         let nodes = few_nodes net.alg.edition in
-        let few : length r.path ≤ MAX_NODES_TWO = omega arith in
+        let few : length r.path ≤ MOST_NODES = omega arith in
         record {
           value_in = h.value_in;
           bound = at_most_more (MAX_LABEL_NUMBER * length r.path) MAX_ROW_NUMBER r.value (omega arith) h.bound;
@@ -445,7 +445,7 @@ some_left (Some x ∷ xs) (suc i) l e = some_left xs i (omega arith) e
 -- a node with what is open at it may speak
 pub can_speak : (net : PureNet) (dest : ℕ) (rows open_routes : List (Option PureRoute)) (i : ℕ) (r : PureRoute) → IsNet net → IsState net dest rows open_routes → found_at open_routes i ≡ Some r
     → CanSpeak net i r
-can_speak net dest rows open_routes i r n st told =
+can_speak net dest rows open_routes i r n st reported =
     let l = within in
     let kept = offer_kept net dest (rows_from dest 0 rows) st.before i r n (λ j s f. st.kept j s (sym (row-found dest 0 rows j) ∙ f)) offered in
     let short = kept.short in
@@ -474,4 +474,4 @@ can_speak net dest rows open_routes i r n st told =
     one_left = some_left rows i (let h = st.rows_count in let l = within in omega arith) (is_none (found_at rows i) (st.marks i within ∙ out (is_among st.before i) refl))
 
     offered : IsOfferFrom net dest (route_at (rows_from dest 0 rows)) st.before i r
-    offered = (rw told at (st.chosen i within (out (is_among st.before i) refl))).0
+    offered = (rw reported at (st.chosen i within (out (is_among st.before i) refl))).0

@@ -49,19 +49,19 @@ unfolding NoneOffers
 at_arc net dest t before x b f k j within out among = by (route_at t j) refl
   where
     loopless : (next : PureRoute) → route_at t j ≡ Some next → (c : Bool) → is_among next.path k ≡ c → is_among next.path k ≡ false
-    loopless next told true e = absurd (false≢true (sym out ∙ (b.sound j next among told).inside k e))
-    loopless next told false e = e
+    loopless next reported true e = absurd (false≢true (sym out ∙ (b.sound j next among reported).inside k e))
+    loopless next reported false e = e
 
     image : (next : PureRoute) → route_at t j ≡ Some next → (o : Option PureValue) → along net k j (Some next.value) ≡ o → IsUnbeatenBy (carrier net) x o
-    image next told None e = none_last (carrier net) x
-    image next told (Some w) e = f k (route w (k ∷ next.path)) within out (inr (
+    image next reported None e = none_last (carrier net) x
+    image next reported (Some w) e = f k (route w (k ∷ next.path)) within out (inr (
       j,
       among,
       record {
         next = next;
-        is_told = told;
+        is_reported = reported;
         weighs = e;
-        loopless = loopless next told (is_among next.path k) refl;
+        loopless = loopless next reported (is_among next.path k) refl;
         path = refl;
       },
     ))
@@ -100,13 +100,13 @@ best_more : (net : PureNet) (dest : ℕ) (t : List PureRow) (before : List ℕ) 
     → ((k : ℕ) (s : PureRoute) → k < length net.nodes → is_among before k ≡ false → IsOfferFrom net dest (route_at t) before k s → ¬ Better (carrier net) s r)
     → AreBest net dest t (i ∷ before)
 unfolding NoneOffers
-best_more net dest t before i r g b out told o best = record { sound = sound_more net dest t before i r g.is_net b.sound told o; unbeaten = unbeaten }
+best_more net dest t before i r g b out reported o best = record { sound = sound_more net dest t before i r g.is_net b.sound reported o; unbeaten = unbeaten }
   where
     none : NoneOffers net dest t before (Some r.value)
     none k s within other offer e = best k s within other offer (rw e refl)
 
     here : (p : List ℕ) → Walk net dest (i ∷ p) → IsUnbeatenBy (carrier net) (value_at t i) (Weight net dest (i ∷ p))
-    here p w = rw told (next_best net dest t before (Some r.value) g b (table_route_in net dest t g.table_of i r told).value_in none i p out w)
+    here p w = rw reported (next_best net dest t before (Some r.value) g b (table_route_in net dest t g.table_of i r reported).value_in none i p out w)
 
     unbeaten : (j : ℕ) (p : List ℕ) → is_among (i ∷ before) j ≡ true → Walk net dest (j ∷ p) → IsUnbeatenBy (carrier net) (value_at t j) (Weight net dest (j ∷ p))
     unbeaten j p e w = elim (among_split before i j e) [

@@ -47,15 +47,15 @@ agree_on net dest t u before (i ∷ first) (k ∷ second) h g b a f q n within =
     same = next_same net dest t u before i k f.2.0 q.2.0 h g b a f.2.1 q.2.1 f.2.2 q.2.2 (f.2.3 k q.2.0 q.0 q.1) (q.2.3 i f.2.0 f.0 f.1)
 
     more : BeginWithThem t (i ∷ before)
-    more j r e told = elim (among_split before i j e) [
+    more j r e reported = elim (among_split before i j e) [
       | inl s ↦
           let begins = offer_begins net dest t before i f.2.0 f.2.2 in
           let x = f.2.1 in
           let z = begins.1 in
-          let here : route_at t i ≡ Some r = rw (← s) at told in
+          let here : route_at t i ≡ Some r = rw (← s) at reported in
           let one : r ≡ f.2.0 = cc in
           (begins.0, rw (one, ← s) z)
-      | inr m ↦ b j r m told
+      | inr m ↦ b j r m reported
     ]
 
     agree : Agree t u (i ∷ before)

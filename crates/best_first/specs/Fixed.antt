@@ -5,7 +5,7 @@ use Rattle.meta_base.specs.NodePaths.{numbers}
 use Rattle.path_store.specs.PathOf.{path_of}
 use Rattle.alg_model.specs.Expressions.{PureCarrier, PureValue}
 use Rattle.net_graph.specs.Routes.{PureRoute}
-use Rattle.net_graph.specs.Tables.{Told}
+use Rattle.net_graph.specs.Tables.{Reported}
 use Rattle.best_first.specs.declared.fixed.FixedRoute.{FixedRoute}
 use Rattle.best_first.specs.declared.route.OpenRoute.{OpenRoute}
 use Rattle.best_first.specs.Found.{found_at, AllFound, none_count, IsBestOf}
@@ -20,17 +20,17 @@ abbrev pub fixed_routes : {S : Type 0} → (S → PureValue) → List (List Node
 fixed_routes value paths rows = map (option_map (fixed_route value paths)) rows
 
 -- what the rows tell
-abbrev pub told_by : {S : Type 0} → (S → PureValue) → List (List NodeId) → List (Option (FixedRoute S)) → Told
-told_by value paths rows = found_at (fixed_routes value paths rows)
+abbrev pub reported_by : {S : Type 0} → (S → PureValue) → List (List NodeId) → List (Option (FixedRoute S)) → Reported
+reported_by value paths rows = found_at (fixed_routes value paths rows)
 
 -- the routes that are open, by the rows
 abbrev pub open_routes : {S : Type 0} → (S → PureValue) → List (List NodeId) → List (Option (FixedRoute S)) → List (Option (OpenRoute S)) → List (Option PureRoute)
-open_routes value paths rows best = routes_of (told_by value paths rows) (best_of value best)
+open_routes value paths rows best = routes_of (reported_by value paths rows) (best_of value best)
 
 -- the path that stands for a fixed route, if there is one
-abbrev pub path_behind : {S : Type 0} → List (List NodeId) → Option (FixedRoute S) → List NodeId
-path_behind paths None = []
-path_behind paths (Some f) = path_of paths f.path
+abbrev pub path_after : {S : Type 0} → List (List NodeId) → Option (FixedRoute S) → List NodeId
+path_after paths None = []
+path_after paths (Some f) = path_of paths f.path
 
 -- each row's path is in the store, which has no more of them
 pub record AreFixedBy {S : Type 0} (is_sig : S → Type 0) (rows : List (Option (FixedRoute S))) (paths : List (List NodeId)) : Type 0 where
@@ -42,7 +42,7 @@ pub record AreFixedBy {S : Type 0} (is_sig : S → Type 0) (rows : List (Option 
 pub record FixesNext {S : Type 0} (value : S → PureValue) (c : PureCarrier) (rows : List (Option (FixedRoute S))) (paths : List (List NodeId)) (best : List (Option (OpenRoute S)))
     (new_rows : List (Option (FixedRoute S))) (new_paths : List (List NodeId)) (new_best : List (Option (OpenRoute S))) (i : ℕ) : Type 0 where
   pub best_of_all : IsBestOf c (open_routes value paths rows best) i
-  pub rows_at : (k : ℕ) → told_by value new_paths new_rows k ≡ (if k == i then found_at (open_routes value paths rows best) i else told_by value paths rows k)
+  pub rows_at : (k : ℕ) → reported_by value new_paths new_rows k ≡ (if k == i then found_at (open_routes value paths rows best) i else reported_by value paths rows k)
   pub open_at : (k : ℕ) → found_at (open_routes value new_paths new_rows new_best) k ≡ (if k == i then None else found_at (open_routes value paths rows best) k)
   pub fewer : none_count new_rows + 1 ≡ none_count rows
 

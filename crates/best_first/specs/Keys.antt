@@ -5,7 +5,7 @@ use Rattle.std.specs.declared.cmp.Ordering.{Ordering}
 use Rattle.alg_model.specs.Expressions.{PureCarrier, PureValue}
 use Rattle.alg_model.specs.Carriers.{Order}
 use Rattle.net_graph.specs.Routes.{PureRoute, is_less}
-use Rattle.net_graph.specs.Tables.{Told}
+use Rattle.net_graph.specs.Tables.{Reported}
 use Rattle.best_first.specs.declared.route.OpenRoute.{OpenRoute}
 use Rattle.best_first.specs.declared.route.Place.{Place}
 use Rattle.best_first.specs.Found.{found_at}
@@ -62,24 +62,24 @@ path_or_none None = []
 path_or_none (Some r) = r.path
 
 -- the route of a key, by the routes of the nodes that are fixed
-abbrev pub route_of : Told → RouteKey → PureRoute
-route_of told k = record { value = k.value; path = k.node ∷ path_or_none (told k.next) }
+abbrev pub route_of : Reported → RouteKey → PureRoute
+route_of reported k = record { value = k.value; path = k.node ∷ path_or_none (reported k.next) }
 
 -- the routes that are open
-abbrev pub routes_of : Told → List (Option RouteKey) → List (Option PureRoute)
-routes_of told best = map (option_map (route_of told)) best
+abbrev pub routes_of : Reported → List (Option RouteKey) → List (Option PureRoute)
+routes_of reported best = map (option_map (route_of reported)) best
 
 -- the path begins with the node
 abbrev pub BeginsWith : ℕ → List ℕ → Type 0
 BeginsWith n p = (rest : List ℕ) × (p ≡ n ∷ rest)
 
 -- the next node is fixed and its path begins with it, and the size is one more than that of its path
-pub record IsBehind (told : Told) (k : RouteKey) : Type 0 where
+pub record IsAfter (reported : Reported) (k : RouteKey) : Type 0 where
   pub next : PureRoute
-  pub is_told : told k.next ≡ Some next
+  pub is_reported : reported k.next ≡ Some next
   pub begins : BeginsWith k.next next.path
   pub size : k.size ≡ length next.path + 1
 
 -- the route of the node's own origin, or a route by a node that is fixed
-abbrev pub IsShaped : Told → RouteKey → Type 0
-IsShaped told k = ((k.next ≡ k.node) × (k.size ≡ 1)) ⊎ IsBehind told k
+abbrev pub IsShaped : Reported → RouteKey → Type 0
+IsShaped reported k = ((k.next ≡ k.node) × (k.size ≡ 1)) ⊎ IsAfter reported k

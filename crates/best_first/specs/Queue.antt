@@ -5,17 +5,17 @@ use Rattle.frontier.specs.Tournaments.{PureTournament, IsJudged}
 use Rattle.alg_model.specs.Expressions.{PureCarrier, PureValue}
 use Rattle.alg_model.specs.Carriers.{In}
 use Rattle.net_graph.specs.Routes.{PureRoute}
-use Rattle.net_graph.specs.Tables.{Told}
+use Rattle.net_graph.specs.Tables.{Reported}
 use Rattle.best_first.specs.declared.route.OpenRoute.{OpenRoute}
 use Rattle.best_first.specs.declared.route.Place.{Place}
 use Rattle.best_first.specs.Found.{found_at, AllFound, IsBestOf}
 use Rattle.best_first.specs.Keys.{RouteKey, key_at, best_of, routes_of, precedes, IsShaped, beats}
 
 -- the best of node k is a route of the node, which isn't fixed
-pub record IsBestAt (c : PureCarrier) (told : Told) (k : ℕ) (best : RouteKey) : Type 0 where
+pub record IsBestAt (c : PureCarrier) (reported : Reported) (k : ℕ) (best : RouteKey) : Type 0 where
   pub node : best.node ≡ k
-  pub is_open : told k ≡ None
-  pub shaped : IsShaped told best
+  pub is_open : reported k ≡ None
+  pub shaped : IsShaped reported best
   pub value_in : In c best.value
 
 -- the tournament is one of these nodes, by their best routes
@@ -23,14 +23,14 @@ pub record IsRanked (c : PureCarrier) (best : List (Option RouteKey)) (standing 
   pub count : standing.count ≡ length best
   pub judged : IsJudged (precedes c best) standing
 
-pub record IsQueue (c : PureCarrier) (told : Told) (best : List (Option RouteKey)) (standing : PureTournament) : Type 0 where
-  pub bests : (k : ℕ) (b : RouteKey) → found_at best k ≡ Some b → IsBestAt c told k b
+pub record IsQueue (c : PureCarrier) (reported : Reported) (best : List (Option RouteKey)) (standing : PureTournament) : Type 0 where
+  pub bests : (k : ℕ) (b : RouteKey) → found_at best k ≡ Some b → IsBestAt c reported k b
   pub ranked : IsRanked c best standing
 
 -- the same of what the program keeps, whose form of values stands for these
-pub record IsOpen {S : Type 0} (value : S → PureValue) (is_sig : S → Type 0) (c : PureCarrier) (told : Told) (best : List (Option (OpenRoute S))) (standing : PureTournament) : Type 0 where
+pub record IsOpen {S : Type 0} (value : S → PureValue) (is_sig : S → Type 0) (c : PureCarrier) (reported : Reported) (best : List (Option (OpenRoute S))) (standing : PureTournament) : Type 0 where
   pub sigs : AllFound (λ o. is_sig o.sig) best
-  pub queue : IsQueue c told (best_of value best) standing
+  pub queue : IsQueue c reported (best_of value best) standing
 
 -- whether there is a value, and its key there beats the best of the node
 abbrev pub is_wanted : PureCarrier → Place → Option PureValue → List (Option RouteKey) → Bool
@@ -47,15 +47,15 @@ IsOfferedOf c place None best new_best = new_best ≡ best
 IsOfferedOf c place (Some v) best new_best = IsOffered c (key_at place v) best new_best
 
 -- no node has a route
-abbrev pub no_route : Told
+abbrev pub no_route : Reported
 no_route k = None
 
 -- the routes that are reported, with this one of node i
-abbrev pub with_told : Told → ℕ → PureRoute → Told
-with_told told i r k = if k == i then Some r else told k
+abbrev pub with_reported : Reported → ℕ → PureRoute → Reported
+with_reported reported i r k = if k == i then Some r else reported k
 
 -- node i isn't fixed, its best is the best of all, and with its route fixed the others are kept
-pub record IsNext (c : PureCarrier) (told : Told) (best : List (Option RouteKey)) (standing : PureTournament) (i : ℕ) : Type 0 where
-  pub is_open : told i ≡ None
-  pub best_of_all : IsBestOf c (routes_of told best) i
-  pub queue : (r : PureRoute) → IsQueue c (with_told told i r) (set best i None) standing
+pub record IsNext (c : PureCarrier) (reported : Reported) (best : List (Option RouteKey)) (standing : PureTournament) (i : ℕ) : Type 0 where
+  pub is_open : reported i ≡ None
+  pub best_of_all : IsBestOf c (routes_of reported best) i
+  pub queue : (r : PureRoute) → IsQueue c (with_reported reported i r) (set best i None) standing

@@ -1,7 +1,6 @@
 -- What holds between two nodes that are fixed.
 use Rattle.std.specs.Prelude.{◌≡◌, ℕ, ◌+◌, ◌*◌, ◌<◌, ◌≤◌, List, [], ◌∷◌, true, false, Option, Some, None, is_some, option_and_then, length}
-use Rattle.alg_model.specs.declared.edition.TheConstants.{MAX_LABEL_NUMBER}
-use Rattle.alg_model.specs.declared.alg.TheConstants.{MAX_VALUE_NUMBER}
+use Rattle.alg_model.specs.Numbers.{max_label_number, max_value_number}
 use Rattle.alg_model.specs.Expressions.{PureCarrier}
 use Rattle.alg_model.specs.Carriers.{In}
 use Rattle.alg_model.specs.Bounds.{AtMost}
@@ -32,7 +31,7 @@ IsBestOffer net dest table before k o = IsBestIn (carrier net) (IsOfferFrom net 
 -- a route over these nodes alone, no longer than they are many, and with small numbers
 pub record IsKept (net : PureNet) (before : List ℕ) (r : PureRoute) : Type 0 where
   pub value_in : In (carrier net) r.value
-  pub bound : AtMost (MAX_LABEL_NUMBER * length r.path) r.value
+  pub bound : AtMost (max_label_number * length r.path) r.value
   pub short : length r.path ≤ length before
   pub inside : (m : ℕ) → is_among r.path m ≡ true → is_among before m ≡ true
 
@@ -63,4 +62,4 @@ pub record CanSpeak (net : PureNet) (node : ℕ) (r : PureRoute) : Type 0 where
   pub value_in : In (carrier net) r.value
   pub begins : BeginsWith node r.path
   pub short : length r.path ≤ length net.nodes
-  pub small : AtMost MAX_VALUE_NUMBER r.value
+  pub small : AtMost max_value_number r.value

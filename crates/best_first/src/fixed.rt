@@ -2,7 +2,7 @@ ghost use Rattle.std.specs.Prelude.{◌≡◌, ◌<◌, ◌∷◌, ◌++◌, [],
 ghost use Rattle.std.proofs.Math.ListN.{set};
 ghost use Rattle.path_store.specs.PathOf.{HasNumber};
 ghost use Rattle.best_first.specs.Found.{found_at, AllFound};
-ghost use Rattle.best_first.specs.Fixed.{path_behind};
+ghost use Rattle.best_first.specs.Fixed.{path_after};
 
 use crate::route::OpenRoute;
 use meta_base::{NoMemory, NodeId};
@@ -24,7 +24,7 @@ pub(crate) struct Fixed<S> {
 }
 
 impl<S: Drop> Fixed<S> {
-    // So many nodes, none of which is fixed.
+    /// So many nodes, none of which is fixed.
     pub fn new(alloc: Global, count: usize) -> Result<Fixed<S>, NoMemory>
         ensures rows { IfOk result (λ fixed. fixed.rows.items ≡ replicate count None) }
         ensures paths { IfOk result (λ fixed. fixed.paths ≡ []) }
@@ -37,7 +37,7 @@ impl<S: Drop> Fixed<S> {
         Ok(Fixed { rows, paths })
     }
 
-    // Fixes the node of the route.
+    /// Fixes the node of the route.
     pub fn fix(&mut self, route: OpenRoute<S>) -> Result<(), NoMemory>
         requires node { route.place.node.0 < vec_len self.old.rows }
         requires next { route.place.next.0 < vec_len self.old.rows }
@@ -46,7 +46,7 @@ impl<S: Drop> Fixed<S> {
         ensures rows { OnOk result (self.new.rows.items ≡ set self.old.rows.items route.place.node.0
             (Some (record { sig = route.sig; path = record { 0 = length self.old.paths } }))) }
         ensures paths { OnOk result (self.new.paths ≡ self.old.paths ++ (route.place.node
-            ∷ path_behind self.old.paths (found_at self.old.rows.items route.place.next.0)) ∷ []) }
+            ∷ path_after self.old.paths (found_at self.old.rows.items route.place.next.0)) ∷ []) }
     {
         let OpenRoute { sig, place } = route;
         let next = &self.rows[place.next.0 as usize];
@@ -55,7 +55,7 @@ impl<S: Drop> Fixed<S> {
         Ok(())
     }
 
-    // Lends the route of a node that is fixed.
+    /// Lends the route of a node that is fixed.
     pub fn route(&self, node: NodeId) -> &FixedRoute<S>
         requires { is_some (found_at self.now.rows.items node.0) ≡ true }
         ensures { found_at self.now.rows.items node.0 ≡ Some result.now }
@@ -75,7 +75,7 @@ fn add_path<S>(
 ) -> Result<PathId, NoMemory>
     requires few { HasNumber (length paths.old) }
     requires id { IfSome next.now (λ f. f.path.0 < length paths.old) }
-    ensures ok { OnOk result (paths.new ≡ paths.old ++ (node ∷ path_behind paths.old next.now) ∷ []) }
+    ensures ok { OnOk result (paths.new ≡ paths.old ++ (node ∷ path_after paths.old next.now) ∷ []) }
     ensures id { IfOk result (λ id. id.0 ≡ length paths.old) }
 {
     match next {

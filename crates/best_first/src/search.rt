@@ -9,7 +9,7 @@ ghost use Rattle.net_graph.specs.Nets.{CanBeNumbered, IsNet};
 ghost use Rattle.net_graph.specs.Tables.{carrier};
 ghost use Rattle.best_first.specs.Found.{found_at, AllFound, own_offer, made_in};
 ghost use Rattle.best_first.specs.Keys.{best_of, routes_of};
-ghost use Rattle.best_first.specs.Fixed.{told_by, open_routes, AreFixedBy, FixesNone, FixesNext};
+ghost use Rattle.best_first.specs.Fixed.{reported_by, open_routes, AreFixedBy, FixesNone, FixesNext};
 ghost use Rattle.best_first.specs.Labels.{AreLabelsOf};
 ghost use Rattle.best_first.specs.Queue.{IsOpen, IsOfferedOf, IsRanked, no_route};
 ghost use Rattle.best_first.specs.State.{relaxed, CanSpeak, spoken};
@@ -73,7 +73,7 @@ pub(crate) fn fix_next<A: Algebra, L: Ledger>(
     requires fixed { AreFixedBy (A.is_sig algebra.now) fixed.old.rows.items fixed.old.paths }
     requires queue { let value = A.sig_value algebra.now in
         IsOpen value (A.is_sig algebra.now) (carrier_of (A.expression algebra.now))
-        (told_by value fixed.old.paths fixed.old.rows.items) search.old.best.items search.old.standing }
+        (reported_by value fixed.old.paths fixed.old.rows.items) search.old.best.items search.old.standing }
     ensures rows { OnOk result (vec_len fixed.new.rows ≡ vec_len fixed.old.rows) }
     ensures best { vec_len search.new.best ≡ vec_len search.old.best }
     ensures none { IfOk result (λ node. IfNone node (FixesNone fixed.old.rows.items fixed.old.paths
@@ -86,7 +86,7 @@ pub(crate) fn fix_next<A: Algebra, L: Ledger>(
         OnSome node (AreFixedBy (A.is_sig algebra.now) fixed.new.rows.items fixed.new.paths)) }
     ensures queue { let value = A.sig_value algebra.now in
         IfOk result (λ node. OnSome node (IsOpen value (A.is_sig algebra.now) (carrier_of (A.expression algebra.now))
-        (told_by value fixed.new.paths fixed.new.rows.items) search.new.best.items search.new.standing)) }
+        (reported_by value fixed.new.paths fixed.new.rows.items) search.new.best.items search.new.standing)) }
 {
     let Some(route) = search.take_best(algebra) else {
         return Ok(None);
@@ -114,21 +114,21 @@ pub(crate) fn relax<A: Algebra, L: Ledger>(
     requires rows { vec_len fixed.now.rows ≡ length _net.now.nodes }
     requires count { vec_len search.old.best ≡ length _net.now.nodes }
     requires fixed { AreFixedBy (A.is_sig algebra.now) fixed.now.rows.items fixed.now.paths }
-    requires next { IsSomeAnd (told_by (A.sig_value algebra.now) fixed.now.paths fixed.now.rows.items node.0)
+    requires next { IsSomeAnd (reported_by (A.sig_value algebra.now) fixed.now.paths fixed.now.rows.items node.0)
         (CanSpeak _net.now node.0) }
     requires queue { IsOpen (A.sig_value algebra.now) (A.is_sig algebra.now) (carrier _net.now)
-        (told_by (A.sig_value algebra.now) fixed.now.paths fixed.now.rows.items)
+        (reported_by (A.sig_value algebra.now) fixed.now.paths fixed.now.rows.items)
         search.old.best.items search.old.standing }
     ensures count { vec_len search.new.best ≡ length _net.now.nodes }
     ensures queue { OnOk result (IsOpen (A.sig_value algebra.now) (A.is_sig algebra.now) (carrier _net.now)
-        (told_by (A.sig_value algebra.now) fixed.now.paths fixed.now.rows.items)
+        (reported_by (A.sig_value algebra.now) fixed.now.paths fixed.now.rows.items)
         search.new.best.items search.new.standing) }
     ensures routes { (k : ℕ) → let value = A.sig_value algebra.now in
         let rows = fixed.now.rows.items in let paths = fixed.now.paths in
-        let told = told_by value paths rows in
+        let reported = reported_by value paths rows in
         OnOk result (found_at (open_routes value paths rows search.new.best.items) k ≡
-        relaxed (carrier _net.now) (told k)
-        (found_at (open_routes value paths rows search.old.best.items) k) (spoken _net.now k node.0 (told node.0))) }
+        relaxed (carrier _net.now) (reported k)
+        (found_at (open_routes value paths rows search.old.best.items) k) (spoken _net.now k node.0 (reported node.0))) }
 {
     let next = fixed.route(node);
     let size = fixed.paths.path(next.path).len() as u32 + 1;

@@ -20,8 +20,8 @@ use Rattle.alg_model.specs.Formation.{is_table, is_table_count, are_ranks, is_ro
 use Rattle.label_code.specs.declared.operations.Op.{Op}
 use Rattle.label_code.specs.declared.operations.Op.TheVariants as op
 use Rattle.label_code.specs.Effects.{goes_on, denies, writes, looks}
-use Rattle.label_code.specs.Machine.{Outcome, made, prohibited, behind, outcome, run_over, RunCode}
-use Rattle.label_code.specs.CodeLaws.{behind_both, behind_none}
+use Rattle.label_code.specs.Machine.{Outcome, made, prohibited, after_written, outcome, run_over, RunCode}
+use Rattle.label_code.specs.CodeLaws.{after_both, after_none}
 use Rattle.code_gen.specs.Encoding.{Enc}
 use Rattle.code_gen.specs.EncodingLaws.{length_fits}
 use Rattle.code_gen.specs.Compilation.{Keep, Lose, Say, images_of, CompileLabel}
@@ -31,7 +31,7 @@ use Rattle.code_gen.proofs.Sets.{below_word, cleared}
 
 -- what comes of a value's words, and of a row after them, where this comes of the value and more code follows
 abbrev after : Option PureValue → List Op → List ℕ → Outcome
-after (Some w) code row = behind (Enc w) (RunCode code row)
+after (Some w) code row = after_written (Enc w) (RunCode code row)
 after None code row = prohibited
 
 -- the law for an expression: more code and a longer row may follow
@@ -41,13 +41,13 @@ Means a = (l : PureLabel) (v : PureValue) (code : List Op) (row : List ℕ) → 
 -- a word is written where a test holds, or where it fails
 where_true : (b : Bool) (v : PureValue) (w : ℕ) (code : List Op) (row : List ℕ) → Enc v ≡ w ∷ []
     → outcome (if b then writes w row else denies) (λ jump rest. run_over jump code rest) ≡ after (if b then Some v else None) code row
-where_true true v w code row e = ap (λ ws. behind ws (RunCode code row)) (sym e)
+where_true true v w code row e = ap (λ ws. after_written ws (RunCode code row)) (sym e)
 where_true false v w code row e = refl
 
 where_false : (b : Bool) (v : PureValue) (w : ℕ) (code : List Op) (row : List ℕ) → Enc v ≡ w ∷ []
     → outcome (if b then denies else writes w row) (λ jump rest. run_over jump code rest) ≡ after (if b then None else Some v) code row
 where_false true v w code row e = refl
-where_false false v w code row e = ap (λ ws. behind ws (RunCode code row)) (sym e)
+where_false false v w code row e = ap (λ ws. after_written ws (RunCode code row)) (sym e)
 
 sum_fits : (m n : ℕ) → m ≤ MAX_VALUE_NUMBER → n ≤ MAX_LABEL_NUMBER → nat_lt (m + n) (2 ^ 128) ≡ true
 sum_fits m n h i = grind (arith, nat_tests)
@@ -77,7 +77,7 @@ width_means top low high (number_label n) _ code row h = absurd h.value
 width_means top low high _ v code row h = absurd h.label
 
 pref_means : (top : ℕ) → Means (pref top)
-pref_means top (number_label n) (number m) code row h = behind_none _
+pref_means top (number_label n) (number m) code row h = after_none _
 pref_means top (number_label n) _ code row h = absurd h.value
 pref_means top _ v code row h = absurd h.label
 
@@ -93,7 +93,7 @@ one_longer ns n = sym (length-append ns (n ∷ []))
 seq_means : (k : ℕ) → Means (seq k)
 seq_means k (symbol_label n) (symbols ns) code row h =
     rw (length_fits ns row, take-append_seam ns row, drop-append_seam ns row)
-    (ap (λ m. behind (m ∷ (ns ++ n ∷ [])) (RunCode code row)) (one_longer ns n))
+    (ap (λ m. after_written (m ∷ (ns ++ n ∷ [])) (RunCode code row)) (one_longer ns n))
 seq_means k (symbol_label n) _ code row h = absurd h.value
 seq_means k _ v code row h = absurd h.label
 
@@ -101,7 +101,7 @@ seq_means k _ v code row h = absurd h.label
 fresh_means : (b : Bool) (ns : List ℕ) (n : ℕ) (code : List Op) (row : List ℕ)
     → outcome (if b then denies else goes_on ((length ns + 1) ∷ (ns ++ n ∷ [])) row 0) (λ jump rest. run_over jump code rest) ≡ after (if b then None else Some (symbols (ns ++ n ∷ []))) code row
 fresh_means true ns n code row = refl
-fresh_means false ns n code row = ap (λ m. behind (m ∷ (ns ++ n ∷ [])) (RunCode code row)) (one_longer ns n)
+fresh_means false ns n code row = ap (λ m. after_written (m ∷ (ns ++ n ∷ [])) (RunCode code row)) (one_longer ns n)
 
 simseq_means : (k : ℕ) → Means (simseq k)
 simseq_means k (symbol_label n) (symbols ns) code row h =
@@ -116,7 +116,7 @@ tags_means n (mark k) (marks m) code row h = rw (bit_fits k n h.label h.ranges.1
 tags_means n (mark k) _ code row h = absurd h.value
 tags_means n (unmark k) (marks m) code row h =
     rw (bit_fits k n h.label h.ranges.1)
-    (ap (λ w. behind (w ∷ []) (RunCode code row)) (cleared m k (below_word n m h.ranges.1 h.value) (below k n h.label h.ranges.1)))
+    (ap (λ w. after_written (w ∷ []) (RunCode code row)) (cleared m k (below_word n m h.ranges.1 h.value) (below k n h.label h.ranges.1)))
   where
     below : (k n : ℕ) → k < n → n ≤ 64 → k < 64
     below k n h i = omega arith
@@ -131,7 +131,7 @@ guard_means n (bar k) _ code row h = absurd h.value
 guard_means n _ v code row h = absurd h.label
 
 gate_means : Means gate
-gate_means allow unit code row h = sym (behind_none _)
+gate_means allow unit code row h = sym (after_none _)
 gate_means allow _ code row h = absurd h.value
 gate_means deny v code row h = refl
 gate_means _ v code row h = absurd h.label
@@ -182,22 +182,22 @@ table_means t _ v code row h = absurd h.label
 -- a part's code runs on the part's words, and the rest of the code on what is after them
 both_after : (o p : Option PureValue) (next code : List Op) (words row : List ℕ)
     → RunCode next words ≡ after p code row → after o next words ≡ after (both o p) code row
-both_after (Some u) (Some v) next code words row e = ap (behind (Enc u)) e ∙ behind_both (Enc u) (Enc v) (RunCode code row)
-both_after (Some u) None next code words row e = ap (behind (Enc u)) e
+both_after (Some u) (Some v) next code words row e = ap (after_written (Enc u)) e ∙ after_both (Enc u) (Enc v) (RunCode code row)
+both_after (Some u) None next code words row e = ap (after_written (Enc u)) e
 both_after None p next code words row e = refl
 
 -- a side's code runs after the side
-first_after : (o : Option PureValue) (code : List Op) (row : List ℕ) → behind (0 ∷ []) (after o code row) ≡ after (option_map first o) code row
-first_after (Some u) code row = behind_both (0 ∷ []) (Enc u) (RunCode code row)
+first_after : (o : Option PureValue) (code : List Op) (row : List ℕ) → after_written (0 ∷ []) (after o code row) ≡ after (option_map first o) code row
+first_after (Some u) code row = after_both (0 ∷ []) (Enc u) (RunCode code row)
 first_after None code row = refl
 
-second_after : (o : Option PureValue) (code : List Op) (row : List ℕ) → behind (1 ∷ []) (after o code row) ≡ after (option_map second o) code row
-second_after (Some v) code row = behind_both (1 ∷ []) (Enc v) (RunCode code row)
+second_after : (o : Option PureValue) (code : List Op) (row : List ℕ) → after_written (1 ∷ []) (after o code row) ≡ after (option_map second o) code row
+second_after (Some v) code row = after_both (1 ∷ []) (Enc v) (RunCode code row)
 second_after None code row = refl
 
 -- the second side's code is passed after the first side's
 skipped_after : (o : Option PureValue) (d code : List Op) (row : List ℕ) → after o (op.Skip (length d) ∷ (d ++ code)) row ≡ after o code row
-skipped_after (Some u) d code row = ap (behind (Enc u)) (skipped d code row)
+skipped_after (Some u) d code row = ap (after_written (Enc u)) (skipped d code row)
 skipped_after None d code row = refl
 
 -- a value is passed over and another written
@@ -246,14 +246,14 @@ union_means : (a b : Expression) → Means a → Means b → Means (union a b)
 union_means a b f g (first_label l) (first u) code row h =
     let part : MayAct a l u = record { ranges = h.ranges.0; carriers = h.carriers.0; label = h.label; value = h.value; small_label = h.small_label; small_value = h.small_value } in
     fork_first (CompileLabel a l) (op.Deny ∷ []) code (Enc u ++ row)
-    ∙ ap (behind (0 ∷ [])) (f l u _ row part ∙ skipped_after (App a l u) (op.Deny ∷ []) code row)
+    ∙ ap (after_written (0 ∷ [])) (f l u _ row part ∙ skipped_after (App a l u) (op.Deny ∷ []) code row)
     ∙ first_after (App a l u) code row
 union_means a b f g (first_label l) (second v) code row h = fork_second (CompileLabel a l) (op.Deny ∷ []) code (Enc v ++ row)
 union_means a b f g (first_label l) _ code row h = absurd h.value
 union_means a b f g (second_label m) (first u) code row h = refl
 union_means a b f g (second_label m) (second v) code row h =
     let part : MayAct b m v = record { ranges = h.ranges.1; carriers = h.carriers.1; label = h.label; value = h.value; small_label = h.small_label; small_value = h.small_value } in
-    ap (behind (1 ∷ [])) (g m v code row part) ∙ second_after (App b m v) code row
+    ap (after_written (1 ∷ [])) (g m v code row part) ∙ second_after (App b m v) code row
 union_means a b f g (second_label m) _ code row h = absurd h.value
 union_means a b f g _ v code row h = absurd h.label
 
@@ -261,12 +261,12 @@ sum_means : (a b : Expression) → Means a → Means b → Means (sum a b)
 sum_means a b f g (both_label l m) (first u) code row h =
     let part : MayAct a l u = record { ranges = h.ranges.0; carriers = h.carriers.0; label = h.label.0; value = h.value; small_label = h.small_label.0; small_value = h.small_value } in
     fork_first (CompileLabel a l) (CompileLabel b m) code (Enc u ++ row)
-    ∙ ap (behind (0 ∷ [])) (f l u _ row part ∙ skipped_after (App a l u) (CompileLabel b m) code row)
+    ∙ ap (after_written (0 ∷ [])) (f l u _ row part ∙ skipped_after (App a l u) (CompileLabel b m) code row)
     ∙ first_after (App a l u) code row
 sum_means a b f g (both_label l m) (second v) code row h =
     let part : MayAct b m v = record { ranges = h.ranges.1; carriers = h.carriers.1; label = h.label.1; value = h.value; small_label = h.small_label.1; small_value = h.small_value } in
     fork_second (CompileLabel a l) (CompileLabel b m) code (Enc v ++ row)
-    ∙ ap (behind (1 ∷ [])) (g m v code row part)
+    ∙ ap (after_written (1 ∷ [])) (g m v code row part)
     ∙ second_after (App b m v) code row
 sum_means a b f g (both_label l m) _ code row h = absurd h.value
 sum_means a b f g _ v code row h = absurd h.label

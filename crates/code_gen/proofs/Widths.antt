@@ -34,18 +34,18 @@ are_few (Some m) (Some n) width e = by (nat_le (m + n) HERE) refl
 are_few (Some m) None width e = absurd (cc)
 are_few None p width e = absurd (cc)
 
-told : (v : PureValue) (width : ℕ) → length (Enc v) ≤ HERE → Some (length (Enc v)) ≡ Some width → IsOf v width
-told v width i e = let same : length (Enc v) ≡ width = cc in record { words = same; small = rw (← same) i }
+reported : (v : PureValue) (width : ℕ) → length (Enc v) ≤ HERE → Some (length (Enc v)) ≡ Some width → IsOf v width
+reported v width i e = let same : length (Enc v) ≡ width = cc in record { words = same; small = rw (← same) i }
 
 is_of : (c : PureCarrier) (width : ℕ) → width_of c ≡ Some width → (v : PureValue) → In c v → IsOf v width
-is_of whole width e (number n) i = told (number n) width (omega arith) e
-is_of (up_to top) width e (number n) i = told (number n) width (omega arith) e
-is_of (down_from top) width e (number n) i = told (number n) width (omega arith) e
+is_of whole width e (number n) i = reported (number n) width (omega arith) e
+is_of (up_to top) width e (number n) i = reported (number n) width (omega arith) e
+is_of (down_from top) width e (number n) i = reported (number n) width (omega arith) e
 is_of (seqs k) width e v i = absurd (cc)
 is_of (simseqs k) width e v i = absurd (cc)
-is_of (sets k) width e (marks m) i = told (marks m) width (omega arith) e
-is_of one width e unit i = told unit width (omega arith) e
-is_of (named names ranks) width e (name k) i = told (name k) width (omega arith) e
+is_of (sets k) width e (marks m) i = reported (marks m) width (omega arith) e
+is_of one width e unit i = reported unit width (omega arith) e
+is_of (named names ranks) width e (name k) i = reported (name k) width (omega arith) e
 is_of (pairs c d) width e (pair u v) i =
     let both = are_few (width_of c) (width_of d) width e in
     let first_part = (is_of c both.first_width both.first_is u i.0).words in

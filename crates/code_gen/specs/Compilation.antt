@@ -15,31 +15,26 @@ use Rattle.code_gen.specs.Encoding.{Enc}
 abbrev pub either : (ℕ → Op) → List Op → List Op → List Op
 either choose first second = choose (length first + 1) ∷ first ++ op.Skip (length second) ∷ second
 
+-- the code that comes to a value of the carrier: these operations are for a word, for a sequence and for a side
+abbrev pub Passed : Op → Op → (ℕ → Op) → PureCarrier → List Op
+Passed word sequence side whole = word ∷ []
+Passed word sequence side (up_to top) = word ∷ []
+Passed word sequence side (down_from top) = word ∷ []
+Passed word sequence side (seqs k) = sequence ∷ []
+Passed word sequence side (simseqs k) = sequence ∷ []
+Passed word sequence side (sets k) = word ∷ []
+Passed word sequence side one = []
+Passed word sequence side (named names ranks) = word ∷ []
+Passed word sequence side (pairs c d) = Passed word sequence side c ++ Passed word sequence side d
+Passed word sequence side (sides c d) = either side (Passed word sequence side c) (Passed word sequence side d)
+
 -- the code that copies a value of the carrier
 abbrev pub Keep : PureCarrier → List Op
-Keep whole = op.Copy ∷ []
-Keep (up_to top) = op.Copy ∷ []
-Keep (down_from top) = op.Copy ∷ []
-Keep (seqs k) = op.CopySeq ∷ []
-Keep (simseqs k) = op.CopySeq ∷ []
-Keep (sets k) = op.Copy ∷ []
-Keep one = []
-Keep (named names ranks) = op.Copy ∷ []
-Keep (pairs c d) = Keep c ++ Keep d
-Keep (sides c d) = either op.Fork (Keep c) (Keep d)
+Keep c = Passed op.Copy op.CopySeq op.Fork c
 
 -- the code that passes over a value of the carrier
 abbrev pub Lose : PureCarrier → List Op
-Lose whole = op.Drop ∷ []
-Lose (up_to top) = op.Drop ∷ []
-Lose (down_from top) = op.Drop ∷ []
-Lose (seqs k) = op.DropSeq ∷ []
-Lose (simseqs k) = op.DropSeq ∷ []
-Lose (sets k) = op.Drop ∷ []
-Lose one = []
-Lose (named names ranks) = op.Drop ∷ []
-Lose (pairs c d) = Lose c ++ Lose d
-Lose (sides c d) = either op.Test (Lose c) (Lose d)
+Lose c = Passed op.Drop op.DropSeq op.Test c
 
 -- the code that writes a value
 abbrev pub Say : PureValue → List Op

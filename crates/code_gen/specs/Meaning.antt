@@ -2,7 +2,7 @@
 use Rattle.std.specs.Prelude.{◌≡◌, List, Option, Some, None}
 use Rattle.alg_model.specs.Expressions.{Expression, PureCarrier, PureLabel, PureValue}
 use Rattle.alg_model.specs.Carriers.{In, Order}
-use Rattle.alg_model.specs.declared.edition.TheConstants.{MAX_LABEL_NUMBER}
+use Rattle.alg_model.specs.Numbers.{max_label_number}
 use Rattle.alg_model.specs.Application.{App, IsLabel}
 use Rattle.alg_model.specs.Bounds.{LabelAtMost}
 use Rattle.alg_model.specs.Actions.{MayAct}
@@ -28,4 +28,4 @@ CodeMeansOrder c = (u v : PureValue) → In c u → In c v → RunOrder (Compile
 
 -- the code is that of this label of the algebra, whose numbers are small
 abbrev pub IsCodeOf : Expression → List Op → PureLabel → Type 0
-IsCodeOf a code l = (code ≡ CompileLabel a l) × IsLabel a l × LabelAtMost MAX_LABEL_NUMBER l
+IsCodeOf a code l = (code ≡ CompileLabel a l) × IsLabel a l × LabelAtMost max_label_number l

@@ -1,10 +1,10 @@
 ghost use Rattle.std.specs.Prelude.{◌≡◌, ◌+◌, ◌++◌, IfOk, OnOk, slice_get};
 ghost use Rattle.alg_model.specs.Application.{IsLabel};
-ghost use Rattle.alg_model.specs.Expressions.{tags, guard, gate, table, lex, scoped, union, sum, number_label};
+ghost use Rattle.alg_model.specs.Expressions.{tags, guard, gate, table, lex, scoped, union, sum, left, right, number_label};
 ghost use Rattle.alg_model.specs.Views.{expression_of, pure_label};
 ghost use Rattle.code_gen.specs.Compilation.{CompileLabel, images_of};
 
-use crate::pieces::{push_either, push_keep, push_lose, push_op, push_say};
+use crate::pieces::{Passing, push_either, push_op, push_passing, push_say};
 use alg_model::{Alg, Label, TableSpec, Tree};
 use label_code::{LabelCode, Op, Word};
 use meta_base::{List, NoMemory};
@@ -60,17 +60,8 @@ fn push_label(alloc: Global, tree: &Tree, label: &Label, code: &mut Vec<Op>) -> 
             Label::Second(m) => push_label(alloc, b, m, code),
             _ => Ok(()),
         },
-        Tree::Left(a) => match label {
-            Label::Const(v) => {
-                push_lose(alloc, a, code)?;
-                push_say(alloc, v, code)
-            }
-            _ => Ok(()),
-        },
-        Tree::Right(a) => match label {
-            Label::Keep => push_keep(alloc, a, code),
-            _ => Ok(()),
-        },
+        Tree::Left(a) => push_left(alloc, a, label, code),
+        Tree::Right(a) => push_right(alloc, a, label, code),
     }
 }
 
@@ -108,11 +99,11 @@ fn push_scoped(
     match label {
         Label::Outer(l, v) => {
             push_label(alloc, a, l, code)?;
-            push_lose(alloc, b, code)?;
+            push_passing(alloc, Passing::Lose, b, code)?;
             push_say(alloc, v, code)
         }
         Label::Inner(m) => {
-            push_keep(alloc, a, code)?;
+            push_passing(alloc, Passing::Keep, a, code)?;
             push_label(alloc, b, m, code)
         }
         _ => Ok(()),
@@ -166,6 +157,29 @@ fn push_sum(
             push_label(alloc, b, m, &mut second)?;
             push_either(Op::Fork(first.len() + 1), first, second, code)
         }
+        _ => Ok(()),
+    }
+}
+
+fn push_left(alloc: Global, a: &Tree, label: &Label, code: &mut Vec<Op>) -> Result<(), NoMemory>
+    ensures { OnOk result (code.new.items ≡
+        code.old.items ++ CompileLabel (left (expression_of a.now)) (pure_label label.now)) }
+{
+    match label {
+        Label::Const(v) => {
+            push_passing(alloc, Passing::Lose, a, code)?;
+            push_say(alloc, v, code)
+        }
+        _ => Ok(()),
+    }
+}
+
+fn push_right(alloc: Global, a: &Tree, label: &Label, code: &mut Vec<Op>) -> Result<(), NoMemory>
+    ensures { OnOk result (code.new.items ≡
+        code.old.items ++ CompileLabel (right (expression_of a.now)) (pure_label label.now)) }
+{
+    match label {
+        Label::Keep => push_passing(alloc, Passing::Keep, a, code),
         _ => Ok(()),
     }
 }

@@ -1,14 +1,15 @@
-ghost use Rattle.std.specs.Prelude.{◌≡◌, ◌≢◌, ◌∷◌, ◌^◌, ◌≤◌, ◌<◌, [], true, length, IfOk, Some, None};
+ghost use Rattle.std.specs.Prelude.{◌≡◌, ◌≢◌, ◌∷◌, ◌^◌, ◌≤◌, ◌<◌, [], length, IfOk, Some, None};
 ghost use Rattle.std.specs.List.{AllByRecursion};
 ghost use Rattle.alg_model.specs.Carriers.{carrier_of, In};
 ghost use Rattle.alg_model.specs.Expressions.{PureValue, marks, name, first, second};
-ghost use Rattle.alg_model.specs.Formation.{MeetsRanges, is_table};
+ghost use Rattle.alg_model.specs.Formation.{MeetsRanges};
 ghost use Rattle.alg_model.specs.Views.{expression_of, pure_value};
+ghost use Rattle.alg_model.specs.declared.alg.TheConstants.{MAX_TABLE_NAMES};
 ghost use Rattle.code_gen.specs.Encoding.{Enc, Dec, decoded, IsEncoded, small_front, symbols_front, side_front};
 
-use alg_model::{Alg, TableSpec, Tree, Value};
+use alg_model::{Alg, Form, Tree, Value};
 use label_code::{Row, Word};
-use meta_base::{List, NoMemory};
+use meta_base::{List, NoMemory, Text};
 use std::alloc::Global;
 
 /// For a row alone; the program's rows are decoded by their algebra. The value of the algebra whose words the row is.
@@ -38,24 +39,18 @@ fn take_value(alloc: Global, tree: &Tree, row: &mut &[Word]) -> Result<Value, No
     ensures { IfOk result (λ value.
         Some (pure_value value, row.new.now) ≡ Dec (carrier_of (expression_of tree.now)) row.old.now) }
 {
-    match tree {
-        Tree::Add { .. }
-        | Tree::Cap { .. }
-        | Tree::Worst { .. }
-        | Tree::Width { .. }
-        | Tree::Pref { .. }
-        | Tree::Orig { .. } => Ok(Value::Number(take_word(row))),
-        Tree::Seq { symbols } | Tree::SimSeq { symbols } => take_symbols(alloc, *symbols, row),
-        Tree::Tags { count } | Tree::Guard { count } => Ok(take_marks(*count, row)),
-        Tree::Gate => Ok(Value::Unit),
-        Tree::Table(spec) => Ok(take_name(spec, row)),
-        Tree::Lex(a, b) | Tree::Scoped(a, b) => {
+    match tree.value_form() {
+        Form::Whole | Form::UpTo(_) | Form::DownFrom(_) => Ok(Value::Number(take_word(row))),
+        Form::Seqs(symbols) | Form::SimSeqs(symbols) => take_symbols(alloc, symbols, row),
+        Form::Sets(count) => Ok(take_marks(count, row)),
+        Form::One => Ok(Value::Unit),
+        Form::Named(names, _) => Ok(take_name(names, row)),
+        Form::Pair(a, b) => {
             let u = Box::new(alloc, take_value(alloc, a, row)?)?;
             let v = Box::new(alloc, take_value(alloc, b, row)?)?;
             Ok(Value::Pair(u, v))
         }
-        Tree::Union(a, b) | Tree::Sum(a, b) => take_side(alloc, a, b, row),
-        Tree::Plus(a, _) | Tree::Left(a) | Tree::Right(a) => take_value(alloc, a, row),
+        Form::Side(a, b) => take_side(alloc, a, b, row),
     }
 }
 
@@ -96,10 +91,10 @@ fn take_marks(count: u64, row: &mut &[Word]) -> Value
     Value::Marks(take_word(row) as u64)
 }
 
-fn take_name(spec: &TableSpec, row: &mut &[Word]) -> Value
-    requires table { is_table spec.now ≡ true }
-    requires there { small_front (length spec.now.names) name row.old.now ≢ None }
-    ensures { Some (pure_value result, row.new.now) ≡ small_front (length spec.now.names) name row.old.now }
+fn take_name(names: &[Text], row: &mut &[Word]) -> Value
+    requires names { length names.now ≤ MAX_TABLE_NAMES }
+    requires there { small_front (length names.now) name row.old.now ≢ None }
+    ensures { Some (pure_value result, row.new.now) ≡ small_front (length names.now) name row.old.now }
 {
     Value::Name(take_word(row) as u8)
 }

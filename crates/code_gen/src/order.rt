@@ -4,7 +4,7 @@ ghost use Rattle.alg_model.specs.Expressions.{sides};
 ghost use Rattle.alg_model.specs.Views.{expression_of};
 ghost use Rattle.code_gen.specs.Compilation.{CompileOrder};
 
-use alg_model::{Alg, TableSpec, Tree};
+use alg_model::{Alg, Form, Tree};
 use label_code::{OrdOp, OrderCode, Word};
 use meta_base::{List, NoMemory};
 use std::alloc::Global;
@@ -23,21 +23,18 @@ pub fn compile_order(alloc: Global, alg: &Alg) -> Result<OrderCode, NoMemory>
 fn push_order(alloc: Global, tree: &Tree, code: &mut Vec<OrdOp>) -> Result<(), NoMemory>
     ensures { OnOk result (code.new.items ≡ code.old.items ++ CompileOrder (carrier_of (expression_of tree.now))) }
 {
-    match tree {
-        Tree::Add { .. } | Tree::Cap { .. } | Tree::Worst { .. } | Tree::Orig { .. } => {
-            push_op(OrdOp::Less, code)
-        }
-        Tree::Width { .. } | Tree::Pref { .. } => push_op(OrdOp::More, code),
-        Tree::Seq { .. } | Tree::SimSeq { .. } => push_op(OrdOp::Length, code),
-        Tree::Tags { .. } | Tree::Guard { .. } => push_op(OrdOp::Pass, code),
-        Tree::Gate => Ok(()),
-        Tree::Table(spec) => push_op(OrdOp::Rank(ranks(alloc, spec)?), code),
-        Tree::Lex(a, b) | Tree::Scoped(a, b) => {
+    match tree.value_form() {
+        Form::Whole | Form::UpTo(_) => push_op(OrdOp::Less, code),
+        Form::DownFrom(_) => push_op(OrdOp::More, code),
+        Form::Seqs(_) | Form::SimSeqs(_) => push_op(OrdOp::Length, code),
+        Form::Sets(_) => push_op(OrdOp::Pass, code),
+        Form::One => Ok(()),
+        Form::Named(_, ranks) => push_op(OrdOp::Rank(rank_words(alloc, ranks)?), code),
+        Form::Pair(a, b) => {
             push_order(alloc, a, code)?;
             push_order(alloc, b, code)
         }
-        Tree::Union(a, b) | Tree::Sum(a, b) => push_sides(alloc, a, b, code),
-        Tree::Plus(a, _) | Tree::Left(a) | Tree::Right(a) => push_order(alloc, a, code),
+        Form::Side(a, b) => push_sides(alloc, a, b, code),
     }
 }
 
@@ -67,12 +64,12 @@ fn push_op(op: OrdOp, code: &mut Vec<OrdOp>) -> Result<(), NoMemory>
 }
 
 // The ranks of a table's values, as words.
-fn ranks(alloc: Global, spec: &TableSpec) -> Result<List<Word>, NoMemory>
-    ensures { IfOk result (λ ranks. ranks ≡ spec.now.ranks) }
+fn rank_words(alloc: Global, ranks: &[u8]) -> Result<List<Word>, NoMemory>
+    ensures { IfOk result (λ words. words ≡ ranks.now) }
 {
-    let mut ranks = List::new(alloc);
-    for rank in spec.ranks.as_slice() {
-        ranks.push(Word::from(*rank))?;
+    let mut words = List::new(alloc);
+    for rank in ranks {
+        words.push(Word::from(*rank))?;
     }
-    Ok(ranks)
+    Ok(words)
 }

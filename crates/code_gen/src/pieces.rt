@@ -3,10 +3,11 @@ ghost use Rattle.std.specs.Prelude.{◌≡◌, ◌+◌, [], ◌∷◌, ◌++◌,
 ghost use Rattle.alg_model.specs.Carriers.{carrier_of};
 ghost use Rattle.alg_model.specs.Views.{expression_of, pure_value};
 ghost use Rattle.label_code.specs.declared.operations.Op.TheVariants.{Skip};
-ghost use Rattle.code_gen.specs.Compilation.{Keep, Lose, Say};
+ghost use Rattle.code_gen.specs.Compilation.{Say};
+ghost use Rattle.code_gen.specs.Passing.{of_word, of_sequence, of_side, passing_code};
 
 use crate::write_value;
-use alg_model::{Tree, Value};
+use alg_model::{Form, Tree, Value};
 use label_code::Op;
 use meta_base::NoMemory;
 use std::alloc::Global;
@@ -38,65 +39,72 @@ pub(crate) fn push_either(
     Ok(())
 }
 
-// Writes the code that copies a value of the tree's carrier.
-pub(crate) fn push_keep(alloc: Global, tree: &Tree, code: &mut Vec<Op>) -> Result<(), NoMemory>
-    ensures { OnOk result (code.new.items ≡ code.old.items ++ Keep (carrier_of (expression_of tree.now))) }
-{
-    match tree {
-        Tree::Add { .. }
-        | Tree::Cap { .. }
-        | Tree::Worst { .. }
-        | Tree::Width { .. }
-        | Tree::Pref { .. }
-        | Tree::Orig { .. }
-        | Tree::Tags { .. }
-        | Tree::Guard { .. }
-        | Tree::Table(_) => push_op(Op::Copy, code),
-        Tree::Seq { .. } | Tree::SimSeq { .. } => push_op(Op::CopySeq, code),
-        Tree::Gate => Ok(()),
-        Tree::Lex(a, b) | Tree::Scoped(a, b) => {
-            push_keep(alloc, a, code)?;
-            push_keep(alloc, b, code)
+/// What is done with a value that code comes to.
+#[derive(Clone, Copy, Debug)]
+pub(crate) enum Passing {
+    /// It is copied.
+    Keep,
+    /// It is passed over.
+    Lose,
+}
+
+impl Passing {
+    fn of_word(self) -> Op
+        ensures { result ≡ of_word self }
+    {
+        match self {
+            Passing::Keep => Op::Copy,
+            Passing::Lose => Op::Drop,
         }
-        Tree::Union(a, b) | Tree::Sum(a, b) => {
-            let mut first = Vec::new(alloc);
-            push_keep(alloc, a, &mut first)?;
-            let mut second = Vec::new(alloc);
-            push_keep(alloc, b, &mut second)?;
-            push_either(Op::Fork(first.len() + 1), first, second, code)
+    }
+
+    fn of_sequence(self) -> Op
+        ensures { result ≡ of_sequence self }
+    {
+        match self {
+            Passing::Keep => Op::CopySeq,
+            Passing::Lose => Op::DropSeq,
         }
-        Tree::Plus(a, _) | Tree::Left(a) | Tree::Right(a) => push_keep(alloc, a, code),
+    }
+
+    // It jumps so many operations ahead for the second side.
+    fn of_side(self, jump: usize) -> Op
+        ensures { result ≡ of_side self jump }
+    {
+        match self {
+            Passing::Keep => Op::Fork(jump),
+            Passing::Lose => Op::Test(jump),
+        }
     }
 }
 
-// Writes the code that passes over a value of the tree's carrier.
-pub(crate) fn push_lose(alloc: Global, tree: &Tree, code: &mut Vec<Op>) -> Result<(), NoMemory>
-    ensures { OnOk result (code.new.items ≡ code.old.items ++ Lose (carrier_of (expression_of tree.now))) }
+// Writes the code that does so with a value of the tree's carrier.
+pub(crate) fn push_passing(
+    alloc: Global,
+    passing: Passing,
+    tree: &Tree,
+    code: &mut Vec<Op>,
+) -> Result<(), NoMemory>
+    ensures { OnOk result (code.new.items ≡
+        code.old.items ++ passing_code passing (carrier_of (expression_of tree.now))) }
 {
-    match tree {
-        Tree::Add { .. }
-        | Tree::Cap { .. }
-        | Tree::Worst { .. }
-        | Tree::Width { .. }
-        | Tree::Pref { .. }
-        | Tree::Orig { .. }
-        | Tree::Tags { .. }
-        | Tree::Guard { .. }
-        | Tree::Table(_) => push_op(Op::Drop, code),
-        Tree::Seq { .. } | Tree::SimSeq { .. } => push_op(Op::DropSeq, code),
-        Tree::Gate => Ok(()),
-        Tree::Lex(a, b) | Tree::Scoped(a, b) => {
-            push_lose(alloc, a, code)?;
-            push_lose(alloc, b, code)
+    match tree.value_form() {
+        Form::Whole | Form::UpTo(_) | Form::DownFrom(_) | Form::Sets(_) | Form::Named(_, _) => {
+            push_op(passing.of_word(), code)
         }
-        Tree::Union(a, b) | Tree::Sum(a, b) => {
+        Form::Seqs(_) | Form::SimSeqs(_) => push_op(passing.of_sequence(), code),
+        Form::One => Ok(()),
+        Form::Pair(a, b) => {
+            push_passing(alloc, passing, a, code)?;
+            push_passing(alloc, passing, b, code)
+        }
+        Form::Side(a, b) => {
             let mut first = Vec::new(alloc);
-            push_lose(alloc, a, &mut first)?;
+            push_passing(alloc, passing, a, &mut first)?;
             let mut second = Vec::new(alloc);
-            push_lose(alloc, b, &mut second)?;
-            push_either(Op::Test(first.len() + 1), first, second, code)
+            push_passing(alloc, passing, b, &mut second)?;
+            push_either(passing.of_side(first.len() + 1), first, second, code)
         }
-        Tree::Plus(a, _) | Tree::Left(a) | Tree::Right(a) => push_lose(alloc, a, code),
     }
 }
 

@@ -4,7 +4,7 @@ ghost use Rattle.alg_model.specs.Views.{expression_of};
 ghost use Rattle.label_code.specs.declared.words.TheConstants.{HERE};
 ghost use Rattle.code_gen.specs.Widths.{few, width_of};
 
-use alg_model::{Alg, Tree};
+use alg_model::{Alg, Form, Tree};
 use label_code::HERE;
 
 /// How many words each value of the algebra has, where all have the same few, at most [`HERE`]. It is `None` where
@@ -21,20 +21,13 @@ fn width(tree: &Tree) -> Option<usize>
     ensures width { result ≡ width_of (carrier_of (expression_of tree.now)) }
     ensures few { IfSome result (λ width. width ≤ HERE) }
 {
-    match tree {
-        Tree::Add { .. }
-        | Tree::Cap { .. }
-        | Tree::Worst { .. }
-        | Tree::Width { .. }
-        | Tree::Pref { .. }
-        | Tree::Orig { .. }
-        | Tree::Tags { .. }
-        | Tree::Guard { .. }
-        | Tree::Table(_) => Some(1),
-        Tree::Gate => Some(0),
-        Tree::Lex(a, b) | Tree::Scoped(a, b) => few(width(a), width(b)),
-        Tree::Plus(a, _) | Tree::Left(a) | Tree::Right(a) => width(a),
-        Tree::Seq { .. } | Tree::SimSeq { .. } | Tree::Union(_, _) | Tree::Sum(_, _) => None,
+    match tree.value_form() {
+        Form::Whole | Form::UpTo(_) | Form::DownFrom(_) | Form::Sets(_) | Form::Named(_, _) => {
+            Some(1)
+        }
+        Form::One => Some(0),
+        Form::Pair(a, b) => few(width(a), width(b)),
+        Form::Seqs(_) | Form::SimSeqs(_) | Form::Side(_, _) => None,
     }
 }
 

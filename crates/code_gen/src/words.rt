@@ -2,14 +2,14 @@ ghost use Rattle.std.specs.Prelude.{◌≡◌, ◌++◌, ◌∷◌, length, IfOk
 ghost use Rattle.alg_model.specs.Views.{pure_value};
 ghost use Rattle.code_gen.specs.Encoding.{Enc};
 
-use alg_model::{Alg, Value};
+use alg_model::Value;
 use label_code::{Output, Row, Word};
 use meta_base::{List, NoMemory};
 use std::alloc::Global;
 
-/// For a value alone; the program writes values into rows that it has. The words of a value of the algebra. It is
-/// refused for want of memory alone.
-pub fn encode(alloc: Global, _alg: &Alg, value: &Value) -> Result<Row, NoMemory>
+/// For a value alone; the program writes values into rows that it has. The words of a value. It is refused for want of
+/// memory alone.
+pub fn encode(alloc: Global, value: &Value) -> Result<Row, NoMemory>
     ensures { IfOk result (λ row. row ≡ Enc (pure_value value.now)) }
 {
     let mut words = Vec::new(alloc);

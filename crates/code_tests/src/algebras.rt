@@ -53,7 +53,7 @@ fn agreed_cases() -> &'static str {
 
 // What an algebra tells of a label and two values.
 #[derive(Debug, Drop)]
-struct Told {
+struct Reported {
     // The first value, brought into its form, copied and brought back.
     again: Value,
     // How the two compare.
@@ -63,13 +63,13 @@ struct Told {
     placed: Option<Value>,
 }
 
-fn tell<A: Algebra>(
+fn report<A: Algebra>(
     alloc: Global,
     algebra: &A,
     label: &Label,
     first: &Value,
     second: &Value,
-) -> Result<Told, NoMemory>
+) -> Result<Reported, NoMemory>
     requires label { IsLabel (A.expression algebra.now) (pure_label label.now) }
     requires small_label { LabelAtMost MAX_LABEL_NUMBER (pure_label label.now) }
     requires first { In (carrier_of (A.expression algebra.now)) (pure_value first.now) }
@@ -90,7 +90,7 @@ fn tell<A: Algebra>(
         true => Some(algebra.value_of(alloc, &second)?),
         false => None,
     };
-    Ok(Told {
+    Ok(Reported {
         again,
         order,
         image,
@@ -107,13 +107,13 @@ fn are_same(a: &Option<Value>, b: &Option<Value>) -> bool {
 }
 
 // What the compiled algebra tells over rows of this kind.
-fn tell_over<W: HeldRow>(
+fn state_over<W: HeldRow>(
     alloc: Global,
     alg: &Alg,
     label: &Label,
     first: &Value,
     second: &Value,
-) -> Result<Told, NoMemory>
+) -> Result<Reported, NoMemory>
     requires rows { HoldValues W.can_hold (carrier_of alg.now.expression) }
     requires label { IsLabel alg.now.expression (pure_label label.now) }
     requires small_label { LabelAtMost MAX_LABEL_NUMBER (pure_label label.now) }
@@ -122,17 +122,17 @@ fn tell_over<W: HeldRow>(
     requires small_first { AtMost MAX_VALUE_NUMBER (pure_value first.now) }
 {
     let algebra = CodeAlgebra::<W>::new(alloc, alg)?;
-    tell(alloc, &algebra, label, first, second)
+    report(alloc, &algebra, label, first, second)
 }
 
 // The same over rows of the words that all values have, where they are few.
-fn tell_over_fixed(
+fn state_over_fixed(
     alloc: Global,
     alg: &Alg,
     label: &Label,
     first: &Value,
     second: &Value,
-) -> Result<Option<Told>, NoMemory>
+) -> Result<Option<Reported>, NoMemory>
     requires label { IsLabel alg.now.expression (pure_label label.now) }
     requires small_label { LabelAtMost MAX_LABEL_NUMBER (pure_label label.now) }
     requires first { In (carrier_of alg.now.expression) (pure_value first.now) }
@@ -140,14 +140,14 @@ fn tell_over_fixed(
     requires small_first { AtMost MAX_VALUE_NUMBER (pure_value first.now) }
 {
     rows_have_their_width();
-    let told = match row_width(alg) {
-        Some(1) => tell_over::<FixedRow<1>>(alloc, alg, label, first, second)?,
-        Some(2) => tell_over::<FixedRow<2>>(alloc, alg, label, first, second)?,
-        Some(3) => tell_over::<FixedRow<3>>(alloc, alg, label, first, second)?,
-        Some(4) => tell_over::<FixedRow<4>>(alloc, alg, label, first, second)?,
+    let reported = match row_width(alg) {
+        Some(1) => state_over::<FixedRow<1>>(alloc, alg, label, first, second)?,
+        Some(2) => state_over::<FixedRow<2>>(alloc, alg, label, first, second)?,
+        Some(3) => state_over::<FixedRow<3>>(alloc, alg, label, first, second)?,
+        Some(4) => state_over::<FixedRow<4>>(alloc, alg, label, first, second)?,
         _ => return Ok(None),
     };
-    Ok(Some(told))
+    Ok(Some(reported))
 }
 
 // Whether both algebras tell the same, and bring the first value back: the compiled one over rows of any length, and
@@ -165,22 +165,22 @@ fn agree(
     requires second { In (carrier_of alg.now.expression) (pure_value second.now) }
     requires small_first { AtMost MAX_VALUE_NUMBER (pure_value first.now) }
 {
-    let tree = tell(alloc, &TreeAlgebra::new(alg), label, first, second)?;
-    let words = tell_over::<Words>(alloc, alg, label, first, second)?;
-    let fixed = tell_over_fixed(alloc, alg, label, first, second)?;
+    let tree = report(alloc, &TreeAlgebra::new(alg), label, first, second)?;
+    let words = state_over::<Words>(alloc, alg, label, first, second)?;
+    let fixed = state_over_fixed(alloc, alg, label, first, second)?;
     Ok(
         same_value(&tree.again, first)
             && are_same(&tree.image, &tree.placed)
-            && tells_alike(&tree, &words)
+            && states_alike(&tree, &words)
             && match &fixed {
-                Some(fixed) => tells_alike(&tree, fixed),
+                Some(fixed) => states_alike(&tree, fixed),
                 None => true,
             },
     )
 }
 
 // Whether two algebras answered the same.
-fn tells_alike(one: &Told, other: &Told) -> bool {
+fn states_alike(one: &Reported, other: &Reported) -> bool {
     same_value(&one.again, &other.again)
         && one.order == other.order
         && are_same(&one.image, &other.image)

@@ -87,7 +87,7 @@ fn run_compiled(
     code_means_application();
     let _tree = alg.tree();
     let code = compile_label(alloc, alg, label)?;
-    let row = encode(alloc, alg, value)?;
+    let row = encode(alloc, value)?;
     run(alloc, &code, &row, out)
 }
 
@@ -96,7 +96,7 @@ fn run_compiled(
 fn decoded(alloc: Global, alg: &Alg, value: &Value) -> Result<Value, NoMemory>
     requires { In (carrier_of alg.now.expression) (pure_value value.now) }
 {
-    let row = encode(alloc, alg, value)?;
+    let row = encode(alloc, value)?;
     decode(alloc, alg, &row)
 }
 
@@ -109,7 +109,7 @@ fn compiled_text(alloc: Global, alg: &Alg, text: &str) -> Result<String, Fail> {
 // The text of the value's words, and whether they decode to the value.
 fn encoded_text(alloc: Global, alg: &Alg, text: &str) -> Result<(String, bool), Fail> {
     let value = value(alloc, alg, text)?;
-    let words = words_text(alloc, encode(alloc, alg, &value)?.as_slice())?;
+    let words = words_text(alloc, encode(alloc, &value)?.as_slice())?;
     let again = decoded(alloc, alg, &value)?;
     Ok((words, same_value(&again, &value)))
 }

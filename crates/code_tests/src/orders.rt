@@ -60,8 +60,8 @@ fn compared(alloc: Global, alg: &Alg, first: &Value, second: &Value) -> Result<O
     code_means_order();
     let _tree = alg.tree();
     let code = compile_order(alloc, alg)?;
-    let first = encode(alloc, alg, first)?;
-    let second = encode(alloc, alg, second)?;
+    let first = encode(alloc, first)?;
+    let second = encode(alloc, second)?;
     Ok(compare(&code, &first, &second))
 }
 

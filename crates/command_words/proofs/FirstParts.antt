@@ -8,11 +8,11 @@ first_argument place word [] e = rw e refl
 first_argument place word (next ∷ rest) e = rw e refl
 
 -- after a flag its value is taken, if there is one
-pub first_flag : (place between after : ℕ) (word : List ℕ) (words rest behind : List (List ℕ)) (value : Option (Bor (List ℕ))) → words ≡ word ∷ rest → is_flag word ≡ true → between ≡ place + 1
-    → MatchOption value ((rest ≡ []) × (behind ≡ [])) (λ v. rest ≡ v.now ∷ behind) → OnSome value (after ≡ between + 1)
-    → parts_from place words ≡ flag word (option_map (λ v. v.now) value) ∷ parts_from after behind
-first_flag place between after word words rest behind None s e m empty moved = rw (s, empty.0, empty.1, e) refl
-first_flag place between after word words rest behind (Some v) s e m split moved =
+pub first_flag : (place between after : ℕ) (word : List ℕ) (words rest later : List (List ℕ)) (value : Option (Bor (List ℕ))) → words ≡ word ∷ rest → is_flag word ≡ true → between ≡ place + 1
+    → MatchOption value ((rest ≡ []) × (later ≡ [])) (λ v. rest ≡ v.now ∷ later) → OnSome value (after ≡ between + 1)
+    → parts_from place words ≡ flag word (option_map (λ v. v.now) value) ∷ parts_from after later
+first_flag place between after word words rest later None s e m empty moved = rw (s, empty.0, empty.1, e) refl
+first_flag place between after word words rest later (Some v) s e m split moved =
     let two : after ≡ place + 2 = omega arith in rw (s, split, two, e) refl
 
 -- each part takes a word or two

@@ -17,7 +17,8 @@ use Rattle.command_words.specs.declared.usage.Flag.TheVariants.{Number}
 use Rattle.command_words.specs.declared.usage.NumberFlag.TheVariants.{Workers, Turns}
 use Rattle.command_words.specs.Usages.{usage_of, has_word, kinds}
 use Rattle.command_words.specs.Parts.{PurePart, argument, flag, is_flag, is_argument, word_of, parts_from, places}
-use Rattle.command_words.specs.Words.{Words, HasItsWords, AreDemoNodes, AreWorkers, AreTurns, argument_number, greatest_nodes, greatest_seed, least_nodes, with_numbers, has_bad_flag, has_wrong_count, number_given, number_of, required_in, value_given, command_of, meaning_of}
+use Rattle.meta_base.specs.Numbers.{min_demo_nodes, max_demo_nodes}
+use Rattle.command_words.specs.Words.{Words, HasItsWords, AreDemoNodes, AreWorkers, AreTurns, argument_number, greatest_seed, with_numbers, has_bad_flag, has_wrong_count, number_given, number_of, required_in, value_given, command_of, meaning_of}
 
 -- each place is below the bound
 abbrev AllBelow : ℕ → List ℕ → Type 0
@@ -67,12 +68,12 @@ turns_bounded (Some word) = of (number_within 0 1000000 word) (number_bounded 0 
     of None h = tt
     of (Some n) h = h.1
 
-nodes_bounded : (parts : List PurePart) → IfSome (argument_number least_nodes greatest_nodes 1 parts) AreDemoNodes
+nodes_bounded : (parts : List PurePart) → IfSome (argument_number min_demo_nodes max_demo_nodes 1 parts) AreDemoNodes
 nodes_bounded parts = of (slice_get (filter is_argument parts) 1)
   where
-    of : (part : Option PurePart) → IfSome (option_and_then (λ part. number_within least_nodes greatest_nodes (word_of part)) part) AreDemoNodes
+    of : (part : Option PurePart) → IfSome (option_and_then (λ part. number_within min_demo_nodes max_demo_nodes (word_of part)) part) AreDemoNodes
     of None = tt
-    of (Some part) = number_bounded least_nodes greatest_nodes (word_of part)
+    of (Some part) = number_bounded min_demo_nodes max_demo_nodes (word_of part)
 
 -- what holds of all that is made of good numbers holds of what these parts make
 with_good_numbers : {X : Type 0} (make : ℕ → ℕ → X) (P : X → Type 0) (parts : List PurePart) → ((workers turns : ℕ) → AreWorkers workers → AreTurns turns → P (make workers turns)) → IfSome (with_numbers make parts) P
@@ -113,7 +114,7 @@ command_of_below words kind.Trace parts some below =
     (λ workers turns h i. (below_at (length words) (places parts) 0 some below, below_at (length words) (places parts) 1 some below, h, i)))
 command_of_below words kind.Gadget parts some below = below_at (length words) (places parts) 0 some below
 command_of_below words kind.Demo parts some below =
-    by (argument_number 0 greatest_seed 0 parts) (argument_number least_nodes greatest_nodes 1 parts) (nodes_bounded parts)
+    by (argument_number 0 greatest_seed 0 parts) (argument_number min_demo_nodes max_demo_nodes 1 parts) (nodes_bounded parts)
   where
     by : (seed nodes : Option ℕ) → IfSome nodes AreDemoNodes → IfOk (ok_or (option_and_then (λ s. option_map (Demo s) nodes) seed) BadNumber) (HasItsWords words)
     by None nodes h = tt

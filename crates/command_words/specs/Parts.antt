@@ -54,9 +54,9 @@ value_of (argument place word) = None
 value_of (flag word value) = value
 
 -- a flag without a value
-abbrev pub lacks_value : PurePart → Bool
-lacks_value (argument place word) = false
-lacks_value (flag word value) = is_none value
+abbrev pub misses_value : PurePart → Bool
+misses_value (argument place word) = false
+misses_value (flag word value) = is_none value
 
 -- it is this flag
 abbrev pub gives : Flag → PurePart → Bool

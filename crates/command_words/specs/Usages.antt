@@ -1,6 +1,7 @@
 -- The table of commands and that of flags.
 use Rattle.std.specs.Prelude.{ℕ, List, [], ◌∷◌, Bool, codes}
 use Rattle.std.specs.Str.{bytes_eq}
+use Rattle.meta_base.specs.Numbers.{max_workers, max_turns}
 use Rattle.command_words.specs.declared.usage.Kind.{Kind}
 use Rattle.command_words.specs.declared.usage.Kind.TheVariants.{Check, Code, Route, Settle, Stable, Run, Trace, Gadget, Demo}
 use Rattle.command_words.specs.declared.usage.Flag.{Flag}
@@ -49,5 +50,5 @@ flag_word Require = codes "--require"
 
 -- the least and the greatest number that the flag may have, and the number where it isn't given
 abbrev pub limits_of : NumberFlag → Limits
-limits_of Workers = record { least = 1; greatest = 16; default = 4 }
-limits_of Turns = record { least = 0; greatest = 1000000; default = 100000 }
+limits_of Workers = record { least = 1; greatest = max_workers; default = 4 }
+limits_of Turns = record { least = 0; greatest = max_turns; default = 100000 }

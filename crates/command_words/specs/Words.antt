@@ -1,7 +1,8 @@
 -- What the words of a command line mean.
-use Rattle.std.specs.Prelude.{ℕ, ◌<◌, ◌≤◌, length, List, [], ◌∷◌, Bool, not, ◌||◌, ◌&&◌, nat_lt, nat_le, Option, Some, None, IfSome, option_map, option_and_then, Result, Ok, Err, if◌then◌else◌, find, count_by, slice_get, slice_index}
+use Rattle.std.specs.Prelude.{ℕ, ◌-◌, ◌^◌, ◌<◌, ◌≤◌, length, List, [], ◌∷◌, Bool, not, ◌||◌, ◌&&◌, nat_lt, nat_le, Option, Some, None, IfSome, option_map, option_and_then, Result, Ok, Err, if◌then◌else◌, find, count_by, slice_get, slice_index}
 use Rattle.std.specs.Option.{ok_or}
 use Rattle.std.specs.List.{list_any, filter}
+use Rattle.meta_base.specs.Numbers.{max_workers, max_turns, min_demo_nodes, max_demo_nodes}
 use Rattle.command_words.specs.declared.command.Command.{Command}
 use Rattle.command_words.specs.declared.command.Command.TheVariants.{Check, Code, Route, Settle, Stable, Run, Trace, Gadget, Demo}
 use Rattle.command_words.specs.declared.command.Required.{Required}
@@ -14,7 +15,7 @@ use Rattle.command_words.specs.declared.usage.Flag.TheVariants.{Number, Require}
 use Rattle.command_words.specs.declared.usage.NumberFlag.{NumberFlag}
 use Rattle.command_words.specs.declared.usage.NumberFlag.TheVariants.{Workers, Turns}
 use Rattle.command_words.specs.Usages.{PureUsage, usage_of, limits_of, has_word, kinds}
-use Rattle.command_words.specs.Parts.{PurePart, parts_from, places, word_of, is_argument, value_of, lacks_value, gives, is_unknown}
+use Rattle.command_words.specs.Parts.{PurePart, parts_from, places, word_of, is_argument, value_of, misses_value, gives, is_unknown}
 use Rattle.command_words.specs.Numbers.{number_within}
 use Rattle.command_words.specs.Lists.{nothing_required, required_of}
 
@@ -30,7 +31,7 @@ has_bad_flag flags parts = list_any (is_unknown flags) parts || list_any (is_rep
 abbrev pub has_wrong_count : PureUsage → List PurePart → Bool
 has_wrong_count usage parts =
     let count = length (places parts) in
-    list_any lacks_value parts || not (nat_le usage.least count && nat_le count usage.most)
+    list_any misses_value parts || not (nat_le usage.least count && nat_le count usage.most)
 
 -- the value of the flag among these parts, if it is given
 abbrev pub value_given : Flag → List PurePart → Option (List ℕ)
@@ -58,15 +59,9 @@ required_in parts = required_given (value_given Require parts)
 abbrev pub with_numbers : {X : Type 0} → (ℕ → ℕ → X) → List PurePart → Option X
 with_numbers make parts = option_and_then (λ workers. option_map (make workers) (number_of Turns parts)) (number_of Workers parts)
 
--- the greatest seed, and the least and the greatest number of nodes of a generated network
+-- the greatest seed of a generated network
 abbrev pub greatest_seed : ℕ
-greatest_seed = 18446744073709551615
-
-abbrev pub least_nodes : ℕ
-least_nodes = 2
-
-abbrev pub greatest_nodes : ℕ
-greatest_nodes = 512
+greatest_seed = 2 ^ 64 - 1
 
 -- the argument with this number, from 0, as a number of that range, if it is there and good
 abbrev pub argument_number : ℕ → ℕ → ℕ → List PurePart → Option ℕ
@@ -86,7 +81,7 @@ command_of kind.Run parts = ok_or (with_numbers (Run (slice_index (places parts)
 command_of kind.Trace parts = ok_or (with_numbers (Trace (slice_index (places parts) 0) (slice_index (places parts) 1)) parts) BadNumber
 command_of kind.Gadget parts = Ok (Gadget (slice_index (places parts) 0))
 command_of kind.Demo parts =
-    ok_or (option_and_then (λ seed. option_map (Demo seed) (argument_number least_nodes greatest_nodes 1 parts)) (argument_number 0 greatest_seed 0 parts)) BadNumber
+    ok_or (option_and_then (λ seed. option_map (Demo seed) (argument_number min_demo_nodes max_demo_nodes 1 parts)) (argument_number 0 greatest_seed 0 parts)) BadNumber
 
 -- the command of this kind with these parts, or their first fault
 abbrev pub meaning_of : Option Kind → List PurePart → Result Command WordsFault
@@ -102,15 +97,15 @@ Words (word ∷ rest) = meaning_of (find (has_word word) kinds) (parts_from 1 re
 
 -- so many workers there may be
 abbrev pub AreWorkers : ℕ → Type 0
-AreWorkers workers = (1 ≤ workers) × (workers ≤ 16)
+AreWorkers workers = (1 ≤ workers) × (workers ≤ max_workers)
 
 -- and so many turns
 abbrev pub AreTurns : ℕ → Type 0
-AreTurns turns = turns ≤ 1000000
+AreTurns turns = turns ≤ max_turns
 
 -- and so many nodes
 abbrev pub AreDemoNodes : ℕ → Type 0
-AreDemoNodes nodes = (least_nodes ≤ nodes) × (nodes ≤ greatest_nodes)
+AreDemoNodes nodes = (min_demo_nodes ≤ nodes) × (nodes ≤ max_demo_nodes)
 
 -- the files of the command are words, and there may be so many workers, turns and nodes
 abbrev pub HasItsWords : List (List ℕ) → Command → Type 0

@@ -23,7 +23,7 @@ pub enum Part<'a> {
 impl<'a> Part<'a> {
     ghost use Rattle.std.specs.Prelude.{option_map};
     ghost use Rattle.std.specs.List.{list_any};
-    ghost use Rattle.command_words.specs.Parts.{pure_part, place_of, word_of, is_argument, value_of, lacks_value, gives, is_unknown};
+    ghost use Rattle.command_words.specs.Parts.{pure_part, place_of, word_of, is_argument, value_of, misses_value, gives, is_unknown};
 
     /// The place of an argument.
     pub fn place(self) -> Option<usize>
@@ -62,8 +62,8 @@ impl<'a> Part<'a> {
     }
 
     /// Whether it is a flag without a value.
-    pub fn lacks_value(self) -> bool
-        ensures { result ≡ lacks_value (pure_part self.entry) }
+    pub fn misses_value(self) -> bool
+        ensures { result ≡ misses_value (pure_part self.entry) }
     {
         matches!(self, Part::Flag { value: None, .. })
     }
@@ -109,7 +109,7 @@ impl<'a> Parts<'a> {
 
     /// The parts of the words after the command.
     #[tactic(auto, using(crate::proofs::FirstParts::parts_within))]
-    pub fn behind_command(words: &'a [Text]) -> Parts<'a>
+    pub fn after_command(words: &'a [Text]) -> Parts<'a>
         ensures parts { parts_left result ≡ parts_from 1 words.now }
         ensures few { length (parts_left result) < 2 ^ 64 }
     {

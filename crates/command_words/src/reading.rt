@@ -1,7 +1,7 @@
 ghost use Rattle.std.specs.Prelude.{◌≡◌, ◌≤◌, ◌<◌, Some, IfOk, length, slice_get, slice_index, option_map};
 ghost use Rattle.std.specs.Option.{ok_or};
 ghost use Rattle.std.specs.List.{list_any, filter};
-ghost use Rattle.command_words.specs.Parts.{parts_from, places, word_of, is_argument, lacks_value, is_unknown};
+ghost use Rattle.command_words.specs.Parts.{parts_from, places, word_of, is_argument, misses_value, is_unknown};
 ghost use Rattle.command_words.specs.Usages.{pure_usage, usage_of, limits_of};
 ghost use Rattle.command_words.specs.Words.{Words, HasItsWords, command_of, has_bad_flag, has_wrong_count, is_repeated, meaning_of, argument_number, number_of, required_in, value_given, with_numbers};
 ghost use Rattle.command_words.specs.declared.command.Command.TheVariants.{Check, Route, Run, Trace};
@@ -63,7 +63,7 @@ fn has_bad_flag(flags: &[Flag], rest: &[Text]) -> bool
 fn has_unknown_flag(flags: &[Flag], rest: &[Text]) -> bool
     ensures { result ≡ list_any (is_unknown flags.now) (parts_from 1 rest.now) }
 {
-    Parts::behind_command(rest).any(|part| part.is_unknown(flags))
+    Parts::after_command(rest).any(|part| part.is_unknown(flags))
 }
 
 fn has_repeated_flag(flags: &[Flag], rest: &[Text]) -> bool
@@ -75,7 +75,7 @@ fn has_repeated_flag(flags: &[Flag], rest: &[Text]) -> bool
 fn is_repeated(flag: Flag, rest: &[Text]) -> bool
     ensures { result ≡ is_repeated (parts_from 1 rest.now) flag }
 {
-    Parts::behind_command(rest)
+    Parts::after_command(rest)
         .filter(|part| part.gives(flag))
         .count()
         > 1
@@ -86,27 +86,27 @@ fn has_wrong_count(usage: &Usage, rest: &[Text]) -> bool
     ensures { result ≡ has_wrong_count (pure_usage usage.now) (parts_from 1 rest.now) }
 {
     let count = argument_count(rest);
-    lacks_a_value(rest) || count < usage.least || usage.most < count
+    misses_a_value(rest) || count < usage.least || usage.most < count
 }
 
 // Whether a flag has no value.
-fn lacks_a_value(rest: &[Text]) -> bool
-    ensures { result ≡ list_any lacks_value (parts_from 1 rest.now) }
+fn misses_a_value(rest: &[Text]) -> bool
+    ensures { result ≡ list_any misses_value (parts_from 1 rest.now) }
 {
-    Parts::behind_command(rest).any(Part::lacks_value)
+    Parts::after_command(rest).any(Part::misses_value)
 }
 
 fn argument_count(rest: &[Text]) -> usize
     ensures { result ≡ length (places (parts_from 1 rest.now)) }
 {
-    Parts::behind_command(rest).filter_map(Part::place).count()
+    Parts::after_command(rest).filter_map(Part::place).count()
 }
 
 // The place of the argument with this number, from 0, if there are so many.
 fn argument(rest: &[Text], number: usize) -> Option<usize>
     ensures { result ≡ slice_get (places (parts_from 1 rest.now)) number }
 {
-    Parts::behind_command(rest)
+    Parts::after_command(rest)
         .filter_map(Part::place)
         .nth(number)
 }
@@ -162,8 +162,7 @@ fn route_of(file: usize, net: usize, rest: &[Text]) -> Result<Command, WordsFaul
 fn run_of(file: usize, net: usize, rest: &[Text]) -> Result<Command, WordsFault>
     ensures { result ≡ ok_or (with_numbers (Run file net) (parts_from 1 rest.now)) BadNumber }
 {
-    let workers = number_of(NumberFlag::Workers, rest)? as u32;
-    let turns = number_of(NumberFlag::Turns, rest)?;
+    let (workers, turns) = numbers_of(rest)?;
     Ok(Command::Run {
         file,
         net,
@@ -175,14 +174,22 @@ fn run_of(file: usize, net: usize, rest: &[Text]) -> Result<Command, WordsFault>
 fn trace_of(file: usize, net: usize, rest: &[Text]) -> Result<Command, WordsFault>
     ensures { result ≡ ok_or (with_numbers (Trace file net) (parts_from 1 rest.now)) BadNumber }
 {
-    let workers = number_of(NumberFlag::Workers, rest)? as u32;
-    let turns = number_of(NumberFlag::Turns, rest)?;
+    let (workers, turns) = numbers_of(rest)?;
     Ok(Command::Trace {
         file,
         net,
         workers,
         turns,
     })
+}
+
+// How many workers run the nodes, and with how many turns, or that one of these numbers is bad.
+fn numbers_of(rest: &[Text]) -> Result<(u32, u64), WordsFault>
+    ensures { result ≡ ok_or (with_numbers (λ workers turns. (workers, turns)) (parts_from 1 rest.now)) BadNumber }
+{
+    let workers = number_of(NumberFlag::Workers, rest)? as u32;
+    let turns = number_of(NumberFlag::Turns, rest)?;
+    Ok((workers, turns))
 }
 
 fn demo_of(rest: &[Text]) -> Result<Command, WordsFault>
@@ -213,7 +220,7 @@ fn argument_word(number: usize, rest: &[Text]) -> Option<&str>
     ensures { option_map (λ word. word.now) result ≡
         option_map word_of (slice_get (filter is_argument (parts_from 1 rest.now)) number) }
 {
-    let part = Parts::behind_command(rest)
+    let part = Parts::after_command(rest)
         .filter(|part| part.is_argument())
         .nth(number)?;
     Some(part.word())
@@ -246,7 +253,7 @@ fn required_in(rest: &[Text]) -> Result<Required, WordsFault>
 fn value_given(flag: Flag, rest: &[Text]) -> Option<&str>
     ensures { option_map (λ v. v.now) result ≡ value_given flag (parts_from 1 rest.now) }
 {
-    Parts::behind_command(rest)
+    Parts::after_command(rest)
         .find(|part| part.gives(flag))?
         .value()
 }

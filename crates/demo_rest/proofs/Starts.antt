@@ -12,7 +12,7 @@ use Rattle.node_core.specs.Machine.{begun_messages}
 use Rattle.node_core.specs.MachineLaws.{on_arc_join, on_arc_none}
 use Rattle.path_vector.specs.Node.{PvState, Begin, all_begun_updates, begun_updates, choice, is_news, new_node, offer_by, path_vector}
 use Rattle.path_vector.specs.Lawful.{path_vector_is_lawful}
-use Rattle.path_vector.specs.Telling.{told_at_most_once}
+use Rattle.path_vector.specs.Reporting.{reported_at_most_once}
 use Rattle.net_gen.specs.Networks.{generated_net}
 
 -- ---- what a new node puts out
@@ -37,7 +37,7 @@ says_nothing net i dest e = rw (no_choice net i dest e, none_pass (arcs_to net i
 says_once : (net : PureNet) (i dest b : ℕ) → IsNet net → length (on_arc b (begun_updates (new_node net i) dest)) ≤ 1
 says_once net i dest b n =
     let row = choice net dest i (λ a d. None) in
-    told_at_most_once net i b (is_news (new_node net i) row dest) (record { dest = dest; route = row; stamp = 0 }) n
+    reported_at_most_once net i b (is_news (new_node net i) row dest) (record { dest = dest; route = row; stamp = 0 }) n
 
 says_most : (net : PureNet) (i dest b : ℕ) (t : Bool) → IsNet net → (t ≡ false → origin_value net dest i ≡ None) → length (on_arc b (begun_updates (new_node net i) dest)) ≤ cond t 1 0
 says_most net i dest b true n f = says_once net i dest b n

@@ -4,7 +4,7 @@ use Rattle.meta_base.specs.Shelf.{Moment}
 use Rattle.meta_base.specs.Sink.{Held}
 
 abbrev pub silent_shelf : ℕ → Bool → ℕ → ℕ → Moment
-silent_shelf taken ended begun faults = record { tells = false; file = λ _. None; rest = []; taken = taken; ended = ended; begun = begun; faults = faults }
+silent_shelf taken ended begun faults = record { reports = false; file = λ _. None; rest = []; taken = taken; ended = ended; begun = begun; faults = faults }
 
 abbrev pub silent_sink : ℕ → Held
-silent_sink faults = record { tells = false; bytes = []; faults = faults }
+silent_sink faults = record { reports = false; bytes = []; faults = faults }

@@ -4,14 +4,14 @@ ghost use Rattle.meta_base.specs.declared.ids.Delivery.{Delivery};
 ghost use Rattle.journal_merge.specs.declared.log.NodeLog.{NodeLog};
 ghost use Rattle.journal_merge.specs.Merging.{entries_of, ClocksAscend, AreOfDifferentNodes, IsMerged};
 
-/// A journal has the entries of each log, in their order, and none of a node that no log is of.
+/// A journal has the entries of each log, in their order, where no two are of one node and each has ascending clocks;
+/// and none of a node that no log is of.
 pub fn keeps_each_log()
     ensures log { (logs : List NodeLog) (journal : List Delivery) → AreOfDifferentNodes logs
         → AllByRecursion (λ log. ClocksAscend log.entries) logs → (merged : IsMerged logs journal)
         → (p : ℕ) (log : NodeLog) → slice_get logs p ≡ Some log
         → entries_of log.node.0 merged.tagged ≡ log.entries }
-    ensures none { (logs : List NodeLog) (journal : List Delivery) → AreOfDifferentNodes logs
-        → AllByRecursion (λ log. ClocksAscend log.entries) logs → (merged : IsMerged logs journal)
+    ensures none { (logs : List NodeLog) (journal : List Delivery) → (merged : IsMerged logs journal)
         → (i : ℕ) → AllByRecursion (λ log. log.node.0 ≢ i) logs → entries_of i merged.tagged ≡ [] }
 {}
 

@@ -3,20 +3,20 @@ use Rattle.std.proofs.Common.{◌≡◌, ℕ, suc, ◌+◌, List, [], ◌∷◌,
 use Rattle.std.proofs.lemmas.List.{append_assoc}
 use Rattle.label_code.specs.declared.operations.Op.{Op}
 use Rattle.label_code.specs.declared.operations.OrdOp.{OrdOp}
-use Rattle.label_code.specs.Machine.{Outcome, made, prohibited, stuck, behind, run_over}
+use Rattle.label_code.specs.Machine.{Outcome, made, prohibited, stuck, after_written, run_over}
 use Rattle.label_code.specs.Orders.{compare_over}
 
 -- words after words
-pub behind_both : (v w : List ℕ) (o : Outcome) → behind v (behind w o) ≡ behind (v ++ w) o
-behind_both v w (made row) = ap made (sym (append_assoc v w row))
-behind_both v w prohibited = refl
-behind_both v w stuck = refl
+pub after_both : (v w : List ℕ) (o : Outcome) → after_written v (after_written w o) ≡ after_written (v ++ w) o
+after_both v w (made row) = ap made (sym (append_assoc v w row))
+after_both v w prohibited = refl
+after_both v w stuck = refl
 
 -- no words
-pub behind_none : (o : Outcome) → behind [] o ≡ o
-behind_none (made row) = refl
-behind_none prohibited = refl
-behind_none stuck = refl
+pub after_none : (o : Outcome) → after_written [] o ≡ o
+after_none (made row) = refl
+after_none prohibited = refl
+after_none stuck = refl
 
 -- a jump passes the code in front of it
 pub jump_past : (front code : List Op) (n : ℕ) (row : List ℕ) → run_over (length front + n) (front ++ code) row ≡ run_over n code row

@@ -1,7 +1,7 @@
 -- The machine of label code: what comes of a row.
 use Rattle.std.specs.Prelude.{◌≢◌, ℕ, zero, suc, List, [], ◌++◌, ◌∷◌}
 use Rattle.label_code.specs.declared.operations.Op.{Op}
-use Rattle.label_code.specs.Effects.{Effect, goes_on, denies, lacks, effect}
+use Rattle.label_code.specs.Effects.{Effect, goes_on, denies, misses, effect}
 
 -- what comes of a row
 pub data Outcome : Type 0 where
@@ -12,16 +12,16 @@ pub data Outcome : Type 0 where
   stuck : Outcome
 
 -- the outcome with these words written before its row
-abbrev pub behind : List ℕ → Outcome → Outcome
-behind written (made row) = made (written ++ row)
-behind written prohibited = prohibited
-behind written stuck = stuck
+abbrev pub after_written : List ℕ → Outcome → Outcome
+after_written written (made row) = made (written ++ row)
+after_written written prohibited = prohibited
+after_written written stuck = stuck
 
 -- what comes of an effect, where the rest of the code makes of a jump and a row what `next` says
 abbrev pub outcome : Effect → (ℕ → List ℕ → Outcome) → Outcome
-outcome (goes_on written row jump) next = behind written (next jump row)
+outcome (goes_on written row jump) next = after_written written (next jump row)
 outcome denies next = prohibited
-outcome lacks next = stuck
+outcome misses next = stuck
 
 -- what the code makes of a row, once it has jumped over so many operations
 abbrev pub run_over : ℕ → List Op → List ℕ → Outcome

@@ -13,7 +13,7 @@ pub data Finding : Type 0 where
   -- equal so far, with these words left of each row, and a jump over so many operations
   ties : List ℕ → List ℕ → ℕ → Finding
   -- it isn't defined on the rows
-  lacks : Finding
+  misses : Finding
 
 -- decided, unless the words are equal
 abbrev pub by_words : Ordering → List ℕ → List ℕ → Finding
@@ -27,28 +27,28 @@ by_sides zero zero v w jump = ties v w 0
 by_sides zero (suc zero) v w jump = decides Less
 by_sides (suc zero) zero v w jump = decides Greater
 by_sides (suc zero) (suc zero) v w jump = ties v w jump
-by_sides _ _ v w jump = lacks
+by_sides _ _ v w jump = misses
 
 abbrev pub finding : OrdOp → List ℕ → List ℕ → Finding
 finding op.Less (m ∷ v) (n ∷ w) = by_words (nat_cmp m n) v w
-finding op.Less _ _ = lacks
+finding op.Less _ _ = misses
 finding op.More (m ∷ v) (n ∷ w) = by_words (nat_cmp n m) v w
-finding op.More _ _ = lacks
-finding op.Length (m ∷ v) (n ∷ w) = if nat_le m (length v) && nat_le n (length w) then by_words (nat_cmp m n) (drop m v) (drop n w) else lacks
-finding op.Length _ _ = lacks
+finding op.More _ _ = misses
+finding op.Length (m ∷ v) (n ∷ w) = if nat_le m (length v) && nat_le n (length w) then by_words (nat_cmp m n) (drop m v) (drop n w) else misses
+finding op.Length _ _ = misses
 finding op.Pass (m ∷ v) (n ∷ w) = ties v w 0
-finding op.Pass _ _ = lacks
-finding (op.Rank ranks) (m ∷ v) (n ∷ w) = if nat_lt m (length ranks) && nat_lt n (length ranks) then by_words (nat_cmp (slice_index ranks m) (slice_index ranks n)) v w else lacks
-finding (op.Rank ranks) _ _ = lacks
+finding op.Pass _ _ = misses
+finding (op.Rank ranks) (m ∷ v) (n ∷ w) = if nat_lt m (length ranks) && nat_lt n (length ranks) then by_words (nat_cmp (slice_index ranks m) (slice_index ranks n)) v w else misses
+finding (op.Rank ranks) _ _ = misses
 finding (op.Sides jump) (m ∷ v) (n ∷ w) = by_sides m n v w jump
-finding (op.Sides jump) _ _ = lacks
+finding (op.Sides jump) _ _ = misses
 finding (op.Leap jump) v w = ties v w jump
 
 -- what comes of a finding, where the rest of the code makes of a jump and two rows what `next` says
 abbrev pub found : Finding → (ℕ → List ℕ → List ℕ → Option Ordering) → Option Ordering
 found (decides o) next = Some o
 found (ties v w jump) next = next jump v w
-found lacks next = None
+found misses next = None
 
 -- how the code compares two rows, once it has jumped over so many operations; none where it doesn't fit them
 abbrev pub compare_over : ℕ → List OrdOp → List ℕ → List ℕ → Option Ordering

@@ -18,9 +18,9 @@ has_room (Here short) = short.len ≤ HERE
 has_room (There words) = Unit {0}
 
 -- the run tells what the outcome is: a new row, or that the value is prohibited
-abbrev pub Tells : Run → List ℕ → Outcome → Type 0
-Tells Made row o = o ≡ made row
-Tells Prohibited row o = o ≡ prohibited
+abbrev pub Reports : Run → List ℕ → Outcome → Type 0
+Reports Made row o = o ≡ made row
+Reports Prohibited row o = o ≡ prohibited
 
 -- the row has so many words, which are few
 abbrev pub has_width : ℕ → List ℕ → Bool
@@ -39,4 +39,4 @@ written_of words len more = take len words ++ more
 -- so many words stand in place, of n that have room there, and none elsewhere while there is room
 pub record IsFilled (n len : ℕ) (more : List ℕ) : Type 0 where
   pub room : len ≤ n
-  pub none_behind : len < n → more ≡ []
+  pub none_after : len < n → more ≡ []

@@ -7,7 +7,7 @@ use Rattle.label_code.specs.declared.in_place.InPlace.TheVariants.{Writes, Prohi
 use Rattle.label_code.specs.declared.machine.Next.{Next}
 use Rattle.label_code.specs.declared.machine.Halt.{Halt}
 use Rattle.label_code.specs.declared.machine.Halt.TheVariants.{Prohibited, NoMemory}
-use Rattle.label_code.specs.Effects.{Effect, goes_on, writes, denies, lacks, effect}
+use Rattle.label_code.specs.Effects.{Effect, goes_on, writes, denies, misses, effect}
 
 -- the operation reads a word, and writes one in its place or prohibits
 abbrev pub writes_in_place : Op → Bool
@@ -46,7 +46,7 @@ effect_of Other = None
 abbrev pub left_by : List ℕ → Effect → Option (List ℕ × (List ℕ × ℕ))
 left_by old (goes_on written row jump) = Some (old ++ written, (row, jump))
 left_by old denies = None
-left_by old lacks = None
+left_by old misses = None
 
 -- the step left what the effect leaves, or prohibited where that is nothing; nothing is said of one that got no memory
 abbrev pub Does : Result Next Halt → List ℕ → List ℕ → Effect → Type 0

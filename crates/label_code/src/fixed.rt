@@ -1,7 +1,7 @@
 ghost use Rattle.std.specs.Prelude.{◌≡◌, ◌≤◌, [], ◌∷◌, ◌++◌, length, take, IfOk, OnOk};
 ghost use Rattle.label_code.specs.declared.words.TheConstants.{HERE};
-ghost use Rattle.label_code.specs.Rows.{has_width, MakesOnly, Tells};
-ghost use Rattle.label_code.specs.Machine.{Fits, RunCode, behind};
+ghost use Rattle.label_code.specs.Rows.{has_width, MakesOnly, Reports};
+ghost use Rattle.label_code.specs.Machine.{Fits, RunCode, after_written};
 
 use crate::in_place::{InPlace, in_place};
 use crate::{HeldRow, Op, Output, Run, Word, Words, execute};
@@ -48,7 +48,7 @@ impl<const N: usize> FixedRow<N> {
     fn write_all(&mut self, alloc: Global, code: &[Op], row: &[Word]) -> Result<Run, NoMemory>
         requires fits { Fits code.now row.now }
         requires holds { MakesOnly (λ row. has_width N row) (RunCode code.now row.now) }
-        ensures { IfOk result (λ run. Tells run self.new.words (RunCode code.now row.now)) }
+        ensures { IfOk result (λ run. Reports run self.new.words (RunCode code.now row.now)) }
     {
         let mut code = code;
         let mut row = row;
@@ -56,10 +56,10 @@ impl<const N: usize> FixedRow<N> {
             let Some((op, others)) = code.split_first() else {
                 return self.write_left(alloc, count, code, row);
             };
-            let Some((word, behind)) = row.split_first() else {
+            let Some((word, left)) = row.split_first() else {
                 return self.write_left(alloc, count, code, row);
             };
-            match in_place(op, *word, behind) {
+            match in_place(op, *word, left) {
                 InPlace::Writes(word, rest) => {
                     self.words[count] = word;
                     code = others;
@@ -87,9 +87,9 @@ impl<const N: usize> FixedRow<N> {
         requires count { count ≤ N }
         requires fits { Fits code.now row.now }
         requires holds { MakesOnly (λ row. has_width N row)
-            (behind (take count self.old.words) (RunCode code.now row.now)) }
-        ensures { IfOk result (λ run. Tells run self.new.words
-            (behind (take count self.old.words) (RunCode code.now row.now))) }
+            (after_written (take count self.old.words) (RunCode code.now row.now)) }
+        ensures { IfOk result (λ run. Reports run self.new.words
+            (after_written (take count self.old.words) (RunCode code.now row.now))) }
     {
         let mut written = Written::<N>::new(alloc, self.words, count);
         let run = execute(alloc, code, row, &mut written)?;
@@ -144,7 +144,7 @@ impl<const N: usize> Written<N> {
 
     // Adds a word where `N` stand in place.
     #[cold]
-    fn push_behind(&mut self, word: Word) -> Result<(), NoMemory>
+    fn push_after(&mut self, word: Word) -> Result<(), NoMemory>
         requires { N ≤ length self.old }
         ensures { OnOk result (self.new ≡ self.old ++ word ∷ []) }
     {
@@ -163,6 +163,6 @@ impl<const N: usize> Output for Written<N> {
             self.len += 1;
             return Ok(());
         }
-        self.push_behind(word)
+        self.push_after(word)
     }
 }

@@ -1,6 +1,6 @@
 ghost use Rattle.std.specs.Prelude.{◌≡◌, ℕ, List, Bool, true, IfOk};
 ghost use Rattle.label_code.specs.Machine.{RunCode, Fits};
-ghost use Rattle.label_code.specs.Rows.{Tells, MakesOnly};
+ghost use Rattle.label_code.specs.Rows.{Reports, MakesOnly};
 
 use crate::{Op, Run, Word, Words, execute};
 use meta_base::NoMemory;
@@ -34,7 +34,7 @@ pub trait HeldRow: Drop {
     fn rewrite(&mut self, alloc: Global, code: &[Op], row: &[Word]) -> Result<Run, NoMemory>
         requires fits { Fits code.now row.now }
         requires holds { MakesOnly can_hold (RunCode code.now row.now) }
-        ensures { IfOk result (λ run. Tells run (held self.new) (RunCode code.now row.now)) };
+        ensures { IfOk result (λ run. Reports run (held self.new) (RunCode code.now row.now)) };
 }
 
 impl HeldRow for Words {
@@ -54,7 +54,7 @@ impl HeldRow for Words {
         self.copy(alloc)
     }
 
-    #[tactic(auto, using(crate::specs::CodeLaws::behind_none))]
+    #[tactic(auto, using(crate::specs::CodeLaws::after_none))]
     fn rewrite(&mut self, alloc: Global, code: &[Op], row: &[Word]) -> Result<Run, NoMemory> {
         self.clear();
         let run = execute(alloc, code, row, self)?;

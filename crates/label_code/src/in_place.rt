@@ -1,7 +1,7 @@
 // Operations that read a word and write one in its place.
 ghost use Rattle.std.specs.Prelude.{◌≡◌, ◌≢◌, ◌∷◌, ◌==◌, ◌<◌, Some, length, slice_get, if◌then◌else◌};
 ghost use Rattle.std.specs.Int.{bit_at};
-ghost use Rattle.label_code.specs.Effects.{effect, writes, looks, denies, lacks};
+ghost use Rattle.label_code.specs.Effects.{effect, writes, looks, denies, misses};
 ghost use Rattle.label_code.specs.Steps.{effect_in_place, effect_of};
 
 use crate::pieces::item;
@@ -21,7 +21,7 @@ pub(crate) enum InPlace<'a> {
 // What the operation does on a row of the word and the rest, if it writes a word in place of one. Most do.
 #[inline(always)]
 pub(crate) fn in_place<'a>(op: &Op, word: Word, rest: &'a [Word]) -> InPlace<'a>
-    requires { effect op.now (word ∷ rest.now) ≢ lacks }
+    requires { effect op.now (word ∷ rest.now) ≢ misses }
     ensures { effect_of result ≡ effect_in_place op.now (word ∷ rest.now) }
 {
     match op {

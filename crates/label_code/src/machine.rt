@@ -1,13 +1,13 @@
 ghost use Rattle.std.specs.Prelude.{◌≡◌, ◌≢◌, ◌+◌, ◌<◌, ◌≤◌, ◌==◌, [], ◌∷◌, ◌++◌, length, take, drop, None, if◌then◌else◌, IfOk, OnErr};
 ghost use Rattle.std.specs.List.{list_any};
-ghost use Rattle.label_code.specs.Effects.{effect, goes_on, writes, turns, denies, lacks};
-ghost use Rattle.label_code.specs.Machine.{RunCode, Fits, behind};
-ghost use Rattle.label_code.specs.Rows.{Tells};
+ghost use Rattle.label_code.specs.Effects.{effect, goes_on, writes, turns, denies, misses};
+ghost use Rattle.label_code.specs.Machine.{RunCode, Fits, after_written};
+ghost use Rattle.label_code.specs.Rows.{Reports};
 ghost use Rattle.label_code.specs.Steps.{Does, effect_in_place};
 ghost use Rattle.label_code.specs.declared.machine.Halt.TheVariants as halts;
 
 use crate::in_place::{InPlace, in_place};
-use crate::pieces::{behind, sequence};
+use crate::pieces::{after, sequence};
 use crate::{LabelCode, Op, Output, Row, Run, Word};
 use meta_base::{List, NoMemory};
 use std::alloc::Global;
@@ -17,7 +17,7 @@ use std::alloc::Global;
 /// memory alone; after that, and after `Prohibited`, `out` is empty.
 pub fn run(alloc: Global, code: &LabelCode, row: &Row, out: &mut Row) -> Result<Run, NoMemory>
     requires { Fits code.now row.now }
-    ensures ok { IfOk result (λ run. Tells run out.new (RunCode code.now row.now)) }
+    ensures ok { IfOk result (λ run. Reports run out.new (RunCode code.now row.now)) }
     ensures prohibited { IfOk result (λ run. run ≡ Run.Prohibited → out.new ≡ []) }
     ensures err { OnErr result (out.new ≡ []) }
 {
@@ -42,7 +42,7 @@ pub fn execute<W: Output>(
 ) -> Result<Run, NoMemory>
     requires { Fits code.now row.now }
     ensures { IfOk result (λ run.
-        Tells run (W.written out.new) (behind (W.written out.old) (RunCode code.now row.now))) }
+        Reports run (W.written out.new) (after_written (W.written out.old) (RunCode code.now row.now))) }
 {
     let mut code = code;
     let mut row = row;
@@ -53,7 +53,7 @@ pub fn execute<W: Output>(
         match step(alloc, op, row, out) {
             Ok(next) => {
                 row = next.row;
-                code = behind(rest, next.jump);
+                code = after(rest, next.jump);
             }
             Err(Halt::Prohibited) => return Ok(Run::Prohibited),
             Err(Halt::NoMemory) => return Err(NoMemory),
@@ -90,7 +90,7 @@ fn step<'a, W: Output>(
     row: &'a [Word],
     out: &mut W,
 ) -> Result<Next<'a>, Halt>
-    requires { effect op.now row.now ≢ lacks }
+    requires { effect op.now row.now ≢ misses }
     ensures { Does result (W.written out.old) (W.written out.new) (effect op.now row.now) }
 {
     match row {
@@ -114,20 +114,20 @@ fn step_otherwise<'a, W: Output>(
     out: &mut W,
 ) -> Result<Next<'a>, Halt>
     requires row { row.now ≡ word ∷ rest.now }
-    requires fits { effect op.now (word ∷ rest.now) ≢ lacks }
+    requires fits { effect op.now (word ∷ rest.now) ≢ misses }
     requires other { effect_in_place op.now (word ∷ rest.now) ≡ None }
     ensures { Does result (W.written out.old) (W.written out.new) (effect op.now (word ∷ rest.now)) }
 {
     match op {
-        Op::Drop => Ok(Next::behind(rest)),
+        Op::Drop => Ok(Next::after(rest)),
         Op::CopySeq => copy_sequence(alloc, word, rest, out),
-        Op::DropSeq => Ok(Next::behind(sequence(word, rest).1)),
+        Op::DropSeq => Ok(Next::after(sequence(word, rest).1)),
         Op::Emit(word) => write(alloc, *word, row, out),
         Op::Append(symbol) => append(alloc, word, rest, *symbol, out),
         Op::Fresh(symbol) => append_fresh(alloc, word, rest, *symbol, out),
         Op::Deny => Err(Halt::Prohibited),
         Op::Fork(jump) => fork(alloc, word, rest, *jump, out),
-        Op::Test(jump) => Ok(Next::behind_side(word, rest, *jump)),
+        Op::Test(jump) => Ok(Next::after_side(word, rest, *jump)),
         Op::Skip(jump) => Ok(Next { row, jump: *jump }),
         _ => unreachable!(),
     }
@@ -141,7 +141,7 @@ fn step_at_end<'a, W: Output>(
     out: &mut W,
 ) -> Result<Next<'a>, Halt>
     requires row { row.now ≡ [] }
-    requires fits { effect op.now [] ≢ lacks }
+    requires fits { effect op.now [] ≢ misses }
     ensures { Does result (W.written out.old) (W.written out.new) (effect op.now []) }
 {
     match op {
@@ -161,7 +161,7 @@ fn write<'a, W: Output>(
     ensures { Does result (W.written out.old) (W.written out.new) (writes word row.now) }
 {
     out.push(alloc, word)?;
-    Ok(Next::behind(row))
+    Ok(Next::after(row))
 }
 
 // Writes the side and leaves the row, with this jump after the second side.
@@ -176,7 +176,7 @@ fn fork<'a, W: Output>(
     ensures { Does result (W.written out.old) (W.written out.new) (turns side (side ∷ []) row.now jump) }
 {
     out.push(alloc, side)?;
-    Ok(Next::behind_side(side, row, jump))
+    Ok(Next::after_side(side, row, jump))
 }
 
 // Writes the length and so many words from the front of the row, and leaves what is after them.
@@ -193,7 +193,7 @@ fn copy_sequence<'a, W: Output>(
     let (words, rest) = sequence(count, row);
     out.push(alloc, count)?;
     out.extend(alloc, words)?;
-    Ok(Next::behind(rest))
+    Ok(Next::after(rest))
 }
 
 // Writes the length and one, so many words from the front of the row, and the symbol, and leaves what is after them.
@@ -212,7 +212,7 @@ fn append<'a, W: Output>(
     out.push(alloc, count + 1)?;
     out.extend(alloc, words)?;
     out.push(alloc, symbol)?;
-    Ok(Next::behind(rest))
+    Ok(Next::after(rest))
 }
 
 // The same, or prohibits where the symbol is among the words.
@@ -236,7 +236,7 @@ fn append_fresh<'a, W: Output>(
 
 impl<'a> Next<'a> {
     // This row, with no jump.
-    fn behind(row: &'a [Word]) -> Next<'a>
+    fn after(row: &'a [Word]) -> Next<'a>
         ensures row { result.row.now ≡ row.now }
         ensures jump { result.jump ≡ 0 }
     {
@@ -244,7 +244,7 @@ impl<'a> Next<'a> {
     }
 
     // This row, with this jump after the second side.
-    fn behind_side(side: Word, row: &'a [Word], jump: usize) -> Next<'a>
+    fn after_side(side: Word, row: &'a [Word], jump: usize) -> Next<'a>
         requires { side < 2 }
         ensures row { result.row.now ≡ row.now }
         ensures first { side ≡ 0 → result.jump ≡ 0 }

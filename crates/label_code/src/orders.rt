@@ -1,8 +1,8 @@
 ghost use Rattle.std.specs.Prelude.{◌≡◌, ◌≢◌, Some};
-ghost use Rattle.label_code.specs.Orders.{RunOrder, FitsBoth, finding, by_words, by_sides, lacks};
+ghost use Rattle.label_code.specs.Orders.{RunOrder, FitsBoth, finding, by_words, by_sides, misses};
 ghost use Rattle.label_code.specs.Findings.{finding_of};
 
-use crate::pieces::{behind, item, sequence};
+use crate::pieces::{after, item, sequence};
 use crate::{OrdOp, OrderCode, Row, Word};
 use std::cmp::Ordering;
 
@@ -60,7 +60,7 @@ fn compare_steps(code: &[OrdOp], first: &[Word], second: &[Word]) -> Ordering
             Found::Tied(left, right, jump) => {
                 first = left;
                 second = right;
-                code = behind(rest, jump);
+                code = after(rest, jump);
             }
         }
     }
@@ -76,7 +76,7 @@ enum Found<'a> {
 
 // What the operation finds.
 fn find<'a>(op: &OrdOp, first: &'a [Word], second: &'a [Word]) -> Found<'a>
-    requires { finding op.now first.now second.now ≢ lacks }
+    requires { finding op.now first.now second.now ≢ misses }
     ensures { finding_of result ≡ finding op.now first.now second.now }
 {
     if let OrdOp::Leap(jump) = op {
@@ -94,7 +94,7 @@ fn find<'a>(op: &OrdOp, first: &'a [Word], second: &'a [Word]) -> Found<'a>
             let ranks = ranks.as_slice();
             by(item(ranks, *m).cmp(&item(ranks, *n)), first, second)
         }
-        OrdOp::Sides(jump) => told_by_sides(*m, *n, first, second, *jump),
+        OrdOp::Sides(jump) => stated_by_sides(*m, *n, first, second, *jump),
         OrdOp::Leap(_) => unreachable!(),
     }
 }
@@ -110,14 +110,14 @@ fn by<'a>(ordering: Ordering, first: &'a [Word], second: &'a [Word]) -> Found<'a
 }
 
 // What two sides tell.
-fn told_by_sides<'a>(
+fn stated_by_sides<'a>(
     m: Word,
     n: Word,
     first: &'a [Word],
     second: &'a [Word],
     jump: usize,
 ) -> Found<'a>
-    requires { by_sides m n first.now second.now jump ≢ lacks }
+    requires { by_sides m n first.now second.now jump ≢ misses }
     ensures { finding_of result ≡ by_sides m n first.now second.now jump }
 {
     match m.cmp(&n) {

@@ -21,7 +21,7 @@ pub(crate) fn sequence(count: Word, row: &[Word]) -> (&[Word], &[Word])
 }
 
 // The items after so many from the front.
-pub(crate) fn behind<T>(items: &[T], count: usize) -> &[T]
+pub(crate) fn after<T>(items: &[T], count: usize) -> &[T]
     requires { count ≤ length items.now }
     ensures { result.now ≡ drop count items.now }
 {

@@ -1,6 +1,6 @@
 -- The laws of lexical classes, for the proofs of their calls.
 use Rattle.std.proofs.Common.{◌≡◌, refl, List, []}
-use Rattle.alg_model.specs.declared.alg.TheConstants.{MAX_INSTANCE_NUMBER}
+use Rattle.alg_model.specs.Numbers.{max_instance_number}
 use Rattle.alg_model.specs.declared.edition.Edition.{Edition}
 use Rattle.alg_model.specs.Expressions.{Expression, lex, PureLabel, pair_label}
 use Rattle.alg_model.specs.Views.{pure_label}
@@ -8,7 +8,7 @@ use Rattle.alg_model.specs.Application.{IsLabel}
 use Rattle.alg_model.specs.Formation.{IsFormed}
 use Rattle.alg_classes.specs.declared.profile.Profile.{Profile}
 use Rattle.alg_classes.specs.declared.class.Class.{Class}
-use Rattle.alg_classes.specs.Facts.{Fact}
+use Rattle.alg_classes.specs.declared.fact.Fact.{Fact}
 use Rattle.alg_classes.specs.Classes.{pure_examples, alg_in, ClassOf, IsCovered, Covers}
 use Rattle.alg_classes.specs.Pairs.{pair_profile, pair_examples}
 use Rattle.alg_classes.specs.PairLaws.{lex_settled, lex_profile_is, pair_bound}
@@ -32,7 +32,7 @@ made_class a b e x y z formed is_x is_y profile_is label_is examples_are =
     (is_x.label, is_y.label) (is_x.label_bound, is_y.label_bound)
     (lex_settled a b (pure_label x.label) (pure_label y.label) x.profile y.profile (pure_examples x.examples) (pure_examples y.examples)
     formed is_x.label is_y.label is_x.settled is_y.settled)
-    (pair_bound MAX_INSTANCE_NUMBER (pure_examples x.examples) (pure_examples y.examples) is_x.bound is_y.bound)
+    (pair_bound max_instance_number (pure_examples x.examples) (pure_examples y.examples) is_x.bound is_y.bound)
 
 -- a label of the product is a pair of labels
 each_pair : (a b : Expression) (P : PureLabel → Type 0) → ((l m : PureLabel) → IsLabel a l → IsLabel b m → P (pair_label l m))

@@ -7,4 +7,4 @@ mod laws;
 mod tables;
 
 pub use laws::tables_are_unique;
-pub use tables::{MAX_WORKERS, all_tables};
+pub use tables::{MAX_WORKERS, all_tables, numbers_are_specified};

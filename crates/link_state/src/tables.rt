@@ -1,4 +1,5 @@
-ghost use Rattle.std.specs.Prelude.{◌≡◌, ◌<◌, ◌≤◌, ℕ, Option, Some, None, map, length, vec_len, replicate, slice_index_or, IfOk, IfSome};
+ghost use Rattle.std.specs.Prelude.{◌≡◌, ◌<◌, ℕ, Option, Some, None, map, length, vec_len, replicate, slice_index_or, IfOk, IfSome};
+ghost use Rattle.meta_base.specs.Numbers.{max_workers};
 ghost use Rattle.net_graph.specs.Nets.{CanBeNumbered};
 ghost use Rattle.net_graph.specs.declared.route.DestTable.{DestTable};
 ghost use Rattle.best_first.specs.Labels.{AreLabelsOf};
@@ -12,8 +13,13 @@ use std::alloc::{AllocGlobal, Global};
 use std::thread;
 use std::thread::Threads;
 
-/// The most workers that [`all_tables`] may be given.
+/// The most workers that the words of a command may ask for; [`all_tables`] takes any number of them.
 pub const MAX_WORKERS: u32 = 16;
+
+/// The bound of workers is the number of the specification.
+pub fn numbers_are_specified()
+    ensures { MAX_WORKERS ≡ max_workers }
+{}
 
 // Places for so many tables, with none in them yet.
 fn no_tables(alloc: Global, count: usize) -> Result<Vec<Option<DestTable>>, NoMemory>
@@ -90,10 +96,9 @@ fn all_of(alloc: Global, found: Vec<Option<DestTable>>) -> Result<List<DestTable
 }
 
 /// The tables of all destinations of the network, in order, each the one that is made best first. They are
-/// found by so many workers, from 1 to [`MAX_WORKERS`], each of which takes destinations that follow one
-/// another; no more threads run than there are workers or destinations, the caller's own among them, so one
-/// worker is the caller alone. The rows are the same for any number of workers
-/// ([`crate::tables_are_unique`]).
+/// found by so many workers, one at least, each of which takes destinations that follow one another; no more
+/// threads run than there are workers or destinations, the caller's own among them, so one worker is the caller
+/// alone. The rows are the same for any number of workers ([`crate::tables_are_unique`]).
 ///
 /// The algebra is the network's, in whatever form its values have. It is refused for want of memory alone.
 #[tactic(auto, using(crate::proofs::Placed::all_placed))]
@@ -107,8 +112,7 @@ where
     A::Sig: Send,
     A::Lab: Sync,
     requires algebra { A.expression algebra.now ≡ net.now.alg.expression }
-    requires some_workers { 0 < workers }
-    requires few_workers { workers ≤ MAX_WORKERS }
+    requires workers { 0 < workers }
     ensures count { IfOk result (λ tables. length tables ≡ length net.now.dests) }
     ensures tables { IfOk result (AreTablesOf net.now) }
 {

@@ -1,12 +1,13 @@
-//! The program: it hands the system's files and standard output, as `host_io` adapts them, to the top
-//! call of `metacli`, where all that it does is decided.
+//! The program: it hands the words, the system's files and standard output, as `host_io` adapts them, to the top call
+//! of `metacli`, where all that it does is decided.
 #![tactic(auto)]
 
-ghost use Rattle.std.specs.Prelude.{◌≡◌};
+ghost use Rattle.std.specs.Prelude.{◌≡◌, IfOk, IsErrOf};
+ghost use Rattle.meta.specs.Endings.{IsCarriedOut, IsRefusedUnread};
 ghost use Rattle.meta.specs.declared.WordsError.TheVariants.{NoMemory as NoMemoryLeft};
 
 use host_io::{FileShelf, OutSink};
-use meta_base::{NoMemory, OpenGate, Text, put_all};
+use meta_base::{NoMemory, OpenGate, Shelf, Sink, Text, put_all};
 use metacli::{run_meta, status};
 use std::process::ExitCode;
 use std::rt::{Env, Files};
@@ -43,14 +44,17 @@ fn read_args<R: AllocGlobal + Env>(rt: &R) -> Result<Vec<Text>, WordsError> {
     Ok(words)
 }
 
-// Carries the words out over the system's files, and answers the status.
-fn carry_out<R: AllocGlobal + Files + Print + Threads + Wait + Sync>(
+// Carries the words out over these files, and answers the status.
+fn carry_out<R: AllocGlobal + Threads + Wait + Sync, S: Shelf, K: Sink>(
     rt: &R,
     words: &[Text],
-    out: &mut OutSink<'_, R>,
-) -> u8 {
-    let mut shelf = FileShelf::new(rt);
-    let ended = run_meta(rt, words, &mut shelf, out, &OpenGate);
+    shelf: &mut S,
+    out: &mut K,
+) -> u8
+    ensures { IsCarriedOut words.now (S.now_is shelf.old) (S.now_is shelf.new)
+        (K.holds out.old) (K.holds out.new) result }
+{
+    let ended = run_meta(rt, words, shelf, out, &OpenGate);
     let status = status(&ended.answer);
     // The process ends, and all its memory with it: giving back what was found piece by piece takes a tenth of a run.
     mem::forget(ended);
@@ -58,23 +62,43 @@ fn carry_out<R: AllocGlobal + Files + Print + Threads + Wait + Sync>(
 }
 
 // Refuses words that aren't UTF-8, and answers the status.
-fn refuse_words<R: Print>(out: &mut OutSink<'_, R>) -> u8 {
+fn refuse_words<K: Sink>(out: &mut K) -> u8
+    ensures { IsRefusedUnread (K.holds out.old) (K.holds out.new) result }
+{
     match put_all(out, b"words refused: C2\n") {
         Ok(()) => 1,
         Err(_) => 6,
     }
 }
 
-// What the program does, and the status that it ends with.
-fn run<R: AllocGlobal + Env + Files + Print + Threads + Wait + Sync>(rt: &R) -> u8 {
-    let mut out = OutSink::new(rt);
-    match read_args(rt) {
-        Ok(words) => carry_out(rt, &words, &mut out),
-        Err(WordsError::NotText) => refuse_words(&mut out),
+// What the program does with these words, and the status that it ends with.
+fn run<R: AllocGlobal + Threads + Wait + Sync, S: Shelf, K: Sink>(
+    rt: &R,
+    words: Result<Vec<Text>, WordsError>,
+    shelf: &mut S,
+    out: &mut K,
+) -> u8
+    ensures carried_out { IfOk words (λ words. IsCarriedOut words.items (S.now_is shelf.old) (S.now_is shelf.new)
+        (K.holds out.old) (K.holds out.new) result) }
+    ensures not_text { IsErrOf words WordsError.NotText →
+        IsRefusedUnread (K.holds out.old) (K.holds out.new) result × (S.now_is shelf.new ≡ S.now_is shelf.old) }
+    ensures no_memory { IsErrOf words WordsError.NoMemory →
+        (result ≡ 7) × (K.holds out.new ≡ K.holds out.old) × (S.now_is shelf.new ≡ S.now_is shelf.old) }
+{
+    match words {
+        Ok(words) => carry_out(rt, &words, shelf, out),
+        Err(WordsError::NotText) => refuse_words(out),
         Err(WordsError::NoMemory) => 7,
     }
 }
 
+// The same with the words, the files and the standard output of the system.
+fn run_on_system<R: AllocGlobal + Env + Files + Print + Threads + Wait + Sync>(rt: &R) -> u8 {
+    let mut shelf = FileShelf::new(rt);
+    let mut out = OutSink::new(rt);
+    run(rt, read_args(rt), &mut shelf, &mut out)
+}
+
 fn main(rt: HostRuntime) -> ExitCode {
-    ExitCode::from(run(&rt))
+    ExitCode::from(run_on_system(&rt))
 }

@@ -13,6 +13,6 @@ pub HasFront-more : (old now new : Held) (p : List ℕ) (d n : ℕ) → HasFront
 HasFront-more old now new p d n f t = record {
   within = omega (arith, length-take (length p - d) (drop d p), length-drop d p, t.fits, f.within);
   faults = omega (arith, f.faults, t.faults);
-  tells = t.tells ∙ f.tells;
-  bytes = λ told. t.bytes (rw f.tells told) ∙ ap (λ x. x ++ take n (take (length p - d) (drop d p))) (f.bytes told) ∙ append_assoc old.bytes (take d p) (take n (take (length p - d) (drop d p))) ∙ ap (λ x. old.bytes ++ x) (sym (take_more_written p d n));
+  reports = t.reports ∙ f.reports;
+  bytes = λ reported. t.bytes (rw f.reports reported) ∙ ap (λ x. x ++ take n (take (length p - d) (drop d p))) (f.bytes reported) ∙ append_assoc old.bytes (take d p) (take n (take (length p - d) (drop d p))) ∙ ap (λ x. old.bytes ++ x) (sym (take_more_written p d n));
 }

@@ -32,9 +32,9 @@ front p [] = []
 front p (c ∷ cs) = if p c then c ∷ front p cs else []
 
 -- what comes after that front
-abbrev pub behind : (ℕ → Bool) → List ℕ → List ℕ
-behind p [] = []
-behind p (c ∷ cs) = if p c then behind p cs else c ∷ cs
+abbrev pub after_front : (ℕ → Bool) → List ℕ → List ℕ
+after_front p [] = []
+after_front p (c ∷ cs) = if p c then after_front p cs else c ∷ cs
 
 -- the number that these digits spell in base ten, after digits that spell n
 abbrev pub number_from : ℕ → List ℕ → ℕ

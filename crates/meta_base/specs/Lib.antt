@@ -1,6 +1,8 @@
+pub mod Numbers
 pub mod Count
 pub mod Shelf
 pub mod Sink
+pub mod Offers
 pub mod MemFiles
 pub mod MemShelves
 pub mod MemSinks

@@ -29,7 +29,7 @@ faults_next s = if fails_now s then raised s.calls.faults 1 else s.calls.faults
 
 abbrev pub moment_of : MemShelf → Moment
 moment_of s = record {
-  tells = true;
+  reports = true;
   file = λ name. bytes_named name s.files;
   rest = drop s.at (option_map_or (bytes_at s.files) s.begun []);
   taken = s.taken;

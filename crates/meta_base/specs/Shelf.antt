@@ -6,7 +6,7 @@ use Rattle.meta_base.specs.declared.errors.Failed.{Failed}
 -- what a shelf shows at one moment
 pub record Moment : Type 0 where
   -- whether it tells the next two
-  pub tells : Bool
+  pub reports : Bool
   -- the bytes of the file of a name, if there is one
   pub file : List ℕ → Option (List ℕ)
   -- the bytes left of the file that was begun
@@ -21,11 +21,11 @@ pub record Moment : Type 0 where
 
 -- the shelf tells that it has no file of that name
 abbrev pub IsAbsent : Moment → List ℕ → Type 0
-IsAbsent m name = IsTrue m.tells × (m.file name ≡ None)
+IsAbsent m name = IsTrue m.reports × (m.file name ≡ None)
 
 -- no call changes the files or whether they are shown, and the counts never fall
 pub record Keeps (old new : Moment) : Type 0 where
-  pub tells : new.tells ≡ old.tells
+  pub reports : new.reports ≡ old.reports
   pub file : (name : List ℕ) → new.file name ≡ old.file name
   pub faults : old.faults ≤ new.faults
   pub begun : old.begun ≤ new.begun
@@ -37,8 +37,8 @@ KeepsFaults old (Err _) new = Unit {0}
 
 -- the file is there and all of it is left; or no file is begun, with the cause of that
 abbrev pub HasBegun : {A : Type 0} → Moment → List ℕ → Moment → Result A Failed → Type 0
-HasBegun old name new (Ok _) = IsTrue old.tells → old.file name ≡ Some new.rest
-HasBegun old name new (Err _) = (IsTrue old.tells → new.rest ≡ []) × (HasRisen old.faults new.faults ⊎ IsAbsent old name)
+HasBegun old name new (Ok _) = IsTrue old.reports → old.file name ≡ Some new.rest
+HasBegun old name new (Err _) = (IsTrue old.reports → new.rest ≡ []) × (HasRisen old.faults new.faults ⊎ IsAbsent old name)
 
 -- what begin does, whatever it answers
 pub record Begins {A : Type 0} (old : Moment) (name : List ℕ) (new : Moment) (result : Result A Failed) : Type 0 where
@@ -65,7 +65,7 @@ pub record Read (old : Moment) (before : List ℕ) (n : ℕ) (new : Moment) (aft
   pub taken : new.taken ≡ raised old.taken n
   pub found : n ≡ 0 → 0 < length before → new.ended ≡ true
   pub not_found : 0 < n ⊎ (length before ≡ 0) → new.ended ≡ old.ended
-  pub moved : IsTrue old.tells → Moved old before n new after
+  pub moved : IsTrue old.reports → Moved old before n new after
 
 -- what a read that failed does
 pub record NotRead (old new : Moment) : Type 0 where
@@ -73,7 +73,7 @@ pub record NotRead (old new : Moment) : Type 0 where
   pub begun : new.begun ≡ old.begun
   pub taken : new.taken ≡ old.taken
   pub ended : new.ended ≡ old.ended
-  pub rest : IsTrue old.tells → new.rest ≡ old.rest
+  pub rest : IsTrue old.reports → new.rest ≡ old.rest
 
 abbrev pub HasRead : Moment → List ℕ → Result ℕ Failed → Moment → List ℕ → Type 0
 HasRead old before (Ok n) new after = Read old before n new after

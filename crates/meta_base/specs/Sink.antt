@@ -6,7 +6,7 @@ use Rattle.meta_base.specs.declared.errors.Failed.{Failed}
 -- what a sink shows at one moment
 pub record Held : Type 0 where
   -- whether it tells the bytes
-  pub tells : Bool
+  pub reports : Bool
   -- the bytes that it took
   pub bytes : List ℕ
   -- the count of faults
@@ -17,16 +17,16 @@ pub record Took (old : Held) (piece : List ℕ) (n : ℕ) (new : Held) : Type 0 
   pub fits : n ≤ length piece
   pub some : 0 < length piece → 0 < n
   pub faults : new.faults ≡ old.faults
-  pub tells : new.tells ≡ old.tells
-  pub bytes : IsTrue old.tells → new.bytes ≡ old.bytes ++ take n piece
+  pub reports : new.reports ≡ old.reports
+  pub bytes : IsTrue old.reports → new.bytes ≡ old.bytes ++ take n piece
 
 -- nothing was taken of a piece that isn't empty
 pub record Refused (old : Held) (piece : List ℕ) (new : Held) : Type 0 where
   pub some : 0 < length piece
   pub risen : HasRisen old.faults new.faults
   pub faults : old.faults ≤ new.faults
-  pub tells : new.tells ≡ old.tells
-  pub bytes : IsTrue old.tells → new.bytes ≡ old.bytes
+  pub reports : new.reports ≡ old.reports
+  pub bytes : IsTrue old.reports → new.bytes ≡ old.bytes
 
 abbrev pub HasWritten : Held → List ℕ → Result ℕ Failed → Held → Type 0
 HasWritten old piece (Ok n) new = Took old piece n new
@@ -35,15 +35,15 @@ HasWritten old piece (Err _) new = Refused old piece new
 -- the whole piece was appended, and no write failed
 pub record Appended (old : Held) (piece : List ℕ) (new : Held) : Type 0 where
   pub faults : new.faults ≡ old.faults
-  pub tells : new.tells ≡ old.tells
-  pub bytes : IsTrue old.tells → new.bytes ≡ old.bytes ++ piece
+  pub reports : new.reports ≡ old.reports
+  pub bytes : IsTrue old.reports → new.bytes ≡ old.bytes ++ piece
 
 -- a front of the piece that isn't all of it was appended, and the count rose
 pub record AppendedPart (old : Held) (piece : List ℕ) (new : Held) : Type 0 where
   pub risen : HasRisen old.faults new.faults
   pub faults : old.faults ≤ new.faults
-  pub tells : new.tells ≡ old.tells
-  pub bytes : IsTrue old.tells → (n : ℕ) × (n < length piece) × (new.bytes ≡ old.bytes ++ take n piece)
+  pub reports : new.reports ≡ old.reports
+  pub bytes : IsTrue old.reports → (n : ℕ) × (n < length piece) × (new.bytes ≡ old.bytes ++ take n piece)
 
 abbrev pub Puts : {A : Type 0} → Held → List ℕ → Result A Failed → Held → Type 0
 Puts old piece (Ok _) new = Appended old piece new
@@ -53,5 +53,5 @@ Puts old piece (Err _) new = AppendedPart old piece new
 pub record HasFront (old : Held) (piece : List ℕ) (n : ℕ) (new : Held) : Type 0 where
   pub within : n ≤ length piece
   pub faults : new.faults ≡ old.faults
-  pub tells : new.tells ≡ old.tells
-  pub bytes : IsTrue old.tells → new.bytes ≡ old.bytes ++ take n piece
+  pub reports : new.reports ≡ old.reports
+  pub bytes : IsTrue old.reports → new.bytes ≡ old.bytes ++ take n piece

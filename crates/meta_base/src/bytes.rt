@@ -1,7 +1,7 @@
 //! Kinds of bytes, as all texts of the project read them: ASCII alone.
 ghost use Rattle.std.specs.Prelude.{◌≡◌};
 ghost use Rattle.std.specs.List.{list_all};
-ghost use Rattle.meta_base.specs.Bytes.{is_space, is_blank, is_digit, is_letter, is_word_byte, is_word, behind};
+ghost use Rattle.meta_base.specs.Bytes.{is_space, is_blank, is_digit, is_letter, is_word_byte, is_word, after_front};
 
 /// Whether the byte is a space, a tab, a line feed or a carriage return.
 pub fn is_space(byte: u8) -> bool
@@ -18,8 +18,8 @@ pub fn is_blank(byte: u8) -> bool
 }
 
 /// What comes after the blanks at the front.
-pub fn behind_blanks(text: &[u8]) -> &[u8]
-    ensures { result.now ≡ behind is_blank text.now }
+pub fn after_blanks(text: &[u8]) -> &[u8]
+    ensures { result.now ≡ after_front is_blank text.now }
 {
     let mut rest = text;
     while let [byte, after @ ..] = rest {

@@ -1,6 +1,7 @@
-ghost use Rattle.std.specs.Prelude.{◌≡◌, ◌⊎◌, ◌<◌, ◌≤◌, ℕ, List, Some, None, true, false, length, IfOk, OnOk, IsTrue, IsErrOf};
+ghost use Rattle.std.specs.Prelude.{◌≡◌, ◌⊎◌, ◌+◌, ◌<◌, ◌≤◌, ℕ, List, Some, None, true, false, length, IfOk, OnOk, IsTrue, IsErrOf};
 ghost use Rattle.meta_base.specs.Count.{HasRisen, raised};
-ghost use Rattle.meta_base.specs.Shelf.{Keeps, IsAbsent};
+ghost use Rattle.meta_base.specs.Offers.{IsOffer, greatest_offer};
+ghost use Rattle.meta_base.specs.Shelf.{Keeps, IsAbsent, HasRead};
 ghost use Rattle.meta_base.specs.Sink.{Puts};
 
 use crate::{Failed, List, MAX_FILE_BYTES, Shelf, Sink, TakeError};
@@ -9,12 +10,21 @@ use std::alloc::Global;
 // How many bytes are asked for at a time.
 const CHUNK: usize = 16384;
 
+// Moves the next bytes into the buffer, which has room for 4,096 bytes at least.
+fn read_on<S: Shelf>(shelf: &mut S, buf: &mut [u8]) -> Result<usize, Failed>
+    requires offer { IsOffer (length buf.old) }
+    ensures keeps { Keeps (S.now_is shelf.old) (S.now_is shelf.new) }
+    ensures read { HasRead (S.now_is shelf.old) buf.old result (S.now_is shelf.new) buf.new }
+{
+    shelf.read(buf)
+}
+
 /// Takes all bytes of the file `name`, which may have at most `limit` of them.
 ///
 /// It begins one file, and each read is offered a buffer of 16,384 bytes. [`TakeError::Fault`] comes only
 /// where the shelf's count of faults rose or where the shelf tells that it has no such file, and before the
 /// file's end was found; after any other answer the count is as it was. [`TakeError::TooLong`] comes exactly
-/// where more than `limit` bytes were taken. The file stays begun, read as far as the answer needed.
+/// where more than `limit` bytes were taken, and then at most one buffer more. The file stays begun.
 pub fn take_all<S: Shelf>(
     alloc: Global,
     shelf: &mut S,
@@ -36,16 +46,17 @@ pub fn take_all<S: Shelf>(
     ensures fault { IsErrOf result TakeError.Fault →
         HasRisen (S.now_is shelf.old).faults (S.now_is shelf.new).faults ⊎ IsAbsent (S.now_is shelf.old) name.now }
     ensures fault_open { IsErrOf result TakeError.Fault → (S.now_is shelf.new).ended ≡ false }
+    ensures no_more { (S.now_is shelf.new).taken ≤ limit + greatest_offer }
     ensures too_long { IsErrOf result TakeError.TooLong → limit < (S.now_is shelf.new).taken }
     ensures only_too_long { limit < (S.now_is shelf.new).taken → IsErrOf result TakeError.TooLong }
-    ensures too_long_told { IsErrOf result TakeError.TooLong → IsTrue (S.now_is shelf.old).tells →
+    ensures too_long_reported { IsErrOf result TakeError.TooLong → IsTrue (S.now_is shelf.old).reports →
         ((bytes : List ℕ) × ((S.now_is shelf.old).file name.now ≡ Some bytes) × (limit < length bytes)) }
 
     // What is taken is the file, to its end.
     ensures count { IfOk result (λ bytes. length bytes ≡ (S.now_is shelf.new).taken) }
     ensures end { OnOk result ((S.now_is shelf.new).ended ≡ true) }
     ensures whole { IfOk result (λ bytes.
-        IsTrue (S.now_is shelf.old).tells → (S.now_is shelf.old).file name.now ≡ Some bytes) }
+        IsTrue (S.now_is shelf.old).reports → (S.now_is shelf.old).file name.now ≡ Some bytes) }
 {
     let mut bytes = Vec::new(alloc);
     let mut chunk = [0u8; CHUNK];
@@ -54,7 +65,7 @@ pub fn take_all<S: Shelf>(
         Err(Failed) => return Err(TakeError::Fault),
     }
     loop {
-        match shelf.read(&mut chunk) {
+        match read_on(shelf, &mut chunk) {
             Ok(0) => return Ok(List::from_vec(bytes)),
             Ok(n) if n > limit - bytes.len() => return Err(TakeError::TooLong),
             Ok(n) => bytes.extend_from_slice(&chunk[..n])?,

@@ -8,20 +8,25 @@ use Rattle.alg_model.specs.Expressions.{PureAlg, PureLabel}
 use Rattle.alg_model.specs.Application.{IsLabel}
 use Rattle.raml_syntax.specs.declared.faults.ExprFault.{ExprFault}
 use Rattle.raml_syntax.specs.ExprText.{ExprText, IsExprFault}
-use Rattle.net_facts.specs.LackLaws.{first_refutes}
+use Rattle.net_facts.specs.MissingLaws.{first_refutes}
 use Rattle.net_graph.specs.Nets.{PureNet}
 use Rattle.topology_file.specs.NetText.{PureNetFile, NetText, HasOneOutcome, changed_net}
-use Rattle.report_text.specs.Refusals.{PureRefusal, words, expr, network, lacks, read, long, memory}
+use Rattle.report_text.specs.Refusals.{PureRefusal, words, expr, network, misses, read, long, memory}
 use Rattle.metacli.specs.Answers.{done, refused}
 use Rattle.metacli.specs.Reading.{Holds, IsUntaken, IsReadAs, IsExprRefusal, IsNetRefusal}
-use Rattle.metacli.specs.Outcome.{PureOutcome, stopped, checked, coded, routed, wedged, ran, shown, answer_in, IsCheckedAs, IsWedgedAs, IsAlgebraChecked, IsAlgebraWedged, IsNetworkChecked, IsOnArc, IsCodedAs, IsAlgebraCoded, IsNetworkCoded, labels_on, IsRoutedAs, IsNetworkRouted, IsRunAs, IsNetworkRun, IsRunOn, IsShownAs, IsFit, IsRouted, asked_of, GoesOnFrom, GoesOnOver, WithNetwork, ComesBy, word_at}
-use Rattle.metacli.specs.Complete.{IsUnlessMemory, IsTold, IsJudged, IsNetJudged, IsAny, IsDecided, IsDone, IsRunOut, IsRoutedWholly, CompleteBy}
+use Rattle.metacli.specs.Outcome.{PureOutcome, stopped, checked, coded, routed, wedged, ran, shown, answer_in, ComesBy, ComesOf, GoesOnFrom, GoesOnOver, IsCheckedAs, IsCodedAs, IsFit, IsMadeAlone, IsMadeOn, IsOnArc, IsRoutedAs, IsRunAs, IsShownAs, IsWedgedAs, WithNetwork, asked_of, labels_on, word_at}
+use Rattle.metacli.specs.Complete.{CompleteBy, IsAnsweredAlone, IsAnsweredOn, IsCompleteOf, IsDecided, IsDone, IsFitFor, IsJudged, IsNetJudged, IsRunOut, IsReported, IsUnlessMemory}
 use Rattle.command_words.specs.declared.command.Command.{Command}
-use Rattle.command_words.specs.declared.command.Command.TheVariants.{Check, Code, Route, Settle, Stable, Run, Trace, Gadget, Demo}
 use Rattle.command_words.specs.declared.command.Required.{Required}
 use Rattle.command_words.specs.declared.command.WordsFault.{WordsFault}
 use Rattle.metacli.specs.declared.routing.Solution.{Solution}
-use Rattle.metacli.specs.declared.routing.Solution.TheVariants.{Unbeaten, Settled, AllStable}
+use Rattle.metacli.specs.Tasks.{task_of}
+use Rattle.metacli.specs.declared.task.AlgebraTask.{AlgebraTask}
+use Rattle.metacli.specs.declared.task.AlgebraTask.TheVariants as alone
+use Rattle.metacli.specs.declared.task.NetworkTask.{NetworkTask}
+use Rattle.metacli.specs.declared.task.NetworkTask.TheVariants as joint
+use Rattle.metacli.specs.declared.task.Task.{Task}
+use Rattle.metacli.specs.declared.task.Task.TheVariants as task
 
 -- the laws of texts
 pub record Laws : Type 0 where
@@ -31,18 +36,18 @@ pub record Laws : Type 0 where
   pub network : (text : List ℕ) (a : PureAlg) → HasOneOutcome text a
 
 -- what the shelf tells holds of the bytes that it tells
-told : (m new : Moment) (name bytes : List ℕ) (P : List ℕ → Type 0) → Holds m name P new → IsTold m name bytes → P bytes
-told m new name bytes P h t =
+reported : (m new : Moment) (name bytes : List ℕ) (P : List ℕ → Type 0) → Holds m name P new → IsReported m name bytes → P bytes
+reported m new name bytes P h t =
     let f = t.file in
-    let e : h.0 ≡ bytes = cc (h.2.told t.tells) in
+    let e : h.0 ≡ bytes = cc (h.2.reported t.reports) in
     subst P e h.1
 
 -- a file whose bytes are shown is taken, unless memory is refused
-untaken : (which : Which) (name bytes : List ℕ) (old new : Moment) (r : PureRefusal) → IsUntaken which name old new r → IsTold old name bytes
+untaken : (which : Which) (name bytes : List ℕ) (old new : Moment) (r : PureRefusal) → IsUntaken which name old new r → IsReported old name bytes
     → ¬ HasRisen old.faults new.faults → r ≡ memory
 untaken which name bytes old new (read w) h t quiet = absurd (⊎_elim quiet (λ absent. let n = absent.1 in let f = t.file in cc) h.2)
 untaken which name bytes old new (long w) h t quiet =
-    let x = h.2 t.tells in
+    let x = h.2 t.reports in
     let f = t.file in
     let same : x.0 ≡ bytes = cc x.1 in
     absurd (omega (arith, x.2, ap length same, t.short))
@@ -50,15 +55,15 @@ untaken which name bytes old new memory h t quiet = refl
 untaken which name bytes old new (words n) h t quiet = absurd h
 untaken which name bytes old new (expr f) h t quiet = absurd h
 untaken which name bytes old new (network f) h t quiet = absurd h
-untaken which name bytes old new (lacks arc x) h t quiet = absurd h
+untaken which name bytes old new (misses arc x) h t quiet = absurd h
 
 -- where nothing rose before, nothing rose in all
 risen_later : (a b c : ℕ) → a ≤ b → HasRisen b c → HasRisen a c
 risen_later a b c h r = ⊎_elim (λ e. inl (omega (arith, e))) inr r
 
 -- what is shown stays shown
-told_later : (old between : Moment) (name bytes : List ℕ) → Keeps old between → IsTold old name bytes → IsTold between name bytes
-told_later old between name bytes k t = record { tells = rw k.tells t.tells; file = k.file name ∙ t.file; short = t.short }
+reported_later : (old between : Moment) (name bytes : List ℕ) → Keeps old between → IsReported old name bytes → IsReported between name bytes
+reported_later old between name bytes k t = record { reports = rw k.reports t.reports; file = k.file name ∙ t.file; short = t.short }
 
 -- Expression files.
 
@@ -75,7 +80,7 @@ judged_bad laws bytes (expr g) Follows o x e = record {
 }
 judged_bad laws bytes (words n) Follows o x e = absurd x
 judged_bad laws bytes (network f) Follows o x e = absurd x
-judged_bad laws bytes (lacks arc i) Follows o x e = absurd x
+judged_bad laws bytes (misses arc i) Follows o x e = absurd x
 judged_bad laws bytes (read w) Follows o x e = absurd x
 judged_bad laws bytes (long w) Follows o x e = absurd x
 judged_bad laws bytes memory Follows o x e = absurd x
@@ -85,15 +90,15 @@ judged_memory bytes Follows o e all = record { bad = λ f x. inr e; good = λ a 
 
 -- what comes of the expression file is judged, if what comes of its algebra follows
 judged : Laws → (name bytes : List ℕ) (Then : PureAlg → Moment → Moment → PureOutcome → Type 0) (Follows : PureAlg → Type 0) (old between new : Moment) (o : PureOutcome)
-    (r : Result PureAlg PureRefusal) → IsReadAs Expr name ExprText IsExprRefusal old r between → GoesOnFrom Then between new o r → IsTold old name bytes
+    (r : Result PureAlg PureRefusal) → IsReadAs Expr name ExprText IsExprRefusal old r between → GoesOnFrom Then between new o r → IsReported old name bytes
     → ¬ HasRisen old.faults new.faults → ((a : PureAlg) → Then a between new o → Follows a) → (answer_in o ≡ refused memory → (a : PureAlg) → Follows a) → IsJudged bytes Follows o
 judged laws name bytes Then Follows old between new o (Ok a) h on t quiet over without =
-    judged_good laws bytes a Follows o (told old between name bytes (λ b. ExprText b a) h t) (over a on)
+    judged_good laws bytes a Follows o (reported old between name bytes (λ b. ExprText b a) h t) (over a on)
 judged laws name bytes Then Follows old between new o (Err r) h on t quiet over without = ⊎_elim
     (λ u.
     let e : answer_in o ≡ refused memory = ap answer_in on.1 ∙ ap refused (untaken Expr name bytes old between r u t (subst (λ (m : Moment). ¬ HasRisen old.faults m.faults) on.0 quiet)) in
     judged_memory bytes Follows o e (without e))
-    (λ f. judged_bad laws bytes r Follows o (told old between name bytes (λ b. IsExprRefusal b r) f t) (ap answer_in on.1))
+    (λ f. judged_bad laws bytes r Follows o (reported old between name bytes (λ b. IsExprRefusal b r) f t) (ap answer_in on.1))
     h
 
 -- Network files.
@@ -112,7 +117,7 @@ net_judged_bad laws bytes Fits Carries a (network g) o x e = record {
 }
 net_judged_bad laws bytes Fits Carries a (words n) o x e = absurd x
 net_judged_bad laws bytes Fits Carries a (expr f) o x e = absurd x
-net_judged_bad laws bytes Fits Carries a (lacks arc i) o x e = absurd x
+net_judged_bad laws bytes Fits Carries a (misses arc i) o x e = absurd x
 net_judged_bad laws bytes Fits Carries a (read w) o x e = absurd x
 net_judged_bad laws bytes Fits Carries a (long w) o x e = absurd x
 net_judged_bad laws bytes Fits Carries a memory o x e = absurd x
@@ -122,20 +127,20 @@ net_judged_memory bytes Fits Carries o a e of = record { bad = λ f x. inr e; go
 
 -- what comes of the network file is judged, if its network is carried out
 net_judged : Laws → (a : PureAlg) (name bytes : List ℕ) (Fits : PureNet → Type 0) (Carries : PureOutcome → Type 0) (Then : PureNetFile → PureOutcome → Type 0) (old new : Moment) (o : PureOutcome) (r : Result PureNetFile PureRefusal)
-    → IsReadAs Network name (λ text. NetText text a) (IsNetRefusal a) old r new → GoesOnOver a Then o r → IsTold old name bytes → ¬ HasRisen old.faults new.faults
+    → IsReadAs Network name (λ text. NetText text a) (IsNetRefusal a) old r new → GoesOnOver a Then o r → IsReported old name bytes → ¬ HasRisen old.faults new.faults
     → (IsUnlessMemory o done → Carries o) → ((f : PureNetFile) → Then f o → Fits (changed_net f) → Carries o) → IsNetJudged bytes Fits Carries o a
 net_judged laws a name bytes Fits Carries Then old new o (Ok f) h on t quiet of ends =
-    net_judged_good laws bytes Fits Carries a f o (told old new name bytes (λ b. NetText b a f) h t) (ends f on)
+    net_judged_good laws bytes Fits Carries a f o (reported old new name bytes (λ b. NetText b a f) h t) (ends f on)
 net_judged laws a name bytes Fits Carries Then old new o (Err r) h on t quiet of ends = ⊎_elim
     (λ u. net_judged_memory bytes Fits Carries o a (ap answer_in on ∙ ap refused (untaken Network name bytes old new r u t quiet)) of)
-    (λ f. net_judged_bad laws bytes Fits Carries a r o (told old new name bytes (λ b. IsNetRefusal a b r) f t) (ap answer_in on))
+    (λ f. net_judged_bad laws bytes Fits Carries a r o (reported old new name bytes (λ b. IsNetRefusal a b r) f t) (ap answer_in on))
     h
 
 over_network : Laws → (a : PureAlg) (name bytes : List ℕ) (Fits : PureNet → Type 0) (Carries : PureOutcome → Type 0) (Then : PureNetFile → PureOutcome → Type 0) (old between new : Moment) (o : PureOutcome)
-    → Keeps old between → WithNetwork a name Then between new o → IsTold old name bytes → ¬ HasRisen old.faults new.faults
+    → Keeps old between → WithNetwork a name Then between new o → IsReported old name bytes → ¬ HasRisen old.faults new.faults
     → (IsUnlessMemory o done → Carries o) → ((f : PureNetFile) → Then f o → Fits (changed_net f) → Carries o) → IsNetJudged bytes Fits Carries o a
 over_network laws a name bytes Fits Carries Then old between new o k w t quiet of ends =
-    net_judged laws a name bytes Fits Carries Then between new o w.network w.reads.as_read w.goes_on (told_later old between name bytes k t)
+    net_judged laws a name bytes Fits Carries Then between new o w.network w.reads.as_read w.goes_on (reported_later old between name bytes k t)
     (λ r. quiet (risen_later old.faults between.faults new.faults k.faults r)) of ends
 
 -- What was read is carried out.
@@ -147,7 +152,7 @@ checked_done r a file S (stopped b f memory) h = inl (inr refl)
 checked_done r a file S (stopped b f (words n)) h = absurd h
 checked_done r a file S (stopped b f (expr g)) h = absurd h
 checked_done r a file S (stopped b f (network g)) h = absurd h
-checked_done r a file S (stopped b f (lacks arc x)) h = absurd h
+checked_done r a file S (stopped b f (misses arc x)) h = absurd h
 checked_done r a file S (stopped b f (read w)) h = absurd h
 checked_done r a file S (stopped b f (long w)) h = absurd h
 checked_done r a file S (coded b f listing) h = absurd h
@@ -162,7 +167,7 @@ wedged_done a (stopped b None memory) h = inr refl
 wedged_done a (stopped b None (words n)) h = absurd h
 wedged_done a (stopped b None (expr g)) h = absurd h
 wedged_done a (stopped b None (network g)) h = absurd h
-wedged_done a (stopped b None (lacks arc x)) h = absurd h
+wedged_done a (stopped b None (misses arc x)) h = absurd h
 wedged_done a (stopped b None (read w)) h = absurd h
 wedged_done a (stopped b None (long w)) h = absurd h
 wedged_done a (stopped b (Some f) r) h = absurd h
@@ -178,7 +183,7 @@ coded_done a file labels (stopped b f memory) h = inr refl
 coded_done a file labels (stopped b f (words n)) h = absurd h
 coded_done a file labels (stopped b f (expr g)) h = absurd h
 coded_done a file labels (stopped b f (network g)) h = absurd h
-coded_done a file labels (stopped b f (lacks arc x)) h = absurd h
+coded_done a file labels (stopped b f (misses arc x)) h = absurd h
 coded_done a file labels (stopped b f (read w)) h = absurd h
 coded_done a file labels (stopped b f (long w)) h = absurd h
 coded_done a file labels (checked b f v u) h = absurd h
@@ -190,7 +195,7 @@ coded_done a file labels (shown b f last) h = absurd h
 -- a network whose labels are fit has no arc that doesn't have what is asked
 routed_done : (solution : Solution) (a : PureAlg) (file : PureNetFile) (o : PureOutcome) → IsRoutedAs solution a file o → IsFit solution (changed_net file) → IsUnlessMemory o done
 routed_done solution a file (routed s b f rows) h fit = inl refl
-routed_done solution a file (stopped b f (lacks arc x)) h fit = absurd (first_refutes (asked_of solution) (changed_net file) arc x.property h.2.first fit)
+routed_done solution a file (stopped b f (misses arc x)) h fit = absurd (first_refutes (asked_of solution) (changed_net file) arc x.property h.2.first fit)
 routed_done solution a file (stopped b f memory) h fit = inr refl
 routed_done solution a file (stopped b f (words n)) h fit = absurd h
 routed_done solution a file (stopped b f (expr g)) h fit = absurd h
@@ -210,7 +215,7 @@ run_out traced turns a file (stopped b f memory) h = inl (inr refl)
 run_out traced turns a file (stopped b f (words n)) h = absurd h
 run_out traced turns a file (stopped b f (expr g)) h = absurd h
 run_out traced turns a file (stopped b f (network g)) h = absurd h
-run_out traced turns a file (stopped b f (lacks arc x)) h = absurd h
+run_out traced turns a file (stopped b f (misses arc x)) h = absurd h
 run_out traced turns a file (stopped b f (read w)) h = absurd h
 run_out traced turns a file (stopped b f (long w)) h = absurd h
 run_out traced turns a file (checked b f v u) h = absurd h
@@ -225,7 +230,7 @@ shown_out seed nodes (stopped None None memory) h = inr refl
 shown_out seed nodes (stopped None None (words n)) h = absurd h
 shown_out seed nodes (stopped None None (expr g)) h = absurd h
 shown_out seed nodes (stopped None None (network g)) h = absurd h
-shown_out seed nodes (stopped None None (lacks arc x)) h = absurd h
+shown_out seed nodes (stopped None None (misses arc x)) h = absurd h
 shown_out seed nodes (stopped None None (read w)) h = absurd h
 shown_out seed nodes (stopped None None (long w)) h = absurd h
 shown_out seed nodes (stopped (Some a) f r) h = absurd h
@@ -236,46 +241,43 @@ shown_out seed nodes (routed s b f rows) h = absurd h
 shown_out seed nodes (wedged b v) h = absurd h
 shown_out seed nodes (ran b f t past last quiet) h = absurd h
 
--- what route or settle comes to is judged
-routed_wholly : Laws → (solution : Solution) (file net : List ℕ) (old new : Moment) (o : PureOutcome) → IsRouted solution file net old new o → IsRoutedWholly solution file net old new o
-routed_wholly laws solution file net old new o h = λ bytes net_bytes t u quiet.
-    judged laws file bytes (IsNetworkRouted solution net) (IsNetJudged net_bytes (IsFit solution) IsDone o) old h.between new o h.expression h.reads.as_read h.goes_on t quiet
-    (λ a x. over_network laws a net net_bytes (IsFit solution) IsDone (IsRoutedAs solution a) old h.between new o h.reads.keeps x u quiet (λ d. d) (λ f y fit. routed_done solution a f o y fit))
-    (λ e a. net_judged_memory net_bytes (IsFit solution) IsDone o a e (λ d. d))
+-- what is made of an algebra answers what was asked
+alone_answered : (asked : AlgebraTask) (a : PureAlg) (o : PureOutcome) → IsMadeAlone asked a o → IsAnsweredAlone asked o
+alone_answered (alone.Check r) a o h = checked_done r a None (IsLabel a.expression) o h.0
+alone_answered alone.Code a o h = coded_done a None [] o h
+alone_answered alone.Gadget a o h = wedged_done a o h
 
--- what run or trace comes to is judged
-ran_complete : Laws → (file net : List ℕ) (traced : Bool) (turns : ℕ) (old new : Moment) (o : PureOutcome) → IsRunOn traced turns file net old new o → (bytes net_bytes : List ℕ) → IsTold old file bytes → IsTold old net net_bytes
-    → ¬ HasRisen old.faults new.faults → IsJudged bytes (IsNetJudged net_bytes IsAny IsRunOut o) o
-ran_complete laws file net traced turns old new o h bytes net_bytes t u quiet =
-    judged laws file bytes (IsNetworkRun traced turns net) (IsNetJudged net_bytes IsAny IsRunOut o) old h.between new o h.expression h.reads.as_read h.goes_on t quiet
-    (λ a x. over_network laws a net net_bytes IsAny IsRunOut (IsRunAs traced turns a) old h.between new o h.reads.keeps x u quiet inl (λ f y any. run_out traced turns a f o y))
-    (λ e a. net_judged_memory net_bytes IsAny IsRunOut o a e inl)
+-- and so does want of memory
+alone_unless : (asked : AlgebraTask) (o : PureOutcome) → answer_in o ≡ refused memory → IsAnsweredAlone asked o
+alone_unless (alone.Check r) o e = inl (inr e)
+alone_unless alone.Code o e = inr e
+alone_unless alone.Gadget o e = inr e
 
-pub complete : Laws → (text : List (List ℕ)) (old new : Moment) (c : Option Command) (o : PureOutcome) (r : Result Command WordsFault)
-    → ComesBy text r old new c o → CompleteBy text old new o r
-complete laws text old new c o (Ok (Check file None r)) h = λ bytes t quiet.
-    judged laws (word_at text file) bytes (IsAlgebraChecked r) (λ a. IsDecided o) old h.1.between new o h.1.expression h.1.reads.as_read h.1.goes_on t quiet
-    (λ a x. checked_done r a None (IsLabel a.expression) o x.1) (λ e a. inl (inr e))
-complete laws text old new c o (Ok (Check file (Some net) r)) h = λ bytes net_bytes t u quiet.
-    judged laws (word_at text file) bytes (IsNetworkChecked r (word_at text net)) (IsNetJudged net_bytes IsAny IsDecided o) old h.1.between new o h.1.expression h.1.reads.as_read h.1.goes_on t quiet
-    (λ a x. over_network laws a (word_at text net) net_bytes IsAny IsDecided (λ f. IsCheckedAs r a (Some f) (IsOnArc (changed_net f))) old h.1.between new o h.1.reads.keeps x u quiet inl
-    (λ f y any. checked_done r a (Some f) (IsOnArc (changed_net f)) o y))
-    (λ e a. net_judged_memory net_bytes IsAny IsDecided o a e inl)
-complete laws text old new c o (Ok (Code file None)) h = λ bytes t quiet.
-    judged laws (word_at text file) bytes IsAlgebraCoded (λ a. IsUnlessMemory o done) old h.1.between new o h.1.expression h.1.reads.as_read h.1.goes_on t quiet
-    (λ a x. coded_done a None [] o x.1) (λ e a. inr e)
-complete laws text old new c o (Ok (Code file (Some net))) h = λ bytes net_bytes t u quiet.
-    judged laws (word_at text file) bytes (IsNetworkCoded (word_at text net)) (IsNetJudged net_bytes IsAny IsDone o) old h.1.between new o h.1.expression h.1.reads.as_read h.1.goes_on t quiet
-    (λ a x. over_network laws a (word_at text net) net_bytes IsAny IsDone (λ f. IsCodedAs a (Some f) (labels_on (changed_net f))) old h.1.between new o h.1.reads.keeps x u quiet (λ d. d)
-    (λ f y any. coded_done a (Some f) (labels_on (changed_net f)) o y))
-    (λ e a. net_judged_memory net_bytes IsAny IsDone o a e (λ d. d))
-complete laws text old new c o (Ok (Route file net workers)) h = routed_wholly laws Unbeaten (word_at text file) (word_at text net) old new o h.1
-complete laws text old new c o (Ok (Settle file net)) h = routed_wholly laws Settled (word_at text file) (word_at text net) old new o h.1
-complete laws text old new c o (Ok (Stable file net)) h = routed_wholly laws AllStable (word_at text file) (word_at text net) old new o h.1
-complete laws text old new c o (Ok (Run file net workers turns)) h = ran_complete laws (word_at text file) (word_at text net) false turns old new o h.1
-complete laws text old new c o (Ok (Trace file net workers turns)) h = ran_complete laws (word_at text file) (word_at text net) true turns old new o h.1
-complete laws text old new c o (Ok (Gadget file)) h = λ bytes t quiet.
-    judged laws (word_at text file) bytes IsAlgebraWedged (λ a. IsUnlessMemory o done) old h.1.between new o h.1.expression h.1.reads.as_read h.1.goes_on t quiet
-    (λ a x. wedged_done a o x.1) (λ e a. inr e)
-complete laws text old new c o (Ok (Demo seed nodes)) h = shown_out seed nodes o h.2
-complete laws text old new c o (Err f) h = tt
+-- what is made of a network file answers what was asked, where the network is fit
+on_answered : (asked : NetworkTask) (a : PureAlg) (f : PureNetFile) (o : PureOutcome) → IsMadeOn asked a f o → IsFitFor asked (changed_net f) → IsAnsweredOn asked o
+on_answered (joint.Check r) a f o h fit = checked_done r a (Some f) (IsOnArc (changed_net f)) o h
+on_answered joint.Code a f o h fit = coded_done a (Some f) (labels_on (changed_net f)) o h
+on_answered (joint.Route solution workers) a f o h fit = routed_done solution a f o h fit
+on_answered (joint.Run workers turns traced) a f o h fit = run_out traced turns a f o h
+
+on_unless : (asked : NetworkTask) (o : PureOutcome) → IsUnlessMemory o done → IsAnsweredOn asked o
+on_unless (joint.Check r) o d = inl d
+on_unless joint.Code o d = d
+on_unless (joint.Route solution workers) o d = d
+on_unless (joint.Run workers turns traced) o d = inl d
+
+complete_of : Laws → (text : List (List ℕ)) (old new : Moment) (o : PureOutcome) (t : Task) → ComesOf text t old new o → IsCompleteOf text old new o t
+complete_of laws text old new o (task.Demo seed nodes) h = shown_out seed nodes o h.1
+complete_of laws text old new o (task.Alone file asked) h = λ bytes t quiet.
+    judged laws (word_at text file) bytes (λ a old new o. (new ≡ old) × IsMadeAlone asked a o) (λ a. IsAnsweredAlone asked o) old h.between new o h.expression h.reads.as_read h.goes_on t quiet
+    (λ a x. alone_answered asked a o x.1) (λ e a. alone_unless asked o e)
+complete_of laws text old new o (task.On file net asked) h = λ bytes net_bytes t u quiet.
+    judged laws (word_at text file) bytes (λ a. WithNetwork a (word_at text net) (IsMadeOn asked a)) (IsNetJudged net_bytes (IsFitFor asked) (IsAnsweredOn asked) o)
+    old h.between new o h.expression h.reads.as_read h.goes_on t quiet
+    (λ a x. over_network laws a (word_at text net) net_bytes (IsFitFor asked) (IsAnsweredOn asked) (IsMadeOn asked a) old h.between new o h.reads.keeps x u quiet (on_unless asked o)
+    (λ f y fit. on_answered asked a f o y fit))
+    (λ e a. net_judged_memory net_bytes (IsFitFor asked) (IsAnsweredOn asked) o a e (on_unless asked o))
+
+pub complete : Laws → (text : List (List ℕ)) (old new : Moment) (o : PureOutcome) (r : Result Command WordsFault) → ComesBy text r old new o → CompleteBy text old new o r
+complete laws text old new o (Ok c) h = complete_of laws text old new o (task_of c) h
+complete laws text old new o (Err f) h = tt

@@ -17,7 +17,7 @@ use Rattle.meta_base.specs.declared.ids.Delivery.{Delivery}
 use Rattle.net_graph.specs.Tables.{PureRow}
 use Rattle.report_text.specs.RunTexts.{delivery_text}
 use Rattle.report_text.specs.SummaryTexts.{reach_text, reaches_text}
-use Rattle.report_text.specs.Refusals.{words, expr, network, lacks, read, long, memory}
+use Rattle.report_text.specs.Refusals.{words, expr, network, misses, read, long, memory}
 use Rattle.report_text.specs.VerdictTexts.{verdict_text, lines_on}
 use Rattle.metacli.specs.Answers.{PureAnswer, done, refused, spent, unmet, write_fault}
 use Rattle.metacli.specs.Texts.{HasLines, PutsText, Written, cut_answer, journal_text, rows_text}
@@ -33,7 +33,7 @@ all_written old new text (refused memory) h a = (λ _. a, (length text, rw (take
 all_written old new text (refused (words n)) h a = (refl, a)
 all_written old new text (refused (expr f)) h a = (refl, a)
 all_written old new text (refused (network f)) h a = (refl, a)
-all_written old new text (refused (lacks arc x)) h a = (refl, a)
+all_written old new text (refused (misses arc x)) h a = (refl, a)
 all_written old new text (refused (read w)) h a = (refl, a)
 all_written old new text (refused (long w)) h a = (refl, a)
 all_written old new text write_fault h a = absurd (h refl)
@@ -42,7 +42,7 @@ pub lines_begin : (held : Held) (text : List ℕ) → HasLines held text text he
 lines_begin held text = record {
   front = [];
   split = refl;
-  appended = record { faults = omega arith; tells = refl; bytes = λ told. sym (append-nil held.bytes) };
+  appended = record { faults = omega arith; reports = refl; bytes = λ reported. sym (append-nil held.bytes) };
 }
 
 pub lines_more : (old now new : Held) (text line rest : List ℕ) → HasLines old text (line ++ rest) now → Appended now line new → HasLines old text rest new
@@ -51,8 +51,8 @@ lines_more old now new text line rest h a = record {
   split = h.split ∙ sym (append_assoc h.front line rest);
   appended = record {
     faults = omega (arith, h.appended.faults, a.faults);
-    tells = a.tells ∙ h.appended.tells;
-    bytes = λ told. a.bytes (rw h.appended.tells told) ∙ ap (λ x. x ++ line) (h.appended.bytes told) ∙ append_assoc old.bytes h.front line;
+    reports = a.reports ∙ h.appended.reports;
+    bytes = λ reported. a.bytes (rw h.appended.reports reported) ∙ ap (λ x. x ++ line) (h.appended.bytes reported) ∙ append_assoc old.bytes h.front line;
   };
 }
 
@@ -60,12 +60,12 @@ pub lines_cut : (old now new : Held) (text line rest : List ℕ) → HasLines ol
 lines_cut old now new text line rest h a = record {
   risen = ⊎_elim (λ e. inl (omega (arith, e, h.appended.faults))) inr a.risen;
   faults = omega (arith, h.appended.faults, a.faults);
-  tells = a.tells ∙ h.appended.tells;
-  bytes = λ told.
-      let q = a.bytes (rw h.appended.tells told) in (
+  reports = a.reports ∙ h.appended.reports;
+  bytes = λ reported.
+      let q = a.bytes (rw h.appended.reports reported) in (
         length h.front + q.0,
         omega (arith, ap length h.split, length-append h.front (line ++ rest), length-append line rest, q.1),
-        q.2 ∙ ap (λ x. x ++ take q.0 line) (h.appended.bytes told) ∙ append_assoc old.bytes h.front (take q.0 line)
+        q.2 ∙ ap (λ x. x ++ take q.0 line) (h.appended.bytes reported) ∙ append_assoc old.bytes h.front (take q.0 line)
             ∙ ap (λ x. old.bytes ++ x) (sym (ap (take (length h.front + q.0)) h.split ∙ take-append-add h.front (line ++ rest) q.0
             ∙ ap (λ x. h.front ++ x) (take-append-le q.0 line rest (omega (arith, q.1))))),
       );

@@ -2,10 +2,10 @@
 use Rattle.std.specs.Prelude.{ℕ}
 use Rattle.alg_model.specs.Properties.{PureProperty}
 use Rattle.alg_classes.specs.Instances.{pure_instance, pure_property}
-use Rattle.report_text.specs.Refusals.{PureRefusal, words, expr, network, lacks, read, long, memory}
+use Rattle.report_text.specs.Refusals.{PureRefusal, words, expr, network, misses, read, long, memory}
 use Rattle.command_words.specs.Words.{words_fault_number}
 use Rattle.metacli.specs.declared.ended.Answer.{Answer}
-use Rattle.metacli.specs.declared.ended.Answer.TheVariants.{Done, Spent, Unmet, BadWords, BadExpr, BadNet, Lacks, ReadFault, WriteFault, NoMemory, TooLong}
+use Rattle.metacli.specs.declared.ended.Answer.TheVariants.{Done, Spent, Unmet, BadWords, BadExpr, BadNet, Misses, ReadFault, WriteFault, NoMemory, TooLong}
 use Rattle.metacli.specs.declared.outcome.Stop.{Stop}
 use Rattle.metacli.specs.declared.outcome.Stop.TheVariants as stop
 
@@ -28,7 +28,7 @@ pure_answer (Unmet p) = unmet (pure_property p)
 pure_answer (BadWords f) = refused (words (words_fault_number f))
 pure_answer (BadExpr f) = refused (expr f)
 pure_answer (BadNet f) = refused (network f)
-pure_answer (Lacks arc x) = refused (lacks arc.0 (pure_instance x))
+pure_answer (Misses arc x) = refused (misses arc.0 (pure_instance x))
 pure_answer (ReadFault w) = refused (read w)
 pure_answer WriteFault = write_fault
 pure_answer NoMemory = refused memory
@@ -47,7 +47,7 @@ status_of Done = 0
 status_of (BadWords f) = 1
 status_of (BadExpr f) = 2
 status_of (BadNet f) = 2
-status_of (Lacks arc x) = 3
+status_of (Misses arc x) = 3
 status_of (Unmet p) = 3
 status_of Spent = 4
 status_of (ReadFault w) = 5

@@ -3,7 +3,7 @@
 use Rattle.std.specs.Prelude.{◌≡◌, ℕ, ◌≤◌, ◌⊎◌, List, Some, None, Result, Ok, Err, IsTrue, length}
 use Rattle.meta_base.specs.Count.{HasRisen}
 use Rattle.meta_base.specs.Shelf.{Moment}
-use Rattle.meta_base.specs.declared.limits.TheConstants.{MAX_FILE_BYTES}
+use Rattle.meta_base.specs.Numbers.{max_file_bytes}
 use Rattle.alg_model.specs.Expressions.{PureAlg}
 use Rattle.alg_model.specs.Properties.{PureProperty}
 use Rattle.raml_syntax.specs.ExprText.{ExprText, IsExprFault}
@@ -16,20 +16,24 @@ use Rattle.metacli.specs.Answers.{PureAnswer, done, refused, spent, unmet}
 use Rattle.command_words.specs.Words.{Words}
 use Rattle.metacli.specs.Outcome.{PureOutcome, answer_in, IsFit, word_at}
 use Rattle.command_words.specs.declared.command.Command.{Command}
-use Rattle.command_words.specs.declared.command.Command.TheVariants.{Check, Code, Route, Settle, Stable, Run, Trace, Gadget, Demo}
 use Rattle.command_words.specs.declared.command.WordsFault.{WordsFault}
-use Rattle.metacli.specs.declared.routing.Solution.{Solution}
-use Rattle.metacli.specs.declared.routing.Solution.TheVariants.{Unbeaten, Settled, AllStable}
+use Rattle.metacli.specs.Tasks.{task_of}
+use Rattle.metacli.specs.declared.task.AlgebraTask.{AlgebraTask}
+use Rattle.metacli.specs.declared.task.AlgebraTask.TheVariants as alone
+use Rattle.metacli.specs.declared.task.NetworkTask.{NetworkTask}
+use Rattle.metacli.specs.declared.task.NetworkTask.TheVariants as joint
+use Rattle.metacli.specs.declared.task.Task.{Task}
+use Rattle.metacli.specs.declared.task.Task.TheVariants as task
 
 -- this was decided, or memory was refused
 abbrev pub IsUnlessMemory : PureOutcome → PureAnswer → Type 0
 IsUnlessMemory o answer = (answer_in o ≡ answer) ⊎ (answer_in o ≡ refused memory)
 
 -- the shelf tells the bytes of the file of that name, and they aren't too many
-pub record IsTold (m : Moment) (name bytes : List ℕ) : Type 0 where
-  pub tells : IsTrue m.tells
+pub record IsReported (m : Moment) (name bytes : List ℕ) : Type 0 where
+  pub reports : IsTrue m.reports
   pub file : m.file name ≡ Some bytes
-  pub short : length bytes ≤ MAX_FILE_BYTES
+  pub short : length bytes ≤ max_file_bytes
 
 -- bytes that mean no algebra are refused with their fault; of an algebra, this follows
 pub record IsJudged (bytes : List ℕ) (Follows : PureAlg → Type 0) (o : PureOutcome) : Type 0 where
@@ -57,30 +61,33 @@ IsDecided o = IsDone o ⊎ ((p : PureProperty) × (answer_in o ≡ unmet p))
 abbrev pub IsRunOut : PureOutcome → Type 0
 IsRunOut o = IsDone o ⊎ (answer_in o ≡ spent)
 
--- the routes of the files of these names are found where the labels on all arcs are fit for them
-abbrev pub IsRoutedWholly : Solution → List ℕ → List ℕ → Moment → Moment → PureOutcome → Type 0
-IsRoutedWholly solution file net old new o = (bytes net_bytes : List ℕ) → IsTold old file bytes → IsTold old net net_bytes
-    → ¬ HasRisen old.faults new.faults → IsJudged bytes (IsNetJudged net_bytes (IsFit solution) IsDone o) o
+-- what a task on an algebra is answered by
+abbrev pub IsAnsweredAlone : AlgebraTask → PureOutcome → Type 0
+IsAnsweredAlone (alone.Check r) = IsDecided
+IsAnsweredAlone alone.Code = IsDone
+IsAnsweredAlone alone.Gadget = IsDone
+
+-- which networks a task is carried out on, and what it is answered by there
+abbrev pub IsFitFor : NetworkTask → PureNet → Type 0
+IsFitFor (joint.Route solution workers) = IsFit solution
+IsFitFor _ = IsAny
+
+abbrev pub IsAnsweredOn : NetworkTask → PureOutcome → Type 0
+IsAnsweredOn (joint.Check r) = IsDecided
+IsAnsweredOn joint.Code = IsDone
+IsAnsweredOn (joint.Route solution workers) = IsDone
+IsAnsweredOn (joint.Run workers turns traced) = IsRunOut
+
+-- where the shelf tells the files that a task reads, and no fault came, they are judged
+abbrev pub IsCompleteOf : List (List ℕ) → Moment → Moment → PureOutcome → Task → Type 0
+IsCompleteOf words old new o (task.Demo seed nodes) = IsDone o
+IsCompleteOf words old new o (task.Alone file asked) = (bytes : List ℕ) → IsReported old (word_at words file) bytes
+    → ¬ HasRisen old.faults new.faults → IsJudged bytes (λ a. IsAnsweredAlone asked o) o
+IsCompleteOf words old new o (task.On file net asked) = (bytes net_bytes : List ℕ) → IsReported old (word_at words file) bytes → IsReported old (word_at words net) net_bytes
+    → ¬ HasRisen old.faults new.faults → IsJudged bytes (IsNetJudged net_bytes (IsFitFor asked) (IsAnsweredOn asked) o) o
 
 abbrev pub CompleteBy : List (List ℕ) → Moment → Moment → PureOutcome → Result Command WordsFault → Type 0
-CompleteBy words old new o (Ok (Check file None r)) = (bytes : List ℕ) → IsTold old (word_at words file) bytes → ¬ HasRisen old.faults new.faults
-    → IsJudged bytes (λ a. IsDecided o) o
-CompleteBy words old new o (Ok (Check file (Some net) r)) = (bytes net_bytes : List ℕ) → IsTold old (word_at words file) bytes → IsTold old (word_at words net) net_bytes
-    → ¬ HasRisen old.faults new.faults → IsJudged bytes (IsNetJudged net_bytes IsAny IsDecided o) o
-CompleteBy words old new o (Ok (Code file None)) = (bytes : List ℕ) → IsTold old (word_at words file) bytes → ¬ HasRisen old.faults new.faults
-    → IsJudged bytes (λ a. IsDone o) o
-CompleteBy words old new o (Ok (Code file (Some net))) = (bytes net_bytes : List ℕ) → IsTold old (word_at words file) bytes → IsTold old (word_at words net) net_bytes
-    → ¬ HasRisen old.faults new.faults → IsJudged bytes (IsNetJudged net_bytes IsAny IsDone o) o
-CompleteBy words old new o (Ok (Route file net workers)) = IsRoutedWholly Unbeaten (word_at words file) (word_at words net) old new o
-CompleteBy words old new o (Ok (Settle file net)) = IsRoutedWholly Settled (word_at words file) (word_at words net) old new o
-CompleteBy words old new o (Ok (Stable file net)) = IsRoutedWholly AllStable (word_at words file) (word_at words net) old new o
-CompleteBy words old new o (Ok (Run file net workers turns)) = (bytes net_bytes : List ℕ) → IsTold old (word_at words file) bytes → IsTold old (word_at words net) net_bytes
-    → ¬ HasRisen old.faults new.faults → IsJudged bytes (IsNetJudged net_bytes IsAny IsRunOut o) o
-CompleteBy words old new o (Ok (Trace file net workers turns)) = (bytes net_bytes : List ℕ) → IsTold old (word_at words file) bytes → IsTold old (word_at words net) net_bytes
-    → ¬ HasRisen old.faults new.faults → IsJudged bytes (IsNetJudged net_bytes IsAny IsRunOut o) o
-CompleteBy words old new o (Ok (Gadget file)) = (bytes : List ℕ) → IsTold old (word_at words file) bytes → ¬ HasRisen old.faults new.faults
-    → IsJudged bytes (λ a. IsDone o) o
-CompleteBy words old new o (Ok (Demo seed nodes)) = IsDone o
+CompleteBy words old new o (Ok c) = IsCompleteOf words old new o (task_of c)
 CompleteBy words old new o (Err f) = Unit {0}
 
 abbrev pub IsComplete : List (List ℕ) → Moment → Moment → PureOutcome → Type 0

@@ -1,10 +1,12 @@
 pub mod Answers
 pub mod Views
 pub mod Reading
+pub mod Tasks
 pub mod Outcome
 pub mod Complete
-pub mod Behind
+pub mod After
 pub mod Texts
 pub mod Runs
+pub mod Alike
 pub mod Found
 pub mod Generated

@@ -3,7 +3,7 @@ use Rattle.std.specs.Prelude.{◌≡◌, ◌≤◌, ◌↔◌, ℕ, Bool, true, 
 use Rattle.std.specs.List.{Contains}
 use Rattle.meta_base.specs.Shelf.{Moment}
 use Rattle.meta_base.specs.declared.ids.Delivery.{Delivery}
-use Rattle.alg_model.specs.declared.alg.TheConstants.{MAX_INSTANCE_NUMBER}
+use Rattle.alg_model.specs.Numbers.{max_instance_number}
 use Rattle.alg_model.specs.Expressions.{PureAlg, PureLabel}
 use Rattle.alg_model.specs.Application.{IsLabel}
 use Rattle.alg_model.specs.Bounds.{greatest_number}
@@ -24,19 +24,25 @@ use Rattle.vector_runs.specs.Runs.{PurePhase, IsRun, AreStable, pure_phase}
 use Rattle.vector_runs.specs.Turns.{AreMonotone, deliveries_left, deliveries_made}
 use Rattle.demo_rest.specs.Most.{demo_turns}
 use Rattle.report_text.specs.Refusals as refusal
-use Rattle.net_facts.specs.Lacks.{IsFirstLack, NetHasAll}
-use Rattle.report_text.specs.Refusals.{PureRefusal, lacks, memory}
+use Rattle.net_facts.specs.Misses.{IsFirstMissing, NetHasAll}
+use Rattle.report_text.specs.Refusals.{PureRefusal, misses, memory}
 use Rattle.metacli.specs.Answers.{PureAnswer, done, refused, spent, unmet, pure_answer}
-use Rattle.metacli.specs.Behind.{nets_after}
+use Rattle.metacli.specs.After.{nets_after}
 use Rattle.metacli.specs.Reading.{ReadsExpression, ReadsNetwork}
 use Rattle.command_words.specs.Words.{Words, words_fault_number}
 use Rattle.command_words.specs.declared.command.Command.{Command}
-use Rattle.command_words.specs.declared.command.Command.TheVariants.{Check, Code, Route, Settle, Stable, Run, Trace, Gadget, Demo}
 use Rattle.command_words.specs.declared.command.Required.{Required}
 use Rattle.command_words.specs.declared.command.WordsFault.{WordsFault}
 use Rattle.metacli.specs.declared.ended.Ended.{Ended}
 use Rattle.metacli.specs.declared.routing.Solution.{Solution}
 use Rattle.metacli.specs.declared.routing.Solution.TheVariants.{Unbeaten, Settled, AllStable}
+use Rattle.metacli.specs.Tasks.{task_of}
+use Rattle.metacli.specs.declared.task.AlgebraTask.{AlgebraTask}
+use Rattle.metacli.specs.declared.task.AlgebraTask.TheVariants as alone
+use Rattle.metacli.specs.declared.task.NetworkTask.{NetworkTask}
+use Rattle.metacli.specs.declared.task.NetworkTask.TheVariants as joint
+use Rattle.metacli.specs.declared.task.Task.{Task}
+use Rattle.metacli.specs.declared.task.Task.TheVariants as task
 use Rattle.settled_laws.specs.UniqueTables.{TablesAreUnique}
 use Rattle.wedge_nets.specs.Gadgets.{HasGadget, wedge_file}
 use Rattle.wedge_nets.specs.GadgetTexts.{are_short, gadget_lines, gadget_text}
@@ -76,50 +82,34 @@ file_in (wedged a v) = None
 file_in (ran a f traced past last quiet) = Some f
 file_in (shown a f last) = Some f
 
+-- what else an end shows is empty where nothing of the kind was made
 abbrev pub verdicts_in : PureOutcome → Option PureVerdicts
-verdicts_in (stopped a f r) = None
 verdicts_in (checked a f v u) = Some v
-verdicts_in (coded a f listing) = None
-verdicts_in (routed s a f rows) = None
-verdicts_in (wedged a v) = None
-verdicts_in (ran a f traced past last quiet) = None
-verdicts_in (shown a f last) = None
+verdicts_in _ = None
 
 abbrev pub listing_in : PureOutcome → Option Listing
-listing_in (stopped a f r) = None
-listing_in (checked a f v u) = None
 listing_in (coded a f listing) = Some listing
-listing_in (routed s a f rows) = None
-listing_in (wedged a v) = None
-listing_in (ran a f traced past last quiet) = None
-listing_in (shown a f last) = None
+listing_in _ = None
+
+-- the verdict that a network shows
+abbrev pub gadget_in : PureOutcome → Option PureVerdict
+gadget_in (wedged a v) = Some v
+gadget_in _ = None
 
 abbrev pub rows_in : PureOutcome → List PureRow
-rows_in (stopped a f r) = []
-rows_in (checked a f v u) = []
-rows_in (coded a f listing) = []
 rows_in (routed s a f rows) = rows
-rows_in (wedged a v) = []
 rows_in (ran a f traced past last quiet) = last.rows
 rows_in (shown a f last) = last.rows
+rows_in _ = []
 
 abbrev pub journal_in : PureOutcome → List Delivery
-journal_in (stopped a f r) = []
-journal_in (checked a f v u) = []
-journal_in (coded a f listing) = []
-journal_in (routed s a f rows) = []
-journal_in (wedged a v) = []
 journal_in (ran a f traced past last quiet) = last.journal
 journal_in (shown a f last) = last.journal
+journal_in _ = []
 
 abbrev pub past_in : PureOutcome → List PurePhase
-past_in (stopped a f r) = []
-past_in (checked a f v u) = []
-past_in (coded a f listing) = []
-past_in (routed s a f rows) = []
-past_in (wedged a v) = []
 past_in (ran a f traced past last quiet) = past
-past_in (shown a f last) = []
+past_in _ = []
 
 -- the answer where a required property fails, if one does
 abbrev pub met_or : Option PureProperty → PureAnswer
@@ -134,16 +124,6 @@ answer_in (routed s a f rows) = done
 answer_in (wedged a v) = done
 answer_in (ran a f traced past last quiet) = if quiet then done else spent
 answer_in (shown a f last) = done
-
--- the verdict that a network shows
-abbrev pub gadget_in : PureOutcome → Option PureVerdict
-gadget_in (stopped a f r) = None
-gadget_in (checked a f v u) = None
-gadget_in (coded a f listing) = None
-gadget_in (routed s a f rows) = None
-gadget_in (wedged a v) = Some v
-gadget_in (ran a f traced past last quiet) = None
-gadget_in (shown a f last) = None
 
 -- the changes of a network file, if there is one
 abbrev pub changes_of : Option PureNetFile → List PureChange
@@ -167,7 +147,7 @@ pub record Shows (e : Ended) (asked : Option Command) (o : PureOutcome) : Type 0
 -- the verdicts are exact for the labels of the set, and the numbers of instances are small
 pub record AreVerdictsOn (a : PureAlg) (S : PureLabel → Type 0) (v : PureVerdicts) : Type 0 where
   pub exact : ExactFor a.expression S v
-  pub bound : VerdictsAtMost (greatest_number a.edition) MAX_INSTANCE_NUMBER v
+  pub bound : VerdictsAtMost (greatest_number a.edition) max_instance_number v
 
 -- the property is required
 abbrev pub asks : Required → PureProperty → Bool
@@ -249,7 +229,7 @@ AreRoutesOn AllStable net rows = AreRowsOfTables net (BestFirst net) rows × Are
 -- labels are fit for them; else the first arc whose label isn't; unless memory is refused.
 abbrev pub IsRoutedAs : Solution → PureAlg → PureNetFile → PureOutcome → Type 0
 IsRoutedAs solution a file (routed s b f rows) = (s ≡ solution) × (b ≡ a) × (f ≡ file) × IsFit solution (changed_net file) × AreRoutesOn solution (changed_net file) rows
-IsRoutedAs solution a file (stopped b f (lacks arc x)) = (b ≡ Some a) × (f ≡ Some file) × IsFirstLack (asked_of solution) (changed_net file) arc x
+IsRoutedAs solution a file (stopped b f (misses arc x)) = (b ≡ Some a) × (f ≡ Some file) × IsFirstMissing (asked_of solution) (changed_net file) arc x
 IsRoutedAs solution a file (stopped b f memory) = (b ≡ Some a) × (f ≡ Some file)
 IsRoutedAs solution a file _ = ⊥
 
@@ -278,6 +258,19 @@ IsShownAs seed nodes (shown a f last) =
 IsShownAs seed nodes (stopped None None memory) = Unit {0}
 IsShownAs seed nodes _ = ⊥
 
+-- what is made of an algebra alone
+abbrev pub IsMadeAlone : AlgebraTask → PureAlg → PureOutcome → Type 0
+IsMadeAlone (alone.Check r) a o = IsCheckedAs r a None (IsLabel a.expression) o × DecidesTables a o
+IsMadeAlone alone.Code a o = IsCodedAs a None [] o
+IsMadeAlone alone.Gadget a o = IsWedgedAs a o
+
+-- what is made of a network file over the algebra: verdicts, code and routes are of its network after all changes
+abbrev pub IsMadeOn : NetworkTask → PureAlg → PureNetFile → PureOutcome → Type 0
+IsMadeOn (joint.Check r) a f o = IsCheckedAs r a (Some f) (IsOnArc (changed_net f)) o
+IsMadeOn joint.Code a f o = IsCodedAs a (Some f) (labels_on (changed_net f)) o
+IsMadeOn (joint.Route solution workers) a f o = IsRoutedAs solution a f o
+IsMadeOn (joint.Run workers turns traced) a f o = IsRunAs traced turns a f o
+
 -- What comes of an expression file: over its algebra, what Then says; or it is refused, and nothing more is
 -- begun.
 abbrev pub GoesOnFrom : (PureAlg → Moment → Moment → PureOutcome → Type 0) → Moment → Moment → PureOutcome → Result PureAlg PureRefusal → Type 0
@@ -301,81 +294,20 @@ pub record WithNetwork (a : PureAlg) (name : List ℕ) (Then : PureNetFile → P
   pub reads : ReadsNetwork a name old network new
   pub goes_on : GoesOnOver a Then o network
 
--- all labels of the algebra are decided on
-abbrev pub IsAlgebraChecked : Required → PureAlg → Moment → Moment → PureOutcome → Type 0
-IsAlgebraChecked r a old new o = (new ≡ old) × IsCheckedAs r a None (IsLabel a.expression) o × DecidesTables a o
-
--- the network file is read over the algebra, and then the labels on its arcs are decided on, after all changes
-abbrev pub IsNetworkChecked : Required → List ℕ → PureAlg → Moment → Moment → PureOutcome → Type 0
-IsNetworkChecked r net a = WithNetwork a net (λ f. IsCheckedAs r a (Some f) (IsOnArc (changed_net f)))
-
--- monotone is decided on, and shown by a network
-abbrev pub IsAlgebraWedged : PureAlg → Moment → Moment → PureOutcome → Type 0
-IsAlgebraWedged a old new o = (new ≡ old) × IsWedgedAs a o
-
--- the order of the algebra is compiled
-abbrev pub IsAlgebraCoded : PureAlg → Moment → Moment → PureOutcome → Type 0
-IsAlgebraCoded a old new o = (new ≡ old) × IsCodedAs a None [] o
-
--- the network file is read over the algebra, and then the labels on its arcs are compiled too, after all changes
-abbrev pub IsNetworkCoded : List ℕ → PureAlg → Moment → Moment → PureOutcome → Type 0
-IsNetworkCoded net a = WithNetwork a net (λ f. IsCodedAs a (Some f) (labels_on (changed_net f)))
-
--- the network file is read over the algebra, and then its routes are found, after all changes
-abbrev pub IsNetworkRouted : Solution → List ℕ → PureAlg → Moment → Moment → PureOutcome → Type 0
-IsNetworkRouted solution net a = WithNetwork a net (IsRoutedAs solution a)
-
--- the network file is read over the algebra, and then nodes run on its network, through its changes
-abbrev pub IsNetworkRun : Bool → ℕ → List ℕ → PureAlg → Moment → Moment → PureOutcome → Type 0
-IsNetworkRun traced turns net a = WithNetwork a net (IsRunAs traced turns a)
-
--- what check comes to on the expression file of that name, and on it and the network file of these names
-abbrev pub IsChecked : Required → List ℕ → Moment → Moment → PureOutcome → Type 0
-IsChecked r file = WithAlgebra file (IsAlgebraChecked r)
-
-abbrev pub IsCheckedOn : Required → List ℕ → List ℕ → Moment → Moment → PureOutcome → Type 0
-IsCheckedOn r file net = WithAlgebra file (IsNetworkChecked r net)
-
--- what gadget comes to on the expression file of that name
-abbrev pub IsWedged : List ℕ → Moment → Moment → PureOutcome → Type 0
-IsWedged file = WithAlgebra file IsAlgebraWedged
-
--- what code comes to on the expression file of that name, and on it and the network file of these names
-abbrev pub IsCoded : List ℕ → Moment → Moment → PureOutcome → Type 0
-IsCoded file = WithAlgebra file IsAlgebraCoded
-
-abbrev pub IsCodedOn : List ℕ → List ℕ → Moment → Moment → PureOutcome → Type 0
-IsCodedOn file net = WithAlgebra file (IsNetworkCoded net)
-
--- what route, settle and stable come to on the files of these names
-abbrev pub IsRouted : Solution → List ℕ → List ℕ → Moment → Moment → PureOutcome → Type 0
-IsRouted solution file net = WithAlgebra file (IsNetworkRouted solution net)
-
--- what run and trace come to on the files of these names, with so many turns
-abbrev pub IsRunOn : Bool → ℕ → List ℕ → List ℕ → Moment → Moment → PureOutcome → Type 0
-IsRunOn traced turns file net = WithAlgebra file (IsNetworkRun traced turns net)
-
 -- the word at a place
 abbrev pub word_at : List (List ℕ) → ℕ → List ℕ
 word_at words place = slice_index_or words place []
 
--- what the words come to: their command, or the fault that they have, where nothing is read
-abbrev pub ComesBy : List (List ℕ) → Result Command WordsFault → Moment → Moment → Option Command → PureOutcome → Type 0
-ComesBy words (Ok (Check file None r)) old new c o = (c ≡ Some (Check file None r)) × IsChecked r (word_at words file) old new o
-ComesBy words (Ok (Check file (Some net) r)) old new c o =
-    (c ≡ Some (Check file (Some net) r)) × IsCheckedOn r (word_at words file) (word_at words net) old new o
-ComesBy words (Ok (Code file None)) old new c o = (c ≡ Some (Code file None)) × IsCoded (word_at words file) old new o
-ComesBy words (Ok (Code file (Some net))) old new c o = (c ≡ Some (Code file (Some net))) × IsCodedOn (word_at words file) (word_at words net) old new o
-ComesBy words (Ok (Route file net workers)) old new c o = (c ≡ Some (Route file net workers)) × IsRouted Unbeaten (word_at words file) (word_at words net) old new o
-ComesBy words (Ok (Settle file net)) old new c o = (c ≡ Some (Settle file net)) × IsRouted Settled (word_at words file) (word_at words net) old new o
-ComesBy words (Ok (Stable file net)) old new c o = (c ≡ Some (Stable file net)) × IsRouted AllStable (word_at words file) (word_at words net) old new o
-ComesBy words (Ok (Run file net workers turns)) old new c o =
-    (c ≡ Some (Run file net workers turns)) × IsRunOn false turns (word_at words file) (word_at words net) old new o
-ComesBy words (Ok (Trace file net workers turns)) old new c o =
-    (c ≡ Some (Trace file net workers turns)) × IsRunOn true turns (word_at words file) (word_at words net) old new o
-ComesBy words (Ok (Gadget file)) old new c o = (c ≡ Some (Gadget file)) × IsWedged (word_at words file) old new o
-ComesBy words (Ok (Demo seed nodes)) old new c o = (c ≡ Some (Demo seed nodes)) × (new ≡ old) × IsShownAs seed nodes o
-ComesBy words (Err f) old new c o = (c ≡ None) × (new ≡ old) × (o ≡ stopped None None (refusal.words (words_fault_number f)))
+-- what a task comes to, whose files the words name
+abbrev pub ComesOf : List (List ℕ) → Task → Moment → Moment → PureOutcome → Type 0
+ComesOf words (task.Demo seed nodes) old new o = (new ≡ old) × IsShownAs seed nodes o
+ComesOf words (task.Alone file asked) old new o = WithAlgebra (word_at words file) (λ a old new o. (new ≡ old) × IsMadeAlone asked a o) old new o
+ComesOf words (task.On file net asked) old new o = WithAlgebra (word_at words file) (λ a. WithNetwork a (word_at words net) (IsMadeOn asked a)) old new o
 
-abbrev pub ComesTo : List (List ℕ) → Moment → Moment → Option Command → PureOutcome → Type 0
+-- what the words come to: what their command asks for, or the fault that they have, where nothing is read
+abbrev pub ComesBy : List (List ℕ) → Result Command WordsFault → Moment → Moment → PureOutcome → Type 0
+ComesBy words (Ok c) old new o = ComesOf words (task_of c) old new o
+ComesBy words (Err f) old new o = (new ≡ old) × (o ≡ stopped None None (refusal.words (words_fault_number f)))
+
+abbrev pub ComesTo : List (List ℕ) → Moment → Moment → PureOutcome → Type 0
 ComesTo words = ComesBy words (Words words)

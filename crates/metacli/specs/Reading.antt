@@ -4,7 +4,7 @@ use Rattle.meta_base.specs.Count.{HasRisen, raised}
 use Rattle.meta_base.specs.Shelf.{Moment, Keeps, IsAbsent}
 use Rattle.meta_base.specs.declared.ids.Which.{Which}
 use Rattle.meta_base.specs.declared.ids.Which.TheVariants.{Expr, Network}
-use Rattle.meta_base.specs.declared.limits.TheConstants.{MAX_FILE_BYTES}
+use Rattle.meta_base.specs.Numbers.{max_file_bytes}
 use Rattle.alg_model.specs.Expressions.{PureAlg}
 use Rattle.raml_syntax.specs.ExprText.{ExprText, IsExprFault}
 use Rattle.topology_file.specs.NetText.{PureNetFile, NetText, IsNetFault}
@@ -15,8 +15,8 @@ use Rattle.report_text.specs.Refusals.{PureRefusal, expr, network, read, long, m
 pub record IsWhole (old : Moment) (name bytes : List ℕ) (new : Moment) : Type 0 where
   pub ended : new.ended ≡ true
   pub taken : new.taken ≡ length bytes
-  pub short : length bytes ≤ MAX_FILE_BYTES
-  pub told : IsTrue old.tells → old.file name ≡ Some bytes
+  pub short : length bytes ≤ max_file_bytes
+  pub reported : IsTrue old.reports → old.file name ≡ Some bytes
 
 -- such bytes were taken whole
 abbrev pub Holds : Moment → List ℕ → (List ℕ → Type 0) → Moment → Type 0
@@ -25,8 +25,8 @@ Holds old name P new = (bytes : List ℕ) × P bytes × IsWhole old name bytes n
 -- why a file was not taken
 abbrev pub IsUntaken : Which → List ℕ → Moment → Moment → PureRefusal → Type 0
 IsUntaken which name old new (read w) = (w ≡ which) × (new.ended ≡ false) × (HasRisen old.faults new.faults ⊎ IsAbsent old name)
-IsUntaken which name old new (long w) = (w ≡ which) × (MAX_FILE_BYTES < new.taken)
-    × (IsTrue old.tells → (bytes : List ℕ) × (old.file name ≡ Some bytes) × (MAX_FILE_BYTES < length bytes))
+IsUntaken which name old new (long w) = (w ≡ which) × (max_file_bytes < new.taken)
+    × (IsTrue old.reports → (bytes : List ℕ) × (old.file name ≡ Some bytes) × (max_file_bytes < length bytes))
 IsUntaken which name old new memory = Unit {0}
 IsUntaken which name old new _ = ⊥
 
@@ -41,7 +41,7 @@ IsReadAs which name M F old (Err r) new = IsUntaken which name old new r ⊎ Hol
 pub record Reads {X : Type 0} (which : Which) (name : List ℕ) (M : List ℕ → X → Type 0) (F : List ℕ → PureRefusal → Type 0)
     (old : Moment) (result : Result X PureRefusal) (new : Moment) : Type 0 where
   pub keeps : Keeps old new
-  pub too_long : MAX_FILE_BYTES < new.taken → result ≡ Err (long which)
+  pub too_long : max_file_bytes < new.taken → result ≡ Err (long which)
   pub begun : new.begun ≡ raised old.begun 1
   pub no_fault : result ≢ Err (read which) → new.faults ≡ old.faults
   pub as_read : IsReadAs which name M F old result new

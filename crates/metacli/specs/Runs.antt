@@ -1,5 +1,7 @@
 -- What a run does: what it promises of the files, of the end, and of what was written.
 use Rattle.std.specs.Prelude.{ℕ, List, map}
+use Rattle.std.specs.Result.{result_ok}
+use Rattle.command_words.specs.Words.{Words}
 use Rattle.meta_base.specs.Shelf.{Moment}
 use Rattle.meta_base.specs.Sink.{Held}
 use Rattle.net_graph.specs.Nets.{PureNet, IsNet}
@@ -7,7 +9,6 @@ use Rattle.vector_runs.specs.Runs.{AreOfNetworks, AreStable, IsRun, pure_phase}
 use Rattle.vector_runs.specs.declared.run.Run.{Run}
 use Rattle.metacli.specs.Answers.{pure_answer}
 use Rattle.metacli.specs.Outcome.{PureOutcome, answer_in, ComesTo, ComesToRest, Shows}
-use Rattle.metacli.specs.Complete.{IsComplete}
 use Rattle.metacli.specs.Texts.{TextOf, Written}
 use Rattle.metacli.specs.declared.ended.Ended.{Ended}
 
@@ -15,9 +16,8 @@ use Rattle.metacli.specs.declared.ended.Ended.{Ended}
 -- what was written.
 pub record Runs (words : List (List ℕ)) (old new : Moment) (before after : Held) (e : Ended) : Type 0 where
   pub outcome : PureOutcome
-  pub shows : Shows e e.command outcome
-  pub comes_to : ComesTo words old new e.command outcome
-  pub complete : IsComplete words old new outcome
+  pub shows : Shows e (result_ok (Words words)) outcome
+  pub comes_to : ComesTo words old new outcome
   pub written : Written before (TextOf outcome) after (answer_in outcome) (pure_answer e.answer)
 
 -- a run through these networks: its quiet phases are stable, it comes to rest, and its rows and deliveries are of the

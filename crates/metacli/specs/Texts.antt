@@ -18,7 +18,7 @@ use Rattle.report_text.specs.RunTexts.{delivery_text, end_text, phase_text}
 use Rattle.report_text.specs.SummaryTexts.{AreSummed, summary_text}
 use Rattle.vector_runs.specs.Runs.{AreOfNetworks, PurePhase}
 use Rattle.metacli.specs.Answers.{PureAnswer, done, refused, spent, unmet, write_fault}
-use Rattle.metacli.specs.Behind.{nets_after}
+use Rattle.metacli.specs.After.{nets_after}
 use Rattle.metacli.specs.declared.putting.Cut.{Cut}
 use Rattle.metacli.specs.declared.putting.Cut.TheVariants.{Sink, Memory}
 use Rattle.metacli.specs.Outcome.{PureOutcome, stopped, checked, coded, routed, wedged, ran, shown}

@@ -7,47 +7,61 @@ use Rattle.topology_file.specs.Views.{pure_file}
 use Rattle.property_infer.specs.Views.{pure_verdict, pure_verdicts}
 use Rattle.alg_classes.specs.Instances.{pure_instance, pure_property}
 use Rattle.topology_file.specs.NetText.{changed_net}
-use Rattle.metacli.specs.Behind.{last_of, nets_after}
-use Rattle.report_text.specs.Refusals.{PureRefusal, lacks}
+use Rattle.metacli.specs.After.{last_of, nets_after}
+use Rattle.report_text.specs.Refusals.{PureRefusal, misses}
 use Rattle.vector_runs.specs.Runs.{pure_phase}
-use Rattle.metacli.specs.Answers.{pure_stop}
+use Rattle.metacli.specs.Answers.{pure_answer, pure_stop}
 use Rattle.metacli.specs.Texts.{IsPrintable}
-use Rattle.metacli.specs.Outcome.{PureOutcome, stopped, checked, coded, routed, wedged, ran, shown}
+use Rattle.metacli.specs.Outcome.{PureOutcome, stopped, checked, coded, routed, wedged, ran, shown, algebra_in, answer_in, file_in, gadget_in, journal_in, listing_in, past_in, rows_in, verdicts_in}
 use Rattle.metacli.specs.declared.outcome.Stop.{Stop}
+use Rattle.metacli.specs.declared.outcome.Made.{Made}
+use Rattle.metacli.specs.declared.outcome.Parts.{Parts}
 use Rattle.metacli.specs.declared.outcome.Outcome.{Outcome}
 use Rattle.metacli.specs.declared.outcome.Outcome.TheVariants as outcome
 
 abbrev pub pure_outcome : Outcome → PureOutcome
 pure_outcome (outcome.Stopped a f r) = stopped a (option_map pure_file f) (pure_stop r)
-pure_outcome (outcome.Lacking a f behind lack) = stopped (Some a) (Some (pure_file f)) (lacks lack.arc.0 (pure_instance lack.instance))
-pure_outcome (outcome.Checked a f v u) = checked a (option_map pure_file f) (pure_verdicts v) (option_map pure_property u)
-pure_outcome (outcome.Coded a f behind listing) = coded a (option_map pure_file f) listing
-pure_outcome (outcome.Routed s a f rows) = routed s a (pure_file f) (map pure_row rows)
-pure_outcome (outcome.Gadget a v) = wedged a (pure_verdict v)
-pure_outcome (outcome.Ran a f nets traced run) = ran a (pure_file f) traced (map pure_phase run.past) (pure_phase run.last) run.is_quiet
-pure_outcome (outcome.Shown a f last) = shown a (pure_file f) (pure_phase last)
+pure_outcome (outcome.Unfit it) = stopped (Some it.alg) (Some (pure_file it.file)) (misses it.missing.arc.0 (pure_instance it.missing.instance))
+pure_outcome (outcome.Checked it) = checked it.alg (option_map pure_file it.file) (pure_verdicts it.verdicts) (option_map pure_property it.unmet)
+pure_outcome (outcome.Coded it) = coded it.alg (option_map pure_file it.file) it.listing
+pure_outcome (outcome.Routed it) = routed it.solution it.alg (pure_file it.file) (map pure_row it.rows)
+pure_outcome (outcome.Wedged it) = wedged it.alg (pure_verdict it.verdict)
+pure_outcome (outcome.Ran it) = ran it.alg (pure_file it.file) it.is_traced (map pure_phase it.run.past) (pure_phase it.run.last) it.run.is_quiet
+pure_outcome (outcome.Shown it) = shown it.alg (pure_file it.file) (pure_phase it.last)
+
+-- what was made is what the outcome says: a field that it says nothing of is empty
+pub record IsMadeIn (made : Made) (o : PureOutcome) : Type 0 where
+  pub verdicts : option_map pure_verdicts made.verdicts ≡ verdicts_in o
+  pub listing : made.listing ≡ listing_in o
+  pub gadget : option_map pure_verdict made.gadget ≡ gadget_in o
+  pub rows : map pure_row made.rows ≡ rows_in o
+  pub journal : made.journal ≡ journal_in o
+  pub past : map pure_phase made.past ≡ past_in o
+
+-- what was read, what was made of it and the answer are what the outcome says
+pub record AreParts (p : Parts) (o : PureOutcome) : Type 0 where
+  pub alg : p.alg ≡ algebra_in o
+  pub file : option_map pure_file p.file ≡ file_in o
+  pub made : IsMadeIn p.made o
+  pub decided : pure_answer p.decided ≡ answer_in o
 
 -- the network whose labels were compiled, if there is one, is that of the file after its changes
 abbrev pub IsListedOn : Option NetFile → Option PureNet → Type 0
-IsListedOn None behind = Unit {0}
-IsListedOn (Some f) behind = last_of behind f.net ≡ changed_net (pure_file f)
+IsListedOn None after = Unit {0}
+IsListedOn (Some f) after = last_of after f.net ≡ changed_net (pure_file f)
 
 -- the network of an arc that doesn't have a property is that of the file after its changes; those of the phases after
 -- the first are those after the first change, the first two, and so on
-abbrev pub IsBehind : Outcome → Type 0
-IsBehind (outcome.Stopped a f r) = Unit {0}
-IsBehind (outcome.Lacking a f behind lack) = last_of behind f.net ≡ changed_net (pure_file f)
-IsBehind (outcome.Checked a f v u) = Unit {0}
-IsBehind (outcome.Coded a f behind listing) = IsListedOn f behind
-IsBehind (outcome.Routed s a f rows) = Unit {0}
-IsBehind (outcome.Gadget a v) = Unit {0}
-IsBehind (outcome.Ran a f nets traced run) = nets ≡ nets_after f.net (pure_file f).changes
-IsBehind (outcome.Shown a f last) = Unit {0}
+abbrev pub IsAfter : Outcome → Type 0
+IsAfter (outcome.Unfit it) = last_of it.after it.file.net ≡ changed_net (pure_file it.file)
+IsAfter (outcome.Coded it) = IsListedOn it.file it.after
+IsAfter (outcome.Ran it) = it.changed ≡ nets_after it.file.net (pure_file it.file).changes
+IsAfter _ = Unit {0}
 
 -- the text of the outcome can be made
 pub record CanBeWritten (o : Outcome) : Type 0 where
   pub printable : IsPrintable (pure_outcome o)
-  pub behind : IsBehind o
+  pub after : IsAfter o
 
 -- what was read, or why it wasn't
 abbrev pub as_read : {R S : Type 0} → (R → S) → Result R Stop → Result S PureRefusal

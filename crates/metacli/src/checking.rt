@@ -12,8 +12,8 @@ ghost use Rattle.alg_model.specs.Verdicts.{verdict_on};
 ghost use Rattle.property_infer.specs.Views.{pure_verdict};
 ghost use Rattle.metacli.specs.Views.{CanBeWritten, pure_outcome};
 
-use crate::behind::{last_of, net_behind};
-use crate::outcome::{Outcome, Stop};
+use crate::after::{last_of, net_after};
+use crate::outcome::{Checked, Outcome, Stop};
 use alg_classes::Property;
 use alg_model::Alg;
 use command_words::Required;
@@ -36,12 +36,12 @@ pub fn check(alloc: Global, alg: Alg, require: Required) -> Outcome
     match verdicts(alloc, &alg) {
         Ok(verdicts) => {
             let unmet = first_unmet(require, &verdicts);
-            Outcome::Checked {
+            Outcome::Checked(Checked {
                 alg,
                 file: None,
                 verdicts,
                 unmet,
-            }
+            })
         }
         Err(NoMemory) => Outcome::Stopped {
             alg: Some(alg),
@@ -59,15 +59,15 @@ pub fn check_network(alloc: Global, alg: Alg, file: NetFile, require: Required) 
         (IsOnArc (changed_net (pure_file file))) (pure_outcome result) }
     ensures printable { CanBeWritten result }
 {
-    match verdicts_behind(alloc, &file) {
+    match verdicts_after(alloc, &file) {
         Ok(verdicts) => {
             let unmet = first_unmet(require, &verdicts);
-            Outcome::Checked {
+            Outcome::Checked(Checked {
                 alg,
                 file: Some(file),
                 verdicts,
                 unmet,
-            }
+            })
         }
         Err(NoMemory) => Outcome::Stopped {
             alg: Some(alg),
@@ -122,14 +122,14 @@ fn is_failed(verdict: &Verdict) -> bool
 }
 
 // The verdicts on the labels of the network after all its changes.
-fn verdicts_behind(alloc: Global, file: &NetFile) -> Result<Verdicts, NoMemory>
+fn verdicts_after(alloc: Global, file: &NetFile) -> Result<Verdicts, NoMemory>
     requires { AreChanges file.now.net (map pure_change file.now.changes) }
     ensures { IfOk result (λ verdicts. AreVerdictsOn file.now.net.alg
         (IsOnArc (changed_net (pure_file file.now))) (pure_verdicts verdicts)) }
 {
-    let behind = net_behind(alloc, &file.net, file.changes.as_slice())?;
-    let verdicts = arc_verdicts(alloc, last_of(&behind, &file.net));
-    drop(behind);
+    let after = net_after(alloc, &file.net, file.changes.as_slice())?;
+    let verdicts = arc_verdicts(alloc, last_of(&after, &file.net));
+    drop(after);
     verdicts
 }
 

@@ -5,12 +5,12 @@ ghost use Rattle.net_graph.specs.Changes.{AreChanges};
 ghost use Rattle.net_graph.specs.Views.{pure_change};
 ghost use Rattle.topology_file.specs.Views.{pure_file};
 ghost use Rattle.topology_file.specs.NetText.{changed_net};
-ghost use Rattle.metacli.specs.Behind.{last_of};
+ghost use Rattle.metacli.specs.After.{last_of};
 ghost use Rattle.metacli.specs.Outcome.{IsCodedAs, labels_on};
 ghost use Rattle.metacli.specs.Views.{CanBeWritten, pure_outcome};
 
-use crate::behind::{last_of, net_behind};
-use crate::outcome::{Outcome, Stop};
+use crate::after::{last_of, net_after};
+use crate::outcome::{Coded, Outcome, Stop};
 use alg_model::Alg;
 use code_gen::{Listing, compile_label, compile_order};
 use meta_base::{ArcId, List, NoMemory};
@@ -24,12 +24,12 @@ pub fn code(alloc: Global, alg: Alg) -> Outcome
     ensures printable { CanBeWritten result }
 {
     match order_listing(alloc, &alg) {
-        Ok(listing) => Outcome::Coded {
+        Ok(listing) => Outcome::Coded(Coded {
             alg,
             file: None,
-            behind: None,
+            after: None,
             listing,
-        },
+        }),
         Err(NoMemory) => Outcome::Stopped {
             alg: Some(alg),
             file: None,
@@ -46,13 +46,13 @@ pub fn code_network(alloc: Global, alg: Alg, file: NetFile) -> Outcome
         (pure_outcome result) }
     ensures printable { CanBeWritten result }
 {
-    match listing_behind(alloc, &file) {
-        Ok((behind, listing)) => Outcome::Coded {
+    match listing_after(alloc, &file) {
+        Ok((after, listing)) => Outcome::Coded(Coded {
             alg,
             file: Some(file),
-            behind,
+            after,
             listing,
-        },
+        }),
         Err(NoMemory) => Outcome::Stopped {
             alg: Some(alg),
             file: Some(file),
@@ -62,17 +62,17 @@ pub fn code_network(alloc: Global, alg: Alg, file: NetFile) -> Outcome
 }
 
 // The network after all changes of the file, where there are any, and the code of its labels and its algebra's order.
-fn listing_behind(alloc: Global, file: &NetFile) -> Result<(Option<Net>, Listing), NoMemory>
+fn listing_after(alloc: Global, file: &NetFile) -> Result<(Option<Net>, Listing), NoMemory>
     requires { AreChanges file.now.net (map pure_change file.now.changes) }
-    ensures behind { IfOk result (λ made. last_of made.0 file.now.net ≡ changed_net (pure_file file.now)) }
+    ensures after { IfOk result (λ made. last_of made.0 file.now.net ≡ changed_net (pure_file file.now)) }
     ensures listing { IfOk result (λ made.
         IsListing file.now.net.alg.expression (labels_on (changed_net (pure_file file.now))) made.1) }
 {
-    let behind = net_behind(alloc, &file.net, file.changes.as_slice())?;
-    match arc_listing(alloc, last_of(&behind, &file.net)) {
-        Ok(listing) => Ok((behind, listing)),
+    let after = net_after(alloc, &file.net, file.changes.as_slice())?;
+    match arc_listing(alloc, last_of(&after, &file.net)) {
+        Ok(listing) => Ok((after, listing)),
         Err(NoMemory) => {
-            drop(behind);
+            drop(after);
             Err(NoMemory)
         }
     }

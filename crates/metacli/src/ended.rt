@@ -29,7 +29,7 @@ pub enum Answer {
     BadNet(NetFault),
     /// The label of this arc, which is one of the network after its changes, doesn't have a property that the command
     /// needs of all labels; it is the first such arc, and the instance shows it.
-    Lacks { arc: ArcId, instance: Instance },
+    Misses { arc: ArcId, instance: Instance },
     /// The file could not be begun or read to its end.
     ReadFault(Which),
     /// The text could not be written to its end.
@@ -82,7 +82,7 @@ pub fn status(answer: &Answer) -> u8
         Answer::Done => 0,
         Answer::BadWords(_) => 1,
         Answer::BadExpr(_) | Answer::BadNet(_) => 2,
-        Answer::Lacks { .. } | Answer::Unmet(_) => 3,
+        Answer::Misses { .. } | Answer::Unmet(_) => 3,
         Answer::Spent => 4,
         Answer::ReadFault(_) => 5,
         Answer::WriteFault => 6,

@@ -8,7 +8,7 @@ ghost use Rattle.metacli.specs.Generated.{IsGenerated, IsRunAlone};
 ghost use Rattle.metacli.specs.Outcome.{IsShownAs};
 ghost use Rattle.metacli.specs.Views.{CanBeWritten, pure_outcome};
 
-use crate::outcome::{Outcome, Stop};
+use crate::outcome::{Outcome, Shown, Stop};
 use crate::running::run_through;
 use alg_model::{Alg, Tree};
 use demo_rest::generated_runs_are_quiet;
@@ -41,7 +41,7 @@ pub fn demo<R: AllocGlobal + Threads + Wait + Sync, G: Gate>(
     ensures printable { CanBeWritten result }
 {
     match run_generated(rt, seed, nodes, gate) {
-        Ok((alg, file, last)) => Outcome::Shown { alg, file, last },
+        Ok((alg, file, last)) => Outcome::Shown(Shown { alg, file, last }),
         Err(NoMemory) => Outcome::refused(Stop::Memory),
     }
 }

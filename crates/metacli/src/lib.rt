@@ -2,11 +2,12 @@
 //! does happens here; `main` only makes the real outside. It stands on every crate below.
 #![tactic(auto)]
 
-mod behind;
+mod after;
 mod checking;
 mod coding;
 mod ended;
 mod generating;
+mod laws;
 mod outcome;
 mod phases;
 mod putting;
@@ -15,11 +16,16 @@ mod routing;
 mod running;
 mod summing;
 mod tabling;
+mod task;
 mod top;
 mod wedging;
 mod writing;
 
 pub use command_words::{Command, Required, WordsFault, read_words};
 pub use ended::{Answer, Ended, status};
+pub use laws::{
+    nothing_is_given_up, quiet_runs_end_alike, quiet_runs_have_the_stable_rows,
+    summaries_are_determined,
+};
 pub use top::run_meta;
 pub use vector_runs::Phase;

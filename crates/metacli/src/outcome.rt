@@ -4,9 +4,10 @@ ghost use Rattle.metacli.specs.Answers.{done, memory_refused, pure_answer, pure_
 ghost use Rattle.std.specs.Prelude.{option_map};
 ghost use Rattle.metacli.specs.Outcome.{Shows, met_or, stopped};
 ghost use Rattle.metacli.specs.declared.outcome.Stop.TheVariants.{Memory};
-ghost use Rattle.metacli.specs.Views.{pure_outcome};
+ghost use Rattle.metacli.specs.Views.{AreParts, CanBeWritten, pure_outcome};
+ghost use Rattle.topology_file.specs.Views.{pure_file};
 ghost use Rattle.alg_classes.specs.Instances.{pure_instance, pure_property};
-ghost use Rattle.report_text.specs.Refusals.{lacks, pure_refusal};
+ghost use Rattle.report_text.specs.Refusals.{misses, pure_refusal};
 
 use crate::routing::Solution;
 use crate::{Answer, Command, Ended, WordsFault};
@@ -14,7 +15,7 @@ use alg_classes::Property;
 use alg_model::Alg;
 use code_gen::Listing;
 use meta_base::{Delivery, List, NoMemory, Which};
-use net_facts::Lack;
+use net_facts::Missing;
 use net_graph::{Net, RouteRow};
 use property_infer::{Verdict, Verdicts};
 use raml_syntax::ExprFault;
@@ -81,62 +82,84 @@ pub enum Outcome {
         file: Option<NetFile>,
         stop: Stop,
     },
-    /// An arc of the network after its changes, which is `None` where there are none, has a label that isn't fit.
-    Lacking {
-        alg: Alg,
-        file: NetFile,
-        behind: Option<Net>,
-        lack: Lack,
-    },
-    /// The verdicts on an algebra, or on the labels of a network over it, and the first required property that fails.
-    Checked {
-        alg: Alg,
-        file: Option<NetFile>,
-        verdicts: Verdicts,
-        unmet: Option<Property>,
-    },
-    /// The code of an algebra's order, and of the labels of a network over it after its changes, where there is one:
-    /// `behind` is `None` where there are no changes.
-    Coded {
-        alg: Alg,
-        file: Option<NetFile>,
-        behind: Option<Net>,
-        listing: Listing,
-    },
-    /// The routes of a network over an algebra that were asked for.
-    Routed {
-        solution: Solution,
-        alg: Alg,
-        file: NetFile,
-        rows: List<RouteRow>,
-    },
-    /// The verdict on monotone of an algebra, with an instance that a network file can hold.
-    Gadget {
-        alg: Alg,
-        verdict: Verdict,
-    },
-    /// The phases of path-vector nodes on the network of a file, and on those after its changes.
-    Ran {
-        alg: Alg,
-        file: NetFile,
-        /// The networks after the first change, the first two, and so on.
-        changed: List<Net>,
-        /// Deliveries are printed.
-        is_traced: bool,
-        run: Run,
-    },
-    /// The phase of path-vector nodes on a generated network, which is quiet.
-    Shown {
-        alg: Alg,
-        file: NetFile,
-        last: Phase,
-    },
+    Unfit(Unfit),
+    Checked(Checked),
+    Coded(Coded),
+    Routed(Routed),
+    Wedged(Wedged),
+    Ran(Ran),
+    Shown(Shown),
+}
+
+/// An arc of the network after its changes, which is `None` where there are none, has a label that isn't fit.
+#[derive(Debug, Drop)]
+pub struct Unfit {
+    pub alg: Alg,
+    pub file: NetFile,
+    pub after: Option<Net>,
+    pub missing: Missing,
+}
+
+/// The verdicts on an algebra, or on the labels of a network over it, and the first required property that fails.
+#[derive(Debug, Drop)]
+pub struct Checked {
+    pub alg: Alg,
+    pub file: Option<NetFile>,
+    pub verdicts: Verdicts,
+    pub unmet: Option<Property>,
+}
+
+/// The code of an algebra's order, and of the labels of a network over it after its changes, where there is one:
+/// `after` is `None` where there are no changes.
+#[derive(Debug, Drop)]
+pub struct Coded {
+    pub alg: Alg,
+    pub file: Option<NetFile>,
+    pub after: Option<Net>,
+    pub listing: Listing,
+}
+
+/// The routes of a network over an algebra that were asked for.
+#[derive(Debug, Drop)]
+pub struct Routed {
+    pub solution: Solution,
+    pub alg: Alg,
+    pub file: NetFile,
+    pub rows: List<RouteRow>,
+}
+
+/// The verdict on monotone of an algebra, with an instance that a network file can hold.
+#[derive(Debug, Drop)]
+pub struct Wedged {
+    pub alg: Alg,
+    pub verdict: Verdict,
+}
+
+/// The phases of path-vector nodes on the network of a file, and on those after its changes.
+#[derive(Debug, Drop)]
+pub struct Ran {
+    pub alg: Alg,
+    pub file: NetFile,
+    /// The networks after the first change, the first two, and so on.
+    pub changed: List<Net>,
+    /// Deliveries are printed.
+    pub is_traced: bool,
+    pub run: Run,
+}
+
+/// The phase of path-vector nodes on a generated network, which is quiet.
+#[derive(Debug, Drop)]
+pub struct Shown {
+    pub alg: Alg,
+    pub file: NetFile,
+    pub last: Phase,
 }
 
 impl Outcome {
     /// What comes of a refusal before anything was read.
     pub fn refused(stop: Stop) -> Outcome
-        ensures { pure_outcome result ≡ stopped None None (pure_stop stop) }
+        ensures is { pure_outcome result ≡ stopped None None (pure_stop stop) }
+        ensures printable { CanBeWritten result }
     {
         Outcome::Stopped {
             alg: None,
@@ -145,89 +168,17 @@ impl Outcome {
         }
     }
 
-    /// The end that shows the outcome of the command, with this answer.
+    /// The end that shows it, with the command and the answer to writing it.
     pub fn ended(self, alloc: Global, command: Option<Command>, answer: Answer) -> Ended
         ensures shows { Shows result command (pure_outcome self) }
         ensures answer { result.answer ≡ answer }
     {
-        let (alg, file, made, decided) = match self {
-            Outcome::Stopped { alg, file, stop } => {
-                (alg, file, Made::nothing(alloc), stop.answer())
-            }
-            Outcome::Lacking {
-                alg,
-                file,
-                behind,
-                lack,
-            } => {
-                drop(behind);
-                (
-                    Some(alg),
-                    Some(file),
-                    Made::nothing(alloc),
-                    lack_answer(lack),
-                )
-            }
-            Outcome::Checked {
-                alg,
-                file,
-                verdicts,
-                unmet,
-            } => (
-                Some(alg),
-                file,
-                Made::of_verdicts(alloc, verdicts),
-                checked_answer(unmet),
-            ),
-            Outcome::Coded {
-                alg,
-                file,
-                behind,
-                listing,
-            } => {
-                drop(behind);
-                (
-                    Some(alg),
-                    file,
-                    Made::of_listing(alloc, listing),
-                    Answer::Done,
-                )
-            }
-            Outcome::Routed {
-                alg,
-                file,
-                rows,
-                ..
-            } => (
-                Some(alg),
-                Some(file),
-                Made::of_rows(alloc, rows),
-                Answer::Done,
-            ),
-            Outcome::Gadget { alg, verdict } => (
-                Some(alg),
-                None,
-                Made::of_gadget(alloc, verdict),
-                Answer::Done,
-            ),
-            Outcome::Ran {
-                alg,
-                file,
-                changed,
-                run,
-                ..
-            } => {
-                drop(changed);
-                let decided = end_answer(run.is_quiet);
-                (Some(alg), Some(file), Made::of_run(run), decided)
-            }
-            Outcome::Shown { alg, file, last } => (
-                Some(alg),
-                Some(file),
-                Made::of_phase(alloc, last),
-                Answer::Done,
-            ),
-        };
+        let Parts {
+            alg,
+            file,
+            made,
+            decided,
+        } = self.parts(alloc);
         let (net, changes) = match file {
             Some(NetFile { net, changes }) => (Some(net), changes),
             None => (None, List::new(alloc)),
@@ -247,11 +198,151 @@ impl Outcome {
             answer,
         }
     }
+
+    // What was read, what was made of it, and the answer to that.
+    fn parts(self, alloc: Global) -> Parts
+        ensures { AreParts result (pure_outcome self) }
+    {
+        match self {
+            Outcome::Stopped { alg, file, stop } => stopped_parts(alloc, alg, file, stop),
+            Outcome::Unfit(it) => it.parts(alloc),
+            Outcome::Checked(it) => it.parts(alloc),
+            Outcome::Coded(it) => it.parts(alloc),
+            Outcome::Routed(it) => it.parts(alloc),
+            Outcome::Wedged(it) => it.parts(alloc),
+            Outcome::Ran(it) => it.parts(alloc),
+            Outcome::Shown(it) => it.parts(alloc),
+        }
+    }
 }
 
-// What a command made.
+/// What was read, what was made of it, and the answer to that.
 #[derive(Drop)]
-struct Made {
+pub struct Parts {
+    alg: Option<Alg>,
+    file: Option<NetFile>,
+    made: Made,
+    decided: Answer,
+}
+
+fn stopped_parts(alloc: Global, alg: Option<Alg>, file: Option<NetFile>, stop: Stop) -> Parts
+    ensures { AreParts result (stopped alg (option_map pure_file file) (pure_stop stop)) }
+{
+    Parts {
+        alg,
+        file,
+        made: Made::nothing(alloc),
+        decided: stop.answer(),
+    }
+}
+
+impl Unfit {
+    fn parts(self, alloc: Global) -> Parts
+        ensures { AreParts result (pure_outcome (Outcome.Unfit self)) }
+    {
+        Parts {
+            alg: Some(self.alg),
+            file: Some(self.file),
+            made: Made::nothing(alloc),
+            decided: missing_answer(self.missing),
+        }
+    }
+}
+
+impl Checked {
+    fn parts(self, alloc: Global) -> Parts
+        ensures { AreParts result (pure_outcome (Outcome.Checked self)) }
+    {
+        let mut made = Made::nothing(alloc);
+        made.verdicts = Some(self.verdicts);
+        Parts {
+            alg: Some(self.alg),
+            file: self.file,
+            made,
+            decided: checked_answer(self.unmet),
+        }
+    }
+}
+
+impl Coded {
+    fn parts(self, alloc: Global) -> Parts
+        ensures { AreParts result (pure_outcome (Outcome.Coded self)) }
+    {
+        let mut made = Made::nothing(alloc);
+        made.listing = Some(self.listing);
+        Parts {
+            alg: Some(self.alg),
+            file: self.file,
+            made,
+            decided: Answer::Done,
+        }
+    }
+}
+
+impl Routed {
+    fn parts(self, alloc: Global) -> Parts
+        ensures { AreParts result (pure_outcome (Outcome.Routed self)) }
+    {
+        let mut made = Made::nothing(alloc);
+        made.rows = self.rows;
+        Parts {
+            alg: Some(self.alg),
+            file: Some(self.file),
+            made,
+            decided: Answer::Done,
+        }
+    }
+}
+
+impl Wedged {
+    fn parts(self, alloc: Global) -> Parts
+        ensures { AreParts result (pure_outcome (Outcome.Wedged self)) }
+    {
+        let mut made = Made::nothing(alloc);
+        made.gadget = Some(self.verdict);
+        Parts {
+            alg: Some(self.alg),
+            file: None,
+            made,
+            decided: Answer::Done,
+        }
+    }
+}
+
+impl Ran {
+    fn parts(self, alloc: Global) -> Parts
+        ensures { AreParts result (pure_outcome (Outcome.Ran self)) }
+    {
+        let Run {
+            past,
+            last,
+            is_quiet,
+        } = self.run;
+        Parts {
+            alg: Some(self.alg),
+            file: Some(self.file),
+            made: Made::of_phases(past, last),
+            decided: end_answer(is_quiet),
+        }
+    }
+}
+
+impl Shown {
+    fn parts(self, alloc: Global) -> Parts
+        ensures { AreParts result (pure_outcome (Outcome.Shown self)) }
+    {
+        Parts {
+            alg: Some(self.alg),
+            file: Some(self.file),
+            made: Made::of_phases(List::new(alloc), self.last),
+            decided: Answer::Done,
+        }
+    }
+}
+
+/// What a command made: a field that it doesn't make is `None` or empty.
+#[derive(Drop)]
+pub struct Made {
     verdicts: Option<Verdicts>,
     listing: Option<Listing>,
     gadget: Option<Verdict>,
@@ -261,9 +352,9 @@ struct Made {
 }
 
 impl Made {
-    ghost use Rattle.std.specs.Prelude.{[], Some};
+    ghost use Rattle.std.specs.Prelude.{[]};
 
-    // Nothing.
+    // Nothing yet.
     fn nothing(alloc: Global) -> Made
         ensures { result ≡ record {
           verdicts = None;
@@ -284,129 +375,24 @@ impl Made {
         }
     }
 
-    // Verdicts.
-    fn of_verdicts(alloc: Global, verdicts: Verdicts) -> Made
-        ensures { result ≡ record {
-          verdicts = Some verdicts;
-          listing = None;
-          gadget = None;
-          rows = [];
-          journal = [];
-          past = [];
-        } }
-    {
-        Made {
-            verdicts: Some(verdicts),
-            listing: None,
-            gadget: None,
-            rows: List::new(alloc),
-            journal: List::new(alloc),
-            past: List::new(alloc),
-        }
-    }
-
-    // Code.
-    fn of_listing(alloc: Global, listing: Listing) -> Made
-        ensures { result ≡ record {
-          verdicts = None;
-          listing = Some listing;
-          gadget = None;
-          rows = [];
-          journal = [];
-          past = [];
-        } }
-    {
-        Made {
-            verdicts: None,
-            listing: Some(listing),
-            gadget: None,
-            rows: List::new(alloc),
-            journal: List::new(alloc),
-            past: List::new(alloc),
-        }
-    }
-
-    // A verdict that a network shows.
-    fn of_gadget(alloc: Global, verdict: Verdict) -> Made
-        ensures { result ≡ record {
-          verdicts = None;
-          listing = None;
-          gadget = Some verdict;
-          rows = [];
-          journal = [];
-          past = [];
-        } }
-    {
-        Made {
-            verdicts: None,
-            listing: None,
-            gadget: Some(verdict),
-            rows: List::new(alloc),
-            journal: List::new(alloc),
-            past: List::new(alloc),
-        }
-    }
-
-    // Routes.
-    fn of_rows(alloc: Global, rows: List<RouteRow>) -> Made
-        ensures { result ≡ record {
-          verdicts = None;
-          listing = None;
-          gadget = None;
-          rows = rows;
-          journal = [];
-          past = [];
-        } }
-    {
-        Made {
-            verdicts: None,
-            listing: None,
-            gadget: None,
-            rows,
-            journal: List::new(alloc),
-            past: List::new(alloc),
-        }
-    }
-
-    // One phase.
-    fn of_phase(alloc: Global, phase: Phase) -> Made
-        ensures { result ≡ record {
-          verdicts = None;
-          listing = None;
-          gadget = None;
-          rows = phase.rows;
-          journal = phase.journal;
-          past = [];
-        } }
-    {
-        Made {
-            verdicts: None,
-            listing: None,
-            gadget: None,
-            rows: phase.rows,
-            journal: phase.journal,
-            past: List::new(alloc),
-        }
-    }
-
     // The phases of a run.
-    fn of_run(run: Run) -> Made
+    fn of_phases(past: List<Phase>, last: Phase) -> Made
         ensures { result ≡ record {
           verdicts = None;
           listing = None;
           gadget = None;
-          rows = run.last.rows;
-          journal = run.last.journal;
-          past = run.past;
+          rows = last.rows;
+          journal = last.journal;
+          past = past;
         } }
     {
         Made {
             verdicts: None,
             listing: None,
             gadget: None,
-            rows: run.last.rows,
-            journal: run.last.journal,
-            past: run.past,
+            rows: last.rows,
+            journal: last.journal,
+            past,
         }
     }
 }
@@ -437,11 +423,11 @@ pub(crate) fn end_answer(is_quiet: bool) -> Answer
 }
 
 // The answer that says so.
-fn lack_answer(lack: Lack) -> Answer
-    ensures { pure_answer result ≡ refused (lacks lack.arc.0 (pure_instance lack.instance)) }
+fn missing_answer(missing: Missing) -> Answer
+    ensures { pure_answer result ≡ refused (misses missing.arc.0 (pure_instance missing.instance)) }
 {
-    Answer::Lacks {
-        arc: lack.arc,
-        instance: lack.instance,
+    Answer::Misses {
+        arc: missing.arc,
+        instance: missing.instance,
     }
 }

@@ -4,39 +4,48 @@ ghost use Rattle.std.specs.List.{AllByRecursion};
 ghost use Rattle.metacli.specs.Texts.{PutsText, journal_text, number_text, phase_lines, run_text, trace_text};
 ghost use Rattle.vector_runs.specs.Runs.{AreOfNetworks, IsOfNetwork, pure_phase};
 
+use crate::outcome::Ran;
 use crate::putting::{Cut, put_line, put_room, room_for_lines};
 use crate::writing::put_rows;
 use meta_base::{Delivery, Sink};
 use net_graph::Net;
 use report_text::{end_line, phase_line, push_delivery_line};
 use std::alloc::Global;
-use vector_runs::{Phase, Run};
+use vector_runs::Phase;
 
-/// Puts the phases from one number on: these of the past, the first on this network and the others on the changed
-/// ones, and then the run's last.
+/// Puts the phases of a run from one number on: these of the past, the first on this network and the others on the
+/// changed ones, and then the last.
 pub(crate) fn put_phases<K: Sink>(
     alloc: Global,
     out: &mut K,
     net: &Net,
     changed: &[Net],
     number: usize,
-    is_traced: bool,
     past: &[Phase],
-    run: &Run,
+    ran: &Ran,
 ) -> Result<(), Cut>
-    requires of { AreOfNetworks net.now changed.now (map pure_phase past.now) (pure_phase run.now.last) }
+    requires of { AreOfNetworks net.now changed.now (map pure_phase past.now) (pure_phase ran.now.run.last) }
     requires few { number + length past.now < 2 ^ 64 }
-    ensures { PutsText (K.holds out.old) (run_text is_traced net.now changed.now number
-        (map pure_phase past.now) (pure_phase run.now.last) run.now.is_quiet) result (K.holds out.new) }
+    ensures { PutsText (K.holds out.old) (run_text ran.now.is_traced net.now changed.now number
+        (map pure_phase past.now) (pure_phase ran.now.run.last) ran.now.run.is_quiet) result (K.holds out.new) }
 {
+    let run = &ran.run;
     let Some((phase, rest)) = past.split_first() else {
-        return put_phase(alloc, out, net, number, is_traced, &run.last, run.is_quiet);
+        return put_phase(
+            alloc,
+            out,
+            net,
+            number,
+            ran.is_traced,
+            &run.last,
+            run.is_quiet,
+        );
     };
     let Some((next, later)) = changed.split_first() else {
         unreachable!()
     };
-    put_phase(alloc, out, net, number, is_traced, phase, true)?;
-    put_phases(alloc, out, next, later, number + 1, is_traced, rest, run)
+    put_phase(alloc, out, net, number, ran.is_traced, phase, true)?;
+    put_phases(alloc, out, next, later, number + 1, rest, ran)
 }
 
 // Puts a phase: its number, where it isn't the first; its deliveries, where they are asked for; its rows; its end.

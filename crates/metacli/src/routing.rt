@@ -11,14 +11,14 @@ ghost use Rattle.net_graph.specs.RowTexts.{IsRowOf};
 ghost use Rattle.net_graph.specs.Tables.{joined_rows};
 ghost use Rattle.topology_file.specs.Views.{pure_file};
 ghost use Rattle.topology_file.specs.NetText.{changed_net};
-ghost use Rattle.metacli.specs.Behind.{last_of};
+ghost use Rattle.metacli.specs.After.{last_of};
 ghost use Rattle.metacli.specs.Outcome.{AreRoutesOn, IsFit, IsRoutedAs, asked_of};
 ghost use Rattle.metacli.specs.Found.{IsFoundOn};
 ghost use Rattle.alg_classes.specs.Instances.{pure_property};
 ghost use Rattle.metacli.specs.Views.{CanBeWritten, pure_outcome};
 
-use crate::behind::{last_of, net_behind};
-use crate::outcome::{Outcome, Stop};
+use crate::after::{last_of, net_after};
+use crate::outcome::{Outcome, Routed, Stop, Unfit};
 use alg_classes::Property;
 use alg_model::Alg;
 use best_first::{best_first_is_optimal, best_first_rows_are_the_networks};
@@ -26,7 +26,7 @@ use code_gen::{CodeAlgebra, row_width, rows_have_their_width};
 use label_code::{FixedRow, HeldRow, Words};
 use link_state::all_tables;
 use meta_base::{List, NoMemory};
-use net_facts::{Lack, first_lack};
+use net_facts::{Missing, first_missing};
 use net_graph::{DestTable, Net, RouteRow};
 use settled_laws::{best_first_is_stable, stable_rows_are_settled, strict_is_monotone};
 use std::alloc::{AllocGlobal, Global};
@@ -72,8 +72,8 @@ pub fn route<R: AllocGlobal + Threads + Sync>(
     ensures routed { IsRoutedAs solution alg (pure_file file) (pure_outcome result) }
     ensures printable { CanBeWritten result }
 {
-    match found_behind(rt, &file, solution, workers) {
-        Ok((behind, found)) => outcome_of(alg, file, solution, behind, found),
+    match found_after(rt, &file, solution, workers) {
+        Ok((after, found)) => outcome_of(alg, file, solution, after, found),
         Err(NoMemory) => Outcome::Stopped {
             alg: Some(alg),
             file: Some(file),
@@ -87,51 +87,51 @@ fn outcome_of(
     alg: Alg,
     file: NetFile,
     solution: Solution,
-    behind: Option<Net>,
-    found: Result<List<RouteRow>, Lack>,
+    after: Option<Net>,
+    found: Result<List<RouteRow>, Missing>,
 ) -> Outcome
     requires over { file.net.alg ≡ alg }
-    requires behind { last_of behind file.net ≡ changed_net (pure_file file) }
+    requires after { last_of after file.net ≡ changed_net (pure_file file) }
     requires found { IsFoundOn solution (changed_net (pure_file file)) found }
     ensures routed { IsRoutedAs solution alg (pure_file file) (pure_outcome result) }
     ensures printable { CanBeWritten result }
 {
     match found {
         Ok(rows) => {
-            drop(behind);
-            Outcome::Routed {
+            drop(after);
+            Outcome::Routed(Routed {
                 solution,
                 alg,
                 file,
                 rows,
-            }
+            })
         }
-        Err(lack) => Outcome::Lacking {
+        Err(missing) => Outcome::Unfit(Unfit {
             alg,
             file,
-            behind,
-            lack,
-        },
+            after,
+            missing,
+        }),
     }
 }
 
 // The network after all changes, where there are any, and what is found on it.
-fn found_behind<R: AllocGlobal + Threads + Sync>(
+fn found_after<R: AllocGlobal + Threads + Sync>(
     rt: &R,
     file: &NetFile,
     solution: Solution,
     workers: u32,
-) -> Result<(Option<Net>, Result<List<RouteRow>, Lack>), NoMemory>
+) -> Result<(Option<Net>, Result<List<RouteRow>, Missing>), NoMemory>
     requires workers { AreWorkers workers }
     requires changes { AreChanges file.now.net (map pure_change file.now.changes) }
-    ensures behind { IfOk result (λ found. last_of found.0 file.now.net ≡ changed_net (pure_file file.now)) }
+    ensures after { IfOk result (λ found. last_of found.0 file.now.net ≡ changed_net (pure_file file.now)) }
     ensures found { IfOk result (λ found. IsFoundOn solution (changed_net (pure_file file.now)) found.1) }
 {
-    let behind = net_behind(rt.alloc(), &file.net, file.changes.as_slice())?;
-    match found_on(rt, last_of(&behind, &file.net), solution, workers) {
-        Ok(found) => Ok((behind, found)),
+    let after = net_after(rt.alloc(), &file.net, file.changes.as_slice())?;
+    match found_on(rt, last_of(&after, &file.net), solution, workers) {
+        Ok(found) => Ok((after, found)),
         Err(NoMemory) => {
-            drop(behind);
+            drop(after);
             Err(NoMemory)
         }
     }
@@ -143,12 +143,12 @@ fn found_on<R: AllocGlobal + Threads + Sync>(
     net: &Net,
     solution: Solution,
     workers: u32,
-) -> Result<Result<List<RouteRow>, Lack>, NoMemory>
+) -> Result<Result<List<RouteRow>, Missing>, NoMemory>
     requires { AreWorkers workers }
     ensures { IfOk result (IsFoundOn solution net.now) }
 {
-    match first_lack(rt.alloc(), net, solution.properties())? {
-        Some(lack) => Ok(Err(lack)),
+    match first_missing(rt.alloc(), net, solution.properties())? {
+        Some(missing) => Ok(Err(missing)),
         None => Ok(Ok(all_routes(rt, net, solution, workers)?)),
     }
 }

@@ -7,14 +7,14 @@ ghost use Rattle.net_graph.specs.Changes.{AreChanges};
 ghost use Rattle.net_graph.specs.Nets.{IsNet};
 ghost use Rattle.net_graph.specs.Views.{pure_change};
 ghost use Rattle.topology_file.specs.Views.{pure_file};
-ghost use Rattle.metacli.specs.Behind.{nets_after};
+ghost use Rattle.metacli.specs.After.{nets_after};
 ghost use Rattle.metacli.specs.Outcome.{IsRunAs};
 ghost use Rattle.metacli.specs.Runs.{IsRunThrough};
 ghost use Rattle.metacli.specs.Views.{CanBeWritten, pure_outcome};
 ghost use Rattle.vector_runs.specs.Runs.{AreLater, IsRun, pure_phase};
 
-use crate::behind::nets_behind;
-use crate::outcome::{Outcome, Stop};
+use crate::after::networks_after;
+use crate::outcome::{Outcome, Ran, Stop};
 use alg_model::Alg;
 use code_gen::{CodeAlgebra, row_width, rows_have_their_width};
 use label_code::{FixedRow, HeldRow, Words};
@@ -48,13 +48,13 @@ pub fn run<R: AllocGlobal + Threads + Wait + Sync, G: Gate>(
     ensures printable { CanBeWritten result }
 {
     match run_through(rt, &file, workers, turns, gate) {
-        Ok((changed, run)) => Outcome::Ran {
+        Ok((changed, run)) => Outcome::Ran(Ran {
             alg,
             file,
             changed,
             is_traced,
             run,
-        },
+        }),
         Err(NoMemory) => Outcome::Stopped {
             alg: Some(alg),
             file: Some(file),
@@ -82,7 +82,7 @@ pub(crate) fn run_through<R: AllocGlobal + Threads + Wait + Sync, G: Gate>(
     runs_are_short();
     enough_turns_are_quiet();
     let alloc = rt.alloc();
-    let changed = List::from_vec(nets_behind(alloc, &file.net, file.changes.as_slice())?);
+    let changed = List::from_vec(networks_after(alloc, &file.net, file.changes.as_slice())?);
     match run_on(rt, &file.net, changed.as_slice(), workers, turns, gate) {
         Ok(run) => Ok((changed, run)),
         Err(NoMemory) => {

@@ -1,7 +1,12 @@
-ghost use Rattle.std.specs.Prelude.{◌≡◌, ◌<◌, length, Some, None, Ok};
-ghost use Rattle.metacli.specs.Outcome.{ComesBy, ComesTo, IsChecked, IsCheckedOn, IsCoded, IsCodedOn, IsRouted, IsRunOn, IsWedged, word_at};
-ghost use Rattle.command_words.specs.Words.{AreTurns, AreWorkers, HasItsWords};
+ghost use Rattle.std.specs.Prelude.{◌≡◌, ◌<◌, length, map};
+ghost use Rattle.std.specs.Result.{result_ok};
+ghost use Rattle.metacli.specs.Outcome.{ComesOf, ComesTo, IsMadeAlone, IsMadeOn, WithAlgebra, WithNetwork, word_at};
+ghost use Rattle.net_graph.specs.Changes.{AreChanges};
+ghost use Rattle.net_graph.specs.Views.{pure_change};
+ghost use Rattle.topology_file.specs.Views.{pure_file};
+ghost use Rattle.command_words.specs.Words.{Words};
 ghost use Rattle.metacli.specs.Runs.{Runs};
+ghost use Rattle.metacli.specs.Tasks.{CanBeDone, HasItsNumbers};
 ghost use Rattle.metacli.specs.Views.{CanBeWritten, pure_outcome};
 
 use crate::checking::{check, check_network};
@@ -9,27 +14,25 @@ use crate::coding::{code, code_network};
 use crate::generating::demo;
 use crate::outcome::{Outcome, Stop};
 use crate::reading::{read_expression, read_network};
-use crate::routing::{Solution, route};
+use crate::routing::route;
 use crate::running::run;
+use crate::task::{AlgebraTask, NetworkTask, Task, task_of};
 use crate::wedging::gadget;
 use crate::writing::write;
-use crate::{Command, Ended, Required, read_words};
+use crate::{Command, Ended, read_words};
+use alg_model::Alg;
 use meta_base::{Gate, Shelf, Sink, Text};
-use raml_syntax::{no_fault_beside_an_algebra, one_text_one_algebra, one_text_one_fault};
 use std::alloc::{AllocGlobal, Global};
 use std::sync::Wait;
 use std::thread::Threads;
-use topology_file::one_text_one_network;
-
-// `settle` and `stable` find their tables on one thread.
-const ONE_WORKER: u32 = 1;
+use topology_file::NetFile;
 
 /// All that the program does: it reads what the words mean, reads the files that they name, decides,
 /// and writes what was decided.
 ///
 /// What comes back says all that was read, decided and answered, and the bytes written are the text of
-/// that. Each refusal has its cause, and where the words mean a command, the file is in the grammar
-/// and no fault came, the command is carried out unless memory is refused.
+/// that. Each refusal has its cause. Where the words mean a command, the files are in their grammars and no
+/// fault came, the command is carried out unless memory is refused: [`crate::nothing_is_given_up`].
 pub fn run_meta<R: AllocGlobal + Threads + Wait + Sync, S: Shelf, K: Sink, G: Gate>(
     rt: &R,
     words: &[Text],
@@ -39,11 +42,6 @@ pub fn run_meta<R: AllocGlobal + Threads + Wait + Sync, S: Shelf, K: Sink, G: Ga
 ) -> Ended
     ensures { Runs words.now (S.now_is shelf.old) (S.now_is shelf.new) (K.holds out.old) (K.holds out.new) result }
 {
-    // One text means one thing, so that what the files mean tells what was decided.
-    one_text_one_algebra();
-    one_text_one_fault();
-    no_fault_beside_an_algebra();
-    one_text_one_network();
     let alloc = rt.alloc();
     let (command, outcome) = decide(rt, words, shelf, gate);
     let answer = write(alloc, out, &outcome);
@@ -51,116 +49,46 @@ pub fn run_meta<R: AllocGlobal + Threads + Wait + Sync, S: Shelf, K: Sink, G: Ga
 }
 
 // The command of the words, and what it comes to.
+#[tactic(auto, using(crate::proofs::Tasks::can_be_done))]
 fn decide<R: AllocGlobal + Threads + Wait + Sync, S: Shelf, G: Gate>(
     rt: &R,
     words: &[Text],
     shelf: &mut S,
     gate: &G,
 ) -> (Option<Command>, Outcome)
-    ensures comes_to { ComesTo words.now (S.now_is shelf.old) (S.now_is shelf.new) result.0 (pure_outcome result.1) }
+    ensures command { result.0 ≡ result_ok (Words words.now) }
+    ensures comes_to { ComesTo words.now (S.now_is shelf.old) (S.now_is shelf.new) (pure_outcome result.1) }
     ensures printable { CanBeWritten result.1 }
 {
     match read_words(words) {
         Ok(command) => {
-            let outcome = carry_out(rt, words, command, shelf, gate);
+            let outcome = carry_out(rt, words, task_of(command), shelf, gate);
             (Some(command), outcome)
         }
         Err(fault) => (None, Outcome::refused(Stop::Words(fault))),
     }
 }
 
-// What the command comes to, whose files the words name.
+// What the task comes to, whose files the words name.
 fn carry_out<R: AllocGlobal + Threads + Wait + Sync, S: Shelf, G: Gate>(
     rt: &R,
     words: &[Text],
-    command: Command,
+    task: Task,
     shelf: &mut S,
     gate: &G,
 ) -> Outcome
-    requires { HasItsWords words.now command }
-    ensures comes_to { ComesBy words.now (Ok command) (S.now_is shelf.old) (S.now_is shelf.new) (Some command)
-        (pure_outcome result) }
+    requires { CanBeDone words.now task }
+    ensures comes_to { ComesOf words.now task (S.now_is shelf.old) (S.now_is shelf.new) (pure_outcome result) }
     ensures printable { CanBeWritten result }
 {
-    let alloc = rt.alloc();
-    match command {
-        Command::Check {
-            file,
-            net: None,
-            require,
-        } => check_file(alloc, shelf, name_at(words, file), require),
-        Command::Check {
-            file,
-            net: Some(net),
-            require,
-        } => check_files(
-            alloc,
-            shelf,
-            name_at(words, file),
-            name_at(words, net),
-            require,
-        ),
-        Command::Code { file, net: None } => code_file(alloc, shelf, name_at(words, file)),
-        Command::Code {
-            file,
-            net: Some(net),
-        } => code_files(alloc, shelf, name_at(words, file), name_at(words, net)),
-        Command::Route { file, net, workers } => route_files(
-            rt,
-            shelf,
-            name_at(words, file),
-            name_at(words, net),
-            Solution::Unbeaten,
-            workers,
-        ),
-        Command::Settle { file, net } => route_files(
-            rt,
-            shelf,
-            name_at(words, file),
-            name_at(words, net),
-            Solution::Settled,
-            ONE_WORKER,
-        ),
-        Command::Stable { file, net } => route_files(
-            rt,
-            shelf,
-            name_at(words, file),
-            name_at(words, net),
-            Solution::AllStable,
-            ONE_WORKER,
-        ),
-        Command::Run {
-            file,
-            net,
-            workers,
-            turns,
-        } => run_files(
-            rt,
-            shelf,
-            name_at(words, file),
-            name_at(words, net),
-            workers,
-            turns,
-            false,
-            gate,
-        ),
-        Command::Trace {
-            file,
-            net,
-            workers,
-            turns,
-        } => run_files(
-            rt,
-            shelf,
-            name_at(words, file),
-            name_at(words, net),
-            workers,
-            turns,
-            true,
-            gate,
-        ),
-        Command::Gadget { file } => gadget_file(alloc, shelf, name_at(words, file)),
-        Command::Demo { seed, nodes } => demo(rt, seed, nodes, gate),
+    match task {
+        Task::Demo { seed, nodes } => demo(rt, seed, nodes, gate),
+        Task::Alone { file, task } => with_algebra(rt.alloc(), shelf, name_at(words, file), task),
+        Task::On { file, net, task } => {
+            let file = name_at(words, file);
+            let net = name_at(words, net);
+            with_network(rt, shelf, file, net, task, gate)
+        }
     }
 }
 
@@ -172,128 +100,42 @@ fn name_at(words: &[Text], place: usize) -> &str
     words[place].as_str()
 }
 
-// What `check` comes to on the expression file of that name.
-fn check_file<S: Shelf>(alloc: Global, shelf: &mut S, file: &str, require: Required) -> Outcome
-    ensures checked { IsChecked require file.now (S.now_is shelf.old) (S.now_is shelf.new) (pure_outcome result) }
+// What the task comes to on the expression file of that name.
+fn with_algebra<S: Shelf>(alloc: Global, shelf: &mut S, file: &str, task: AlgebraTask) -> Outcome
+    ensures comes_to { WithAlgebra file.now (λ a old new o. (new ≡ old) × IsMadeAlone task a o)
+        (S.now_is shelf.old) (S.now_is shelf.new) (pure_outcome result) }
     ensures printable { CanBeWritten result }
 {
     match read_expression(alloc, shelf, file) {
-        Ok(alg) => check(alloc, alg, require),
+        Ok(alg) => on_algebra(alloc, alg, task),
         Err(stop) => Outcome::refused(stop),
     }
 }
 
-// What `check` comes to on the expression file and the network file of these names.
-fn check_files<S: Shelf>(
-    alloc: Global,
-    shelf: &mut S,
-    file: &str,
-    net: &str,
-    require: Required,
-) -> Outcome
-    ensures checked { IsCheckedOn require file.now net.now (S.now_is shelf.old) (S.now_is shelf.new)
-        (pure_outcome result) }
+// What it comes to on the algebra.
+fn on_algebra(alloc: Global, alg: Alg, task: AlgebraTask) -> Outcome
+    ensures made { IsMadeAlone task alg (pure_outcome result) }
     ensures printable { CanBeWritten result }
 {
-    let alg = match read_expression(alloc, shelf, file) {
-        Ok(alg) => alg,
-        Err(stop) => return Outcome::refused(stop),
-    };
-    match read_network(alloc, shelf, &alg, net) {
-        Ok(file) => check_network(alloc, alg, file, require),
-        Err(stop) => Outcome::Stopped {
-            alg: Some(alg),
-            file: None,
-            stop,
-        },
+    match task {
+        AlgebraTask::Check(require) => check(alloc, alg, require),
+        AlgebraTask::Code => code(alloc, alg),
+        AlgebraTask::Gadget => gadget(alloc, alg),
     }
 }
 
-// What `gadget` comes to on the expression file of that name.
-fn gadget_file<S: Shelf>(alloc: Global, shelf: &mut S, file: &str) -> Outcome
-    ensures wedged { IsWedged file.now (S.now_is shelf.old) (S.now_is shelf.new) (pure_outcome result) }
-    ensures printable { CanBeWritten result }
-{
-    match read_expression(alloc, shelf, file) {
-        Ok(alg) => gadget(alloc, alg),
-        Err(stop) => Outcome::refused(stop),
-    }
-}
-
-// What `code` comes to on the expression file of that name.
-fn code_file<S: Shelf>(alloc: Global, shelf: &mut S, file: &str) -> Outcome
-    ensures coded { IsCoded file.now (S.now_is shelf.old) (S.now_is shelf.new) (pure_outcome result) }
-    ensures printable { CanBeWritten result }
-{
-    match read_expression(alloc, shelf, file) {
-        Ok(alg) => code(alloc, alg),
-        Err(stop) => Outcome::refused(stop),
-    }
-}
-
-// What `code` comes to on the expression file and the network file of these names.
-fn code_files<S: Shelf>(alloc: Global, shelf: &mut S, file: &str, net: &str) -> Outcome
-    ensures coded { IsCodedOn file.now net.now (S.now_is shelf.old) (S.now_is shelf.new) (pure_outcome result) }
-    ensures printable { CanBeWritten result }
-{
-    let alg = match read_expression(alloc, shelf, file) {
-        Ok(alg) => alg,
-        Err(stop) => return Outcome::refused(stop),
-    };
-    match read_network(alloc, shelf, &alg, net) {
-        Ok(file) => code_network(alloc, alg, file),
-        Err(stop) => Outcome::Stopped {
-            alg: Some(alg),
-            file: None,
-            stop,
-        },
-    }
-}
-
-// What `route`, `settle` or `stable` comes to on the files of these names, with so many workers.
-fn route_files<R: AllocGlobal + Threads + Sync, S: Shelf>(
+// What the task comes to on the expression file and the network file of these names.
+fn with_network<R: AllocGlobal + Threads + Wait + Sync, S: Shelf, G: Gate>(
     rt: &R,
     shelf: &mut S,
     file: &str,
     net: &str,
-    solution: Solution,
-    workers: u32,
-) -> Outcome
-    requires { AreWorkers workers }
-    ensures routed { IsRouted solution file.now net.now (S.now_is shelf.old) (S.now_is shelf.new)
-        (pure_outcome result) }
-    ensures printable { CanBeWritten result }
-{
-    let alloc = rt.alloc();
-    let alg = match read_expression(alloc, shelf, file) {
-        Ok(alg) => alg,
-        Err(stop) => return Outcome::refused(stop),
-    };
-    match read_network(alloc, shelf, &alg, net) {
-        Ok(file) => route(rt, alg, file, solution, workers),
-        Err(stop) => Outcome::Stopped {
-            alg: Some(alg),
-            file: None,
-            stop,
-        },
-    }
-}
-
-// What `run` or `trace` comes to on the files of these names, with so many workers and turns.
-fn run_files<R: AllocGlobal + Threads + Wait + Sync, S: Shelf, G: Gate>(
-    rt: &R,
-    shelf: &mut S,
-    file: &str,
-    net: &str,
-    workers: u32,
-    turns: u64,
-    is_traced: bool,
+    task: NetworkTask,
     gate: &G,
 ) -> Outcome
-    requires workers { AreWorkers workers }
-    requires turns { AreTurns turns }
-    ensures ran { IsRunOn is_traced turns file.now net.now (S.now_is shelf.old) (S.now_is shelf.new)
-        (pure_outcome result) }
+    requires { HasItsNumbers task }
+    ensures comes_to { WithAlgebra file.now (λ a. WithNetwork a net.now (IsMadeOn task a))
+        (S.now_is shelf.old) (S.now_is shelf.new) (pure_outcome result) }
     ensures printable { CanBeWritten result }
 {
     let alloc = rt.alloc();
@@ -302,11 +144,37 @@ fn run_files<R: AllocGlobal + Threads + Wait + Sync, S: Shelf, G: Gate>(
         Err(stop) => return Outcome::refused(stop),
     };
     match read_network(alloc, shelf, &alg, net) {
-        Ok(file) => run(rt, alg, file, workers, turns, is_traced, gate),
+        Ok(file) => on_network(rt, alg, file, task, gate),
         Err(stop) => Outcome::Stopped {
             alg: Some(alg),
             file: None,
             stop,
         },
+    }
+}
+
+// What it comes to on the network over the algebra, with its changes.
+fn on_network<R: AllocGlobal + Threads + Wait + Sync, G: Gate>(
+    rt: &R,
+    alg: Alg,
+    file: NetFile,
+    task: NetworkTask,
+    gate: &G,
+) -> Outcome
+    requires numbers { HasItsNumbers task }
+    requires over { file.net.alg ≡ alg }
+    requires changes { AreChanges file.net (map pure_change file.changes) }
+    ensures made { IsMadeOn task alg (pure_file file) (pure_outcome result) }
+    ensures printable { CanBeWritten result }
+{
+    match task {
+        NetworkTask::Check(require) => check_network(rt.alloc(), alg, file, require),
+        NetworkTask::Code => code_network(rt.alloc(), alg, file),
+        NetworkTask::Route { solution, workers } => route(rt, alg, file, solution, workers),
+        NetworkTask::Run {
+            workers,
+            turns,
+            is_traced,
+        } => run(rt, alg, file, workers, turns, is_traced, gate),
     }
 }

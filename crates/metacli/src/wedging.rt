@@ -3,7 +3,7 @@ ghost use Rattle.std.specs.Prelude.{◌≡◌};
 ghost use Rattle.metacli.specs.Outcome.{IsWedgedAs};
 ghost use Rattle.metacli.specs.Views.{CanBeWritten, pure_outcome};
 
-use crate::outcome::{Outcome, Stop};
+use crate::outcome::{Outcome, Stop, Wedged};
 use alg_model::Alg;
 use meta_base::NoMemory;
 use std::alloc::Global;
@@ -18,7 +18,7 @@ pub fn gadget(alloc: Global, alg: Alg) -> Outcome
     // (the tree of an algebra is formed)
     alg.tree();
     match wedge_nets::gadget(alloc, &alg) {
-        Ok(verdict) => Outcome::Gadget { alg, verdict },
+        Ok(verdict) => Outcome::Wedged(Wedged { alg, verdict }),
         Err(NoMemory) => Outcome::Stopped {
             alg: Some(alg),
             file: None,

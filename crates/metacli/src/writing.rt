@@ -6,19 +6,25 @@ ghost use Rattle.alg_model.specs.Views.{pure_value};
 ghost use Rattle.net_graph.specs.Nets.{PureNet};
 ghost use Rattle.net_graph.specs.Views.{pure_row};
 ghost use Rattle.net_graph.specs.RowTexts.{IsRowOf};
-ghost use Rattle.property_infer.specs.Views.{pure_verdicts};
+ghost use Rattle.property_infer.specs.Views.{pure_verdict, pure_verdicts};
 ghost use Rattle.topology_file.specs.Views.{pure_file};
 ghost use Rattle.report_text.specs.CodeTexts.{CanList, code_text};
 ghost use Rattle.report_text.specs.VerdictTexts.{CanPrintVerdicts, lines_on, verdicts_text};
-ghost use Rattle.report_text.specs.Refusals.{CanLack, lacks, lacks_text, refusal_text};
+ghost use Rattle.report_text.specs.Refusals.{CanMiss, misses, misses_text, refusal_text};
+ghost use Rattle.report_text.specs.SummaryTexts.{AreSummed, summary_text};
+ghost use Rattle.vector_runs.specs.Runs.{AreOfNetworks, pure_phase};
+ghost use Rattle.wedge_nets.specs.GadgetTexts.{gadget_text};
+ghost use Rattle.wedge_nets.specs.Gadgets.{HasGadget};
 ghost use Rattle.metacli.specs.Answers.{pure_answer, pure_stop, refused, write_fault};
 ghost use Rattle.metacli.specs.Outcome.{answer_in};
-ghost use Rattle.metacli.specs.Texts.{PutsText, TextOf, Written, last_net, routes_text, rows_text, unmet_text};
+ghost use Rattle.metacli.specs.Texts.{PutsText, TextOf, Written, last_net, routes_text, rows_text, run_text, unmet_text};
 ghost use Rattle.metacli.specs.Views.{CanBeWritten, IsListedOn, pure_outcome};
 
 use crate::Answer;
-use crate::behind::last_of;
-use crate::outcome::{Outcome, Stop, checked_answer, end_answer};
+use crate::after::last_of;
+use crate::outcome::{
+    Checked, Coded, Outcome, Ran, Routed, Shown, Stop, Wedged, checked_answer, end_answer,
+};
 use crate::phases::put_phases;
 use crate::putting::{Cut, answered, put_line, put_room, room_for_lines};
 use crate::routing::Solution;
@@ -26,13 +32,12 @@ use crate::summing::put_summary;
 use crate::tabling::put_tables;
 use alg_classes::{Instance, Property};
 use alg_model::{Alg, Value};
-use code_gen::Listing;
 use meta_base::{Failed, NoMemory, Sink, Text, put_all};
-use net_facts::Lack;
+use net_facts::Missing;
 use net_graph::{Net, RouteRow};
 use property_infer::Verdicts;
 use report_text::{
-    code_lines, lacks_line, push_row_line, refusal_line, required_line, verdict_line,
+    code_lines, misses_line, push_row_line, refusal_line, required_line, verdict_line,
 };
 use std::alloc::Global;
 use topology_file::NetFile;
@@ -46,95 +51,71 @@ pub fn write<K: Sink>(alloc: Global, out: &mut K, outcome: &Outcome) -> Answer
 {
     match outcome {
         Outcome::Stopped { stop, .. } => write_refusal(alloc, out, *stop),
-        Outcome::Lacking {
-            file,
-            behind,
-            lack,
-            ..
-        } => write_lack(alloc, out, last_of(behind, &file.net), lack),
-        Outcome::Checked {
-            alg,
-            verdicts,
-            unmet,
-            ..
-        } => answered(
-            put_checked(alloc, out, alg, verdicts, *unmet),
-            checked_answer(*unmet),
+        Outcome::Unfit(it) => write_missing(
+            alloc,
+            out,
+            last_of(&it.after, &it.file.net),
+            &it.missing,
         ),
-        Outcome::Coded {
-            alg,
-            file,
-            behind,
-            listing,
-        } => answered(
-            put_code(alloc, out, alg, file, behind, listing),
-            Answer::Done,
-        ),
-        Outcome::Routed {
-            solution,
-            file,
-            rows,
-            ..
-        } => answered(
-            put_routes(alloc, out, *solution, &file.net, rows.as_slice()),
-            Answer::Done,
-        ),
-        Outcome::Gadget { alg, verdict } => answered(
-            put_line(out, gadget_lines(alloc, alg, verdict)),
-            Answer::Done,
-        ),
-        Outcome::Ran {
-            file,
-            changed,
-            is_traced,
-            run,
-            ..
-        } => answered(
-            put_phases(
-                alloc,
-                out,
-                &file.net,
-                changed.as_slice(),
-                0,
-                *is_traced,
-                run.past.as_slice(),
-                run,
-            ),
-            end_answer(run.is_quiet),
-        ),
-        Outcome::Shown { file, last, .. } => answered(
-            put_summary(alloc, out, &file.net, last.rows.as_slice()),
-            Answer::Done,
-        ),
+        Outcome::Checked(it) => answered(put_checked(alloc, out, it), checked_answer(it.unmet)),
+        Outcome::Coded(it) => answered(put_code(alloc, out, it), Answer::Done),
+        Outcome::Routed(it) => answered(put_routes(alloc, out, it), Answer::Done),
+        Outcome::Wedged(it) => answered(put_gadget(alloc, out, it), Answer::Done),
+        Outcome::Ran(it) => answered(put_run(alloc, out, it), end_answer(it.run.is_quiet)),
+        Outcome::Shown(it) => answered(put_shown(alloc, out, it), Answer::Done),
     }
 }
 
 // Puts the lines of a listing, of the labels on the network's arcs where there is one.
-fn put_code<K: Sink>(
-    alloc: Global,
-    out: &mut K,
-    alg: &Alg,
-    file: &Option<NetFile>,
-    behind: &Option<Net>,
-    listing: &Listing,
-) -> Result<(), Cut>
-    requires printable { CanList alg.now (last_net (option_map pure_file file.now)) listing.now }
-    requires behind { IsListedOn file.now behind.now }
+fn put_code<K: Sink>(alloc: Global, out: &mut K, coded: &Coded) -> Result<(), Cut>
+    requires printable { CanList coded.now.alg (last_net (option_map pure_file coded.now.file)) coded.now.listing }
+    requires after { IsListedOn coded.now.file coded.now.after }
     ensures { PutsText (K.holds out.old)
-        (code_text alg.now.expression (last_net (option_map pure_file file.now)) listing.now)
+        (code_text coded.now.alg.expression (last_net (option_map pure_file coded.now.file)) coded.now.listing)
         result (K.holds out.new) }
 {
-    let net = listed_net(file, behind);
-    put_line(out, code_lines(alloc, alg, net, listing))
+    let net = listed_net(&coded.file, &coded.after);
+    put_line(out, code_lines(alloc, &coded.alg, net, &coded.listing))
+}
+
+// Puts the line of a verdict on monotone, and the network that shows it.
+fn put_gadget<K: Sink>(alloc: Global, out: &mut K, wedged: &Wedged) -> Result<(), Cut>
+    requires { HasGadget wedged.now.alg (pure_verdict wedged.now.verdict) }
+    ensures { PutsText (K.holds out.old) (gadget_text wedged.now.alg (pure_verdict wedged.now.verdict))
+        result (K.holds out.new) }
+{
+    put_line(out, gadget_lines(alloc, &wedged.alg, &wedged.verdict))
+}
+
+// Puts the phases of a run.
+fn put_run<K: Sink>(alloc: Global, out: &mut K, ran: &Ran) -> Result<(), Cut>
+    requires { AreOfNetworks ran.now.file.net ran.now.changed (map pure_phase ran.now.run.past)
+        (pure_phase ran.now.run.last) }
+    ensures { PutsText (K.holds out.old) (run_text ran.now.is_traced ran.now.file.net ran.now.changed 0
+        (map pure_phase ran.now.run.past) (pure_phase ran.now.run.last) ran.now.run.is_quiet)
+        result (K.holds out.new) }
+{
+    let changed = ran.changed.as_slice();
+    let past = ran.run.past.as_slice();
+    put_phases(alloc, out, &ran.file.net, changed, 0, past, ran)
+}
+
+// Puts the summary of a generated network.
+fn put_shown<K: Sink>(alloc: Global, out: &mut K, shown: &Shown) -> Result<(), Cut>
+    requires { AreSummed (pure_phase shown.now.last).rows }
+    ensures { PutsText (K.holds out.old) (summary_text shown.now.file.net (pure_phase shown.now.last).rows)
+        result (K.holds out.new) }
+{
+    put_summary(alloc, out, &shown.file.net, shown.last.rows.as_slice())
 }
 
 // The network whose labels were compiled: that of the file, or the one after its changes.
-fn listed_net<'a>(file: &'a Option<NetFile>, behind: &'a Option<Net>) -> Option<&'a Net>
-    requires { IsListedOn file.now behind.now }
+fn listed_net<'a>(file: &'a Option<NetFile>, after: &'a Option<Net>) -> Option<&'a Net>
+    requires { IsListedOn file.now after.now }
     ensures { option_map (λ net. net.now) result ≡ last_net (option_map pure_file file.now) }
 {
     match file {
-        Some(file) => Some(last_of(behind, &file.net)),
+        Some(file) => Some(last_of(after, &file.net)),
         None => None,
     }
 }
@@ -157,38 +138,36 @@ fn write_refusal<K: Sink>(alloc: Global, out: &mut K, stop: Stop) -> Answer
 fn stop_line(alloc: Global, stop: Stop) -> Result<Text, NoMemory>
     ensures { (net : Option PureNet) → IfOk result (λ text. text ≡ refusal_text (pure_stop stop) net) }
 {
-    let refusal = stop.refusal();
-    let line = refusal_line(alloc, &refusal, None);
-    drop(refusal);
-    line
+    refusal_line(alloc, stop.refusal())
 }
 
 // Writes the line of an arc whose label doesn't have a property. Memory for the answer is taken before.
-fn write_lack<K: Sink>(alloc: Global, out: &mut K, net: &Net, lack: &Lack) -> Answer
-    requires { CanLack lack.now.arc.0 (pure_instance lack.now.instance) (Some net.now) }
-    ensures { Written (K.holds out.old) (lacks_text lack.now.arc.0 (pure_instance lack.now.instance) (Some net.now))
-        (K.holds out.new) (refused (lacks lack.now.arc.0 (pure_instance lack.now.instance))) (pure_answer result) }
+fn write_missing<K: Sink>(alloc: Global, out: &mut K, net: &Net, missing: &Missing) -> Answer
+    requires { CanMiss missing.now.arc.0 (pure_instance missing.now.instance) (Some net.now) }
+    ensures { Written (K.holds out.old)
+        (misses_text missing.now.arc.0 (pure_instance missing.now.instance) (Some net.now)) (K.holds out.new)
+        (refused (misses missing.now.arc.0 (pure_instance missing.now.instance))) (pure_answer result) }
 {
-    match lack_line(alloc, net, lack) {
+    match missing_line(alloc, net, missing) {
         Ok((line, answer)) => write_line(out, line.as_str().as_bytes(), answer),
         Err(NoMemory) => Answer::NoMemory,
     }
 }
 
 // The line, and the answer that says the same.
-fn lack_line(alloc: Global, net: &Net, lack: &Lack) -> Result<(Text, Answer), NoMemory>
-    requires { CanLack lack.now.arc.0 (pure_instance lack.now.instance) (Some net.now) }
+fn missing_line(alloc: Global, net: &Net, missing: &Missing) -> Result<(Text, Answer), NoMemory>
+    requires { CanMiss missing.now.arc.0 (pure_instance missing.now.instance) (Some net.now) }
     ensures line { IfOk result (λ said.
-        said.0 ≡ lacks_text lack.now.arc.0 (pure_instance lack.now.instance) (Some net.now)) }
+        said.0 ≡ misses_text missing.now.arc.0 (pure_instance missing.now.instance) (Some net.now)) }
     ensures answer { IfOk result (λ said.
-        pure_answer said.1 ≡ refused (lacks lack.now.arc.0 (pure_instance lack.now.instance))) }
+        pure_answer said.1 ≡ refused (misses missing.now.arc.0 (pure_instance missing.now.instance))) }
 {
-    let line = lacks_line(alloc, net, lack.arc, &lack.instance)?;
-    let instance = copy_instance(alloc, &lack.instance)?;
+    let line = misses_line(alloc, net, missing.arc, &missing.instance)?;
+    let instance = copy_instance(alloc, &missing.instance)?;
     Ok((
         line,
-        Answer::Lacks {
-            arc: lack.arc,
+        Answer::Misses {
+            arc: missing.arc,
             instance,
         },
     ))
@@ -217,20 +196,13 @@ fn copy_second(alloc: Global, second: &Option<Value>) -> Result<Option<Value>, N
 }
 
 // Puts the lines of the verdicts, and then that of the first required property that fails.
-fn put_checked<K: Sink>(
-    alloc: Global,
-    out: &mut K,
-    alg: &Alg,
-    verdicts: &Verdicts,
-    unmet: Option<Property>,
-) -> Result<(), Cut>
-    requires { CanPrintVerdicts alg.now.expression (pure_verdicts verdicts.now) }
-    ensures { PutsText (K.holds out.old)
-        (verdicts_text alg.now.expression (pure_verdicts verdicts.now) ++ unmet_text (option_map pure_property unmet))
-        result (K.holds out.new) }
+fn put_checked<K: Sink>(alloc: Global, out: &mut K, checked: &Checked) -> Result<(), Cut>
+    requires { CanPrintVerdicts checked.now.alg.expression (pure_verdicts checked.now.verdicts) }
+    ensures { PutsText (K.holds out.old) (verdicts_text checked.now.alg.expression (pure_verdicts checked.now.verdicts)
+        ++ unmet_text (option_map pure_property checked.now.unmet)) result (K.holds out.new) }
 {
-    put_verdicts(alloc, out, alg, verdicts, &Property::ALL)?;
-    put_unmet(alloc, out, unmet)
+    put_verdicts(alloc, out, &checked.alg, &checked.verdicts, &Property::ALL)?;
+    put_unmet(alloc, out, checked.unmet)
 }
 
 // Puts the line of a required property that fails, if one does.
@@ -244,18 +216,15 @@ fn put_unmet<K: Sink>(alloc: Global, out: &mut K, unmet: Option<Property>) -> Re
 }
 
 // Puts routes, or stable tables.
-fn put_routes<K: Sink>(
-    alloc: Global,
-    out: &mut K,
-    solution: Solution,
-    net: &Net,
-    rows: &[RouteRow],
-) -> Result<(), Cut>
-    requires { AllByRecursion (IsRowOf net.now) (map pure_row rows.now) }
-    ensures { PutsText (K.holds out.old) (routes_text solution net.now (map pure_row rows.now))
+fn put_routes<K: Sink>(alloc: Global, out: &mut K, routed: &Routed) -> Result<(), Cut>
+    requires { AllByRecursion (IsRowOf routed.now.file.net) (map pure_row routed.now.rows) }
+    ensures { PutsText (K.holds out.old)
+        (routes_text routed.now.solution routed.now.file.net (map pure_row routed.now.rows))
         result (K.holds out.new) }
 {
-    match solution {
+    let net = &routed.file.net;
+    let rows = routed.rows.as_slice();
+    match routed.solution {
         Solution::Unbeaten | Solution::Settled => put_rows(alloc, out, net, rows),
         Solution::AllStable => put_tables(alloc, out, net, 0, rows),
     }

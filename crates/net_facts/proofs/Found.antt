@@ -3,45 +3,28 @@ use Rattle.std.proofs.Common.{◌≡◌, ℕ, zero, suc, ◌+◌, ◌≤◌, Lis
 use Rattle.std.proofs.lemmas.Option.{same_Some}
 use Rattle.std.specs.List.{AllByRecursion, find}
 use Rattle.std.specs.Option.{MatchOption}
+use Rattle.alg_classes.specs.FactLaws.{has_by_profile, misses_by_profile}
+use Rattle.alg_classes.specs.Facts.{fact_of}
 use Rattle.alg_classes.specs.Instances.{pure_property}
 use Rattle.alg_classes.specs.Profiles.{bit, ProfileOf}
 use Rattle.alg_classes.specs.declared.profile.Profile.{Profile}
 use Rattle.alg_classes.specs.declared.property.Property.{Property}
 use Rattle.alg_model.specs.Expressions.{Expression, PureLabel}
-use Rattle.alg_model.specs.Properties.{PureProperty, monotone, strict, isotone, cancellative, total, Has}
+use Rattle.alg_model.specs.Properties.{PureProperty, Has}
 use Rattle.alg_model.specs.Verdicts.{PureInstance}
 use Rattle.net_graph.specs.Nets.{PureArc, PureNet}
-use Rattle.property_infer.specs.Told.{fact_of}
-use Rattle.net_facts.specs.Lacks.{HasAll, ArcHasAll, NetHasAll, AllBefore, StandsBehind, LacksEarliest, LacksFirst, IsFirstLack, IsShown}
-
--- what the profile says of a property
-
-has_bit : (a : Expression) (l : PureLabel) (q : Profile) → ProfileOf a l q → (p : PureProperty) → bit q (fact_of p) ≡ true → Has p a l
-has_bit a l q is monotone e = (is (fact_of monotone)).0 e
-has_bit a l q is strict e = (is (fact_of strict)).0 e
-has_bit a l q is isotone e = (is (fact_of isotone)).0 e
-has_bit a l q is cancellative e = (is (fact_of cancellative)).0 e
-has_bit a l q is total e = (is (fact_of total)).0 e
-
-bit_has : (a : Expression) (l : PureLabel) (q : Profile) → ProfileOf a l q → (p : PureProperty) → Has p a l → bit q (fact_of p) ≡ true
-bit_has a l q is monotone h = (is (fact_of monotone)).1 h
-bit_has a l q is strict h = (is (fact_of strict)).1 h
-bit_has a l q is isotone h = (is (fact_of isotone)).1 h
-bit_has a l q is cancellative h = (is (fact_of cancellative)).1 h
-bit_has a l q is total h = (is (fact_of total)).1 h
-
-lacks_bit : (a : Expression) (l : PureLabel) (q : Profile) → ProfileOf a l q → (p : PureProperty) → bit q (fact_of p) ≡ false → ¬ Has p a l
-lacks_bit a l q is p e h = let t = bit_has a l q is p h in absurd (cc)
+use Rattle.property_infer.specs.Reported.{IsMissingOf}
+use Rattle.net_facts.specs.Misses.{HasAll, ArcHasAll, NetHasAll, AllBefore, StandsAfter, MissesEarliest, MissesFirst, IsFirstMissing}
 
 abbrev pub Earliest : Expression → PureLabel → List Property → Option Property → Type 0
-Earliest a l ps o = MatchOption o (HasAll (map pure_property ps) a l) (λ p. LacksEarliest (map pure_property ps) a l (pure_property p))
+Earliest a l ps o = MatchOption o (HasAll (map pure_property ps) a l) (λ p. MissesEarliest (map pure_property ps) a l (pure_property p))
 
 had_before : (P : PureProperty → Type 0) (p : PureProperty) (ps : List PureProperty) (n : ℕ) → P p → AllBefore P ps n → AllBefore P (p ∷ ps) (suc n)
 had_before P p ps n h before zero less y e = subst P (same_Some p y e) h
 had_before P p ps n h before (suc m) less y e = before m (omega arith) y e
 
 stands_next : (P : PureProperty → Type 0) (p x : PureProperty) (ps : List PureProperty) (n : ℕ) → P p
-    → StandsBehind P ps n x → StandsBehind P (p ∷ ps) (suc n) x
+    → StandsAfter P ps n x → StandsAfter P (p ∷ ps) (suc n) x
 stands_next P p x ps n h s = record { at = s.at; before = had_before P p ps n h s.before }
 
 earliest_next : (a : Expression) (l : PureLabel) (p : Property) (ps : List Property) (o : Option Property) → Has (pure_property p) a l
@@ -50,7 +33,7 @@ earliest_next a l p ps None h more = (h, more)
 earliest_next a l p ps (Some x) h more = record {
   place = suc more.place;
   stands = stands_next (λ q. Has q a l) (pure_property p) (pure_property x) (map pure_property ps) more.place h more.stands;
-  lacks = more.lacks;
+  misses = more.misses;
 }
 
 -- what a search in the list by the profile finds
@@ -61,11 +44,11 @@ earliest a l q is (p ∷ ps) = by (bit q (fact_of (pure_property p))) refl (earl
   where
     by : (b : Bool) → bit q (fact_of (pure_property p)) ≡ b → Earliest a l ps (find (λ p. not (bit q (fact_of (pure_property p)))) ps)
         → Earliest a l (p ∷ ps) (cond (not b) (Some p) (find (λ p. not (bit q (fact_of (pure_property p)))) ps))
-    by true e more = earliest_next a l p ps (find (λ p. not (bit q (fact_of (pure_property p)))) ps) (has_bit a l q is (pure_property p) e) more
+    by true e more = earliest_next a l p ps (find (λ p. not (bit q (fact_of (pure_property p)))) ps) (has_by_profile (pure_property p) a l q is e) more
     by false e more = record {
       place = 0;
       stands = record { at = refl; before = λ m less. absurd (omega arith) };
-      lacks = lacks_bit a l q is (pure_property p) e;
+      misses = misses_by_profile (pure_property p) a l q is e;
     }
 
 -- what holds of each item before the end of the list holds of all
@@ -96,15 +79,15 @@ one_passes ps net n a at has before =
     (λ b e. subst (ArcHasAll ps net) (same_Some a b (let here = at in cc)) has)
 
 -- an instance that shows it of the arc at that place
-pub first_shown : (ps : List PureProperty) (net : PureNet) (k : ℕ) (p : PureProperty) (arc : PureArc) (x : PureInstance) → LacksFirst ps net k p
-    → slice_get net.arcs k ≡ Some arc → IsShown net.alg arc.label p x → IsFirstLack ps net k x
+pub first_shown : (ps : List PureProperty) (net : PureNet) (k : ℕ) (p : PureProperty) (arc : PureArc) (x : PureInstance) → MissesFirst ps net k p
+    → slice_get net.arcs k ≡ Some arc → IsMissingOf net.alg p arc.label x → IsFirstMissing ps net k x
 first_shown ps net k p arc x f at shown =
     let same : arc ≡ f.arc = same_Some arc f.arc (let there = f.stands.at in cc) in
     record {
       first = record {
         arc = f.arc;
         stands = f.stands;
-        earliest = subst (LacksEarliest ps net.alg.expression f.arc.label) (sym shown.property) f.earliest;
+        earliest = subst (MissesEarliest ps net.alg.expression f.arc.label) (sym shown.property) f.earliest;
       };
       label = shown.label ∙ ap (λ (a : PureArc). a.label) same;
       violates = shown.violates;

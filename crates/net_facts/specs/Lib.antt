@@ -1,2 +1,2 @@
-pub mod Lacks
-pub mod LackLaws
+pub mod Misses
+pub mod MissingLaws

@@ -2,8 +2,8 @@
 //! one. It stands on `property_infer`, which decides on one label, and on `net_graph`.
 #![tactic(auto)]
 
-mod lack;
 mod laws;
+mod missing;
 
-pub use lack::{Lack, first_lack};
-pub use laws::{first_lack_is_unique, first_lacks_are_small, first_lacks_refute};
+pub use laws::{first_misses_are_small, first_misses_refute, first_missing_is_unique};
+pub use missing::{Missing, first_missing};

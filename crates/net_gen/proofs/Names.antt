@@ -57,7 +57,7 @@ place_is k a (suc count) h l m = by (eqb a k) refl (place_is k (a + 1) count h)
         place_at k (node_name a) others true ((bytes_eq-Decides (node_name k) (node_name a)).1 (ap node_name (sym same))) ∙ end
     by false e more =
         let less : a < k = grind (arith, nat_tests) in
-        let behind = more (omega arith) (omega arith) in
+        let after = more (omega arith) (omega arith) in
         let end : 1 + place_in k others ≡ k - a = omega arith in
         place_at k (node_name a) others false (other_name k a h less) ∙ end
 
@@ -65,7 +65,7 @@ place_is k a (suc count) h l m = by (eqb a k) refl (place_is k (a + 1) count h)
 no_place : (k a count : ℕ) → k < 1000 → a + count ≤ k → place_in k (map node_name (range_with_len a count)) ≡ count
 no_place k a zero h l = refl
 no_place k a (suc count) h l =
-    let behind = no_place k (a + 1) count h (omega arith) in
+    let after = no_place k (a + 1) count h (omega arith) in
     let end : 1 + place_in k (map node_name (range_with_len (a + 1) count)) ≡ suc count = omega arith in
     place_at k (node_name a) (map node_name (range_with_len (a + 1) count)) false (other_name k a h (omega arith)) ∙ end
 

@@ -5,8 +5,10 @@ use Rattle.std.specs.List.{list_any, AllByRecursion}
 use Rattle.std.proofs.lemmas.Bool.Decides.{nat_tests}
 use Rattle.std.proofs.lemmas.List.FromFn.{length-map-range_with_len, map-range_with_len_more}
 use Rattle.alg_model.specs.Expressions.{number_label}
-use Rattle.net_graph.specs.declared.limits.TheConstants.{MAX_ARCS, MAX_NODES_ONE}
+use Rattle.alg_model.specs.declared.edition.Edition.TheVariants.{One}
+use Rattle.net_graph.specs.Limits.{max_nodes, max_arcs}
 use Rattle.net_graph.specs.Nets.{PureArc, PureNet, is_arc_between, number_of}
+use Rattle.sig_text.specs.Spelled.{spelled}
 use Rattle.topology_file.specs.Forms.{nodes, link}
 use Rattle.topology_file.specs.NetText.{PureNetFile, after_form, after_line}
 use Rattle.net_gen.specs.declared.links.Link.{Link}
@@ -27,17 +29,17 @@ file_with names arcs = record { net = net_with names arcs; changes = [] }
 pub names_more : (k : ℕ) → node_names (k + 1) ≡ node_names k ++ node_name k ∷ []
 names_more k = map-range_with_len_more node_name 0 k k (omega arith)
 
-node_added : (k : ℕ) → k < MAX_DEMO_NODES → after_form (file_with (node_names k) []) (nodes (node_name k ∷ [])) ≡ Ok (file_with (node_names k ++ node_name k ∷ []) [])
+node_added : (k : ℕ) → k < MAX_DEMO_NODES → after_form spelled (file_with (node_names k) []) (nodes (node_name k ∷ [])) ≡ Ok (file_with (node_names k ++ node_name k ∷ []) [])
 node_added k h =
     let count = length-map-range_with_len node_name 0 k in
-    let room : leb (length (node_names k) + 1) MAX_NODES_ONE ≡ true = grind (arith, nat_tests) in
+    let room : leb (length (node_names k) + 1) (max_nodes One) ≡ true = grind (arith, nat_tests) in
     rw (unnumbered k (omega arith), room) refl
 
 -- the line of the node k, after those of the nodes before it
-pub node_step : (k : ℕ) → k < MAX_DEMO_NODES → after_line (file_with (node_names k) []) (node_line k) ≡ Ok (file_with (node_names (k + 1)) [])
+pub node_step : (k : ℕ) → k < MAX_DEMO_NODES → after_line spelled (file_with (node_names k) []) (node_line k) ≡ Ok (file_with (node_names (k + 1)) [])
 node_step k h =
-    line_after (file_with (node_names k) []) (node_line k) (node_is_line k (omega arith))
-    ∙ ap (after_form (file_with (node_names k) [])) (node_form (node_name k) (name_word k (omega arith)) (node_is_name k (omega arith)))
+    line_after spelled (file_with (node_names k) []) (node_line k) (node_is_line k (omega arith))
+    ∙ ap (after_form spelled (file_with (node_names k) [])) (node_form (node_name k) (name_word k (omega arith)) (node_is_name k (omega arith)))
     ∙ node_added k h ∙ ap (λ names. Ok (file_with names [])) (sym (names_more k))
 
 -- Links.
@@ -87,10 +89,10 @@ pub record IsNewLink (n : ℕ) (links : List Link) (l : Link) : Type 0 where
   pub least : 1 ≤ l.weight
   pub most : l.weight ≤ 9
   pub absent : AllByRecursion (Misses l.listener l.speaker) links
-  pub room : length links < MAX_ARCS
+  pub room : length links < max_arcs
 
 link_added : (n : ℕ) (links : List Link) (l : Link) → n ≤ MAX_DEMO_NODES → IsNewLink n links l
-    → after_form (file_with (node_names n) (arcs_of 0 links)) (link (node_name l.listener) (node_name l.speaker) (32 ∷ decimal l.weight))
+    → after_form spelled (file_with (node_names n) (arcs_of 0 links)) (link (node_name l.listener) (node_name l.speaker) (32 ∷ decimal l.weight))
     ≡ Ok (file_with (node_names n) (arcs_of 0 links ++ arc_of (length (arcs_of 0 links)) l ∷ []))
 link_added n links l h i =
     let listener_in = i.listener_in in
@@ -98,18 +100,18 @@ link_added n links l h i =
     let taken = i.room in
     let count = length_arcs 0 links in
     let apart : eqb l.listener l.speaker ≡ false = grind (arith, nat_tests) in
-    let room : leb (length (arcs_of 0 links) + 1) MAX_ARCS ≡ true = grind (arith, nat_tests) in
+    let room : leb (length (arcs_of 0 links) + 1) max_arcs ≡ true = grind (arith, nat_tests) in
     rw (numbered n l.listener listener_in (omega arith), numbered n l.speaker (omega arith) (omega arith), apart, none_between l.listener l.speaker 0 links i.absent, weight_spelled l.weight i.least i.most, room) refl
 
 pub link_step : (n : ℕ) (links : List Link) (l : Link) → n ≤ MAX_DEMO_NODES → IsNewLink n links l
-    → after_line (file_with (node_names n) (arcs_of 0 links)) (link_line l) ≡ Ok (file_with (node_names n) (arcs_of 0 (links ++ l ∷ [])))
+    → after_line spelled (file_with (node_names n) (arcs_of 0 links)) (link_line l) ≡ Ok (file_with (node_names n) (arcs_of 0 (links ++ l ∷ [])))
 link_step n links l h i =
     let listener_in = i.listener_in in
     let before = i.before in
     let f = file_with (node_names n) (arcs_of 0 links) in
     let same : length (arcs_of 0 links) ≡ 0 + length links = omega (arith, length_arcs 0 links) in
-    line_after f (link_line l) (link_is_line l (omega arith) (omega arith) i.most)
-    ∙ ap (after_form f) (link_form (node_name l.listener) (node_name l.speaker) (decimal l.weight) (name_word l.listener (omega arith)) (name_word l.speaker (omega arith))
+    line_after spelled f (link_line l) (link_is_line l (omega arith) (omega arith) i.most)
+    ∙ ap (after_form spelled f) (link_form (node_name l.listener) (node_name l.speaker) (decimal l.weight) (name_word l.listener (omega arith)) (name_word l.speaker (omega arith))
     (node_is_name l.listener (omega arith)) (node_is_name l.speaker (omega arith)))
     ∙ link_added n links l h i
     ∙ ap (λ k. Ok (file_with (node_names n) (arcs_of 0 links ++ arc_of k l ∷ []))) same
@@ -129,8 +131,8 @@ abbrev pub file_twice : List (List ℕ) → List PureArc → PureNetFile
 file_twice names arcs =
     record { net = record { alg = demo_alg; nodes = names; dests = codes "x0" ∷ codes "x1" ∷ []; arcs = arcs; origins = origin_of 0 ∷ origin_of 1 ∷ [] }; changes = [] }
 
-pub first_origin : (n : ℕ) (arcs : List PureArc) → 2 ≤ n → n ≤ MAX_DEMO_NODES → after_line (file_with (node_names n) arcs) (codes "origin x0 at n0 : 0") ≡ Ok (file_once (node_names n) arcs)
+pub first_origin : (n : ℕ) (arcs : List PureArc) → 2 ≤ n → n ≤ MAX_DEMO_NODES → after_line spelled (file_with (node_names n) arcs) (codes "origin x0 at n0 : 0") ≡ Ok (file_once (node_names n) arcs)
 first_origin n arcs l h = rw (number_is n 0 (omega arith) h (omega arith), zero_spelled) refl
 
-pub second_origin : (n : ℕ) (arcs : List PureArc) → 2 ≤ n → n ≤ MAX_DEMO_NODES → after_line (file_once (node_names n) arcs) (codes "origin x1 at n1 : 0") ≡ Ok (file_twice (node_names n) arcs)
+pub second_origin : (n : ℕ) (arcs : List PureArc) → 2 ≤ n → n ≤ MAX_DEMO_NODES → after_line spelled (file_once (node_names n) arcs) (codes "origin x1 at n1 : 0") ≡ Ok (file_twice (node_names n) arcs)
 second_origin n arcs l h = rw (number_is n 1 (omega arith) h (omega arith), zero_spelled) refl

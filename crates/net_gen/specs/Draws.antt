@@ -1,11 +1,11 @@
 -- The random numbers of generated networks: Knuth's MMIX linear congruential generator.
 use Rattle.std.specs.Prelude.{ℕ, ◌+◌, ◌*◌, ◌^◌, ◌/◌, ◌%◌}
-use Rattle.net_gen.specs.declared.draws.TheConstants.{MULTIPLIER, INCREMENT, DROPPED_BITS}
+use Rattle.net_gen.specs.Numbers.{multiplier, increment, dropped_bits}
 
 -- the state that a draw leaves
 abbrev pub next : ℕ → ℕ
-next x = (x * MULTIPLIER + INCREMENT) % 2 ^ 64
+next x = (x * multiplier + increment) % 2 ^ 64
 
 -- what it gives, below m
 abbrev pub drawn : ℕ → ℕ → ℕ
-drawn m x = next x / 2 ^ DROPPED_BITS % m
+drawn m x = next x / 2 ^ dropped_bits % m

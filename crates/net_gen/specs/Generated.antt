@@ -1,35 +1,36 @@
 -- The text of the network that a seed and a count of nodes generate.
 --
--- Its nodes are n0, n1 and so on. Let the group of the node k, from 1 on, be what k - 1 leaves by GROUPS. A node of
--- group 0 listens to n0, by a label that is drawn. Any other draws a node before it whose number is of the form
--- group + GROUPS * t, a label for it, another such node and a label for that; it listens to both of them, or, where
--- they are one node, to that one by the first label. Labels are 1 to 9. The first two nodes have an origin each.
+-- Its nodes are n0, n1 and so on. Let the group of the node k, from 1 on, be what k - 1 leaves by the number of groups.
+-- A node of group 0 listens to n0, by a label that is drawn. Any other draws a node before it whose number is its group
+-- and a multiple of the number of groups, a label for it, another such node and a label for that; it listens to both of
+-- them, or, where they are one node, to that one by the first label. Labels are 1 to 9. The first two nodes have an
+-- origin each.
 use Rattle.std.specs.Prelude.{ℕ, ◌+◌, ◌*◌, ◌-◌, ◌/◌, ◌%◌, ◌≤◌, zero, suc, List, [], ◌∷◌, ◌++◌, map, ◌==◌, if◌then◌else◌, codes, decimal}
 use Rattle.std.specs.List.{range_with_len}
 use Rattle.topology_file.specs.LineTexts.{text_of}
-use Rattle.net_gen.specs.declared.links.TheConstants.{GROUPS, MOST_WEIGHT}
+use Rattle.net_gen.specs.Numbers.{group_count, most_weight}
 use Rattle.net_gen.specs.declared.links.Link.{Link}
-use Rattle.net_gen.specs.declared.network.TheConstants.{MIN_DEMO_NODES, MAX_DEMO_NODES}
+use Rattle.meta_base.specs.Numbers.{min_demo_nodes, max_demo_nodes}
 use Rattle.net_gen.specs.Draws.{next, drawn}
 
 -- a generated network may have so many nodes
 pub record AreDemoNodes (n : ℕ) : Type 0 where
-  pub least : MIN_DEMO_NODES ≤ n
-  pub most : n ≤ MAX_DEMO_NODES
+  pub least : min_demo_nodes ≤ n
+  pub most : n ≤ max_demo_nodes
 
 -- Links. One after the state x takes its first draw from there.
 
--- the group of the node k: what the numbers of its speakers leave by GROUPS
+-- the group of the node k: what the numbers of its speakers leave by the number of groups
 abbrev pub group : ℕ → ℕ
-group k = (k - 1) % GROUPS
+group k = (k - 1) % group_count
 
 -- one draw: 1 to 9
 abbrev pub weight : ℕ → ℕ
-weight x = drawn MOST_WEIGHT x + 1
+weight x = drawn most_weight x + 1
 
 -- one draw: a node before k of its group
 abbrev pub speaker : ℕ → ℕ → ℕ
-speaker k x = group k + GROUPS * drawn ((k - 1) / GROUPS + 1) x
+speaker k x = group k + group_count * drawn ((k - 1) / group_count + 1) x
 
 -- a link of the node k: to the first node, by one draw; to a node of its group, by two
 abbrev pub hub_link : ℕ → ℕ → Link

@@ -1,3 +1,4 @@
+pub mod Numbers
 pub mod Draws
 pub mod Generated
 pub mod Networks

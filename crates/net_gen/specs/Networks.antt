@@ -5,13 +5,13 @@ use Rattle.alg_model.specs.declared.edition.Edition.TheVariants.{One}
 use Rattle.alg_model.specs.Expressions.{PureAlg, add, number, number_label}
 use Rattle.net_graph.specs.Nets.{PureArc, PureOrigin, PureNet}
 use Rattle.topology_file.specs.NetText.{PureNetFile}
-use Rattle.net_gen.specs.declared.links.TheConstants.{MOST_WEIGHT}
+use Rattle.net_gen.specs.Numbers.{most_weight}
 use Rattle.net_gen.specs.declared.links.Link.{Link}
 use Rattle.net_gen.specs.Generated.{node_name, links_to}
 
 -- the algebra `add(1..9)`, in a text of profile 1
 abbrev pub demo_alg : PureAlg
-demo_alg = record { expression = add 1 MOST_WEIGHT; edition = One }
+demo_alg = record { expression = add 1 most_weight; edition = One }
 
 -- the arcs of the links, with ids from that one on
 abbrev pub arcs_of : ℕ → List Link → List PureArc

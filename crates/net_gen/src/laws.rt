@@ -4,6 +4,7 @@ ghost use Rattle.topology_file.specs.declared.faults.NetFault.{NetFault};
 ghost use Rattle.net_gen.specs.Generated.{AreDemoNodes, Generated};
 ghost use Rattle.net_gen.specs.Networks.{demo_alg, generated_net, generated_file};
 
+use sig_text::texts_have_one_spelling;
 use topology_file::one_text_one_network;
 
 /// A generated text has fewer than 65,536 bytes, which is much less than a file may have.
@@ -17,7 +18,10 @@ pub fn generated_texts_are_networks()
     ensures network { (seed n : ℕ) → AreDemoNodes n →
         NetText (Generated seed n) demo_alg (generated_file seed n) }
     ensures nodes { (seed n : ℕ) → length (generated_net seed n).nodes ≡ n }
-{}
+{
+    // The literals of its lines are read as what they spell.
+    texts_have_one_spelling();
+}
 
 /// A generated text means nothing else, and no line of it breaks a rule. So [`topology_file::read_net`] answers
 /// that network with no changes, or that there is no memory for it.
@@ -27,5 +31,6 @@ pub fn generated_texts_are_never_refused()
     ensures no_fault { (seed n : ℕ) (fault : NetFault) → AreDemoNodes n →
         ¬ IsNetFault (Generated seed n) demo_alg fault }
 {
+    texts_have_one_spelling();
     one_text_one_network();
 }

@@ -11,4 +11,4 @@ mod network;
 pub use laws::{
     generated_texts_are_networks, generated_texts_are_never_refused, generated_texts_are_short,
 };
-pub use network::{MAX_DEMO_NODES, MIN_DEMO_NODES, network_text};
+pub use network::{MAX_DEMO_NODES, MIN_DEMO_NODES, network_text, numbers_are_specified};

@@ -1,4 +1,5 @@
 ghost use Rattle.std.specs.Prelude.{◌≡◌, IfOk};
+ghost use Rattle.meta_base.specs.Numbers.{max_demo_nodes, min_demo_nodes};
 ghost use Rattle.net_gen.specs.Generated.{AreDemoNodes, Generated};
 
 use crate::lines::{push_all_links, push_nodes};
@@ -10,6 +11,12 @@ pub const MIN_DEMO_NODES: u32 = 2;
 
 /// The most nodes of a generated network: as many as a network of profile 1 may have.
 pub const MAX_DEMO_NODES: u32 = 512;
+
+/// The bounds of generated networks are the numbers of the specification.
+pub fn numbers_are_specified()
+    ensures fewest { MIN_DEMO_NODES ≡ min_demo_nodes }
+    ensures most { MAX_DEMO_NODES ≡ max_demo_nodes }
+{}
 
 // The most bytes of the line of a node and the lines of its links, and the lines of the origins.
 const MOST_NODE_BYTES: usize = 48;

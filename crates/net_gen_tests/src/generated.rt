@@ -52,7 +52,7 @@ fn texts_are_generated(rt: HostRuntime) -> Result<(), Fail> {
 }
 
 #[test]
-fn other_texts_are_told_apart(rt: HostRuntime) -> Result<(), Fail> {
+fn other_texts_are_reported_apart(rt: HostRuntime) -> Result<(), Fail> {
     assert!(rt; !generates(rt.alloc(), 2, 2, TWO_NODES)?);
     assert!(rt; !generates(rt.alloc(), 1, 3, TWO_NODES)?);
     Ok(())

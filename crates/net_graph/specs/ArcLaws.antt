@@ -8,7 +8,7 @@ use Rattle.alg_model.specs.Carriers.{In}
 use Rattle.alg_model.specs.Application.{App, IsLabel}
 use Rattle.alg_model.specs.Bounds.{AtMost, LabelAtMost, greatest_number}
 use Rattle.alg_model.specs.Laws.{images_in, images_at_most, at_most_more, label_at_most_more, greatest_is_bounded}
-use Rattle.alg_model.specs.declared.edition.TheConstants.{MAX_LABEL_NUMBER}
+use Rattle.alg_model.specs.Numbers.{max_label_number}
 use Rattle.alg_model.specs.Properties.{PureProperty, monotone, isotone, IsMonotone, IsIsotone, Has}
 use Rattle.net_graph.specs.Nets.{PureArc, PureOrigin, PureNet, IsNet, IsArcOf, IsOriginOf, AreDistinct, joins_same, is_arc_between, is_origin_at, has_arc, has_origin, label_between, origin_value}
 use Rattle.net_graph.specs.Walks.{Walk, Weight, along}
@@ -84,7 +84,7 @@ pub record IsArc (net : PureNet) (i j : ℕ) (l : PureLabel) : Type 0 where
   pub head_in : j < length net.nodes
   pub apart : (i == j) ≡ false
   pub label_in : IsLabel net.alg.expression l
-  pub small : LabelAtMost MAX_LABEL_NUMBER l
+  pub small : LabelAtMost max_label_number l
   pub has : has_arc net i j ≡ true
 
 pub arcs_are : (net : PureNet) → IsNet net → (i j : ℕ) → IfSome (label_between net i j) (IsArc net i j)
@@ -100,7 +100,7 @@ arcs_are net n i j = if_mapped (λ (a : PureArc). a.label) (IsArc net i j) (find
           head_in = rw head at f.0.head_in;
           apart = rw (tail, head) at f.0.apart;
           label_in = f.0.label_in;
-          small = label_at_most_more (greatest_number net.alg.edition) MAX_LABEL_NUMBER a.label (greatest_is_bounded net.alg.edition) f.0.bound;
+          small = label_at_most_more (greatest_number net.alg.edition) max_label_number a.label (greatest_is_bounded net.alg.edition) f.0.bound;
           has = find_any (is_arc_between i j) net.arcs a e;
         }
 
@@ -112,7 +112,7 @@ labels_have p net h i j = if_mapped (λ (a : PureArc). a.label) (Has p net.alg.e
 pub record IsOrigin (net : PureNet) (dest i : ℕ) (v : PureValue) : Type 0 where
   pub node_in : i < length net.nodes
   pub value_in : In (carrier net) v
-  pub small : AtMost MAX_LABEL_NUMBER v
+  pub small : AtMost max_label_number v
   pub has : has_origin net dest i ≡ true
 
 pub origins_are : (net : PureNet) → IsNet net → (dest i : ℕ) → IfSome (origin_value net dest i) (IsOrigin net dest i)
@@ -125,7 +125,7 @@ origins_are net n dest i = if_mapped (λ (o : PureOrigin). o.value) (IsOrigin ne
         record {
           node_in = rw node at f.0.node_in;
           value_in = f.0.value_in;
-          small = at_most_more (greatest_number net.alg.edition) MAX_LABEL_NUMBER o.value (greatest_is_bounded net.alg.edition) f.0.bound;
+          small = at_most_more (greatest_number net.alg.edition) max_label_number o.value (greatest_is_bounded net.alg.edition) f.0.bound;
           has = find_any (is_origin_at dest i) net.origins o e;
         }
 
@@ -212,9 +212,9 @@ along_isotone net m i j x y h k u = by (label_between net i j) x y (labels_have 
     by (Some l) None (Some w) a h k u = absurd (u (cc))
 
 -- an arc adds at most the greatest number of a label to the greatest of a value
-pub along_at_most : (net : PureNet) → IsNet net → (i j : ℕ) (v w : PureValue) (m : ℕ) → AtMost m v → along net i j (Some v) ≡ Some w → AtMost (m + MAX_LABEL_NUMBER) w
+pub along_at_most : (net : PureNet) → IsNet net → (i j : ℕ) (v w : PureValue) (m : ℕ) → AtMost m v → along net i j (Some v) ≡ Some w → AtMost (m + max_label_number) w
 along_at_most net n i j v w m h e = by (label_between net i j) (arcs_are net n i j) e
   where
-    by : (o : Option PureLabel) → IfSome o (IsArc net i j) → option_and_then (λ l. option_and_then (App net.alg.expression l) (Some v)) o ≡ Some w → AtMost (m + MAX_LABEL_NUMBER) w
+    by : (o : Option PureLabel) → IfSome o (IsArc net i j) → option_and_then (λ l. option_and_then (App net.alg.expression l) (Some v)) o ≡ Some w → AtMost (m + max_label_number) w
     by None a e = absurd (cc)
-    by (Some l) a e = images_at_most net.alg.expression l v w m MAX_LABEL_NUMBER a.label_in a.small h e
+    by (Some l) a e = images_at_most net.alg.expression l v w m max_label_number a.label_in a.small h e

@@ -15,14 +15,14 @@ abbrev pub is_pair : ℕ → ℕ → ℕ → ℕ → Bool
 is_pair t h tail head = eqb t tail && eqb h head
 
 -- the arc is there after a change, where it was there before it or not
-abbrev pub is_there_behind : ℕ → ℕ → PureChange → Bool → Bool
-is_there_behind tail head (link t h l) there = cond (is_pair t h tail head) true there
-is_there_behind tail head (drop t h) there = cond (is_pair t h tail head) false there
+abbrev pub is_there_after : ℕ → ℕ → PureChange → Bool → Bool
+is_there_after tail head (link t h l) there = cond (is_pair t h tail head) true there
+is_there_after tail head (drop t h) there = cond (is_pair t h tail head) false there
 
 -- and after changes, one after another
-abbrev pub is_there_behind_all : ℕ → ℕ → List PureChange → Bool → Bool
-is_there_behind_all tail head [] there = there
-is_there_behind_all tail head (c ∷ cs) there = is_there_behind_all tail head cs (is_there_behind tail head c there)
+abbrev pub is_there_after_all : ℕ → ℕ → List PureChange → Bool → Bool
+is_there_after_all tail head [] there = there
+is_there_after_all tail head (c ∷ cs) there = is_there_after_all tail head cs (is_there_after tail head c there)
 
 -- another label changes no arc's ends
 relabelled_joins : (t h tail head : ℕ) (l : PureLabel) (a : PureArc) → is_arc_between tail head (relabelled t h l a) ≡ is_arc_between tail head a
@@ -91,7 +91,7 @@ left_has t h tail head (a ∷ arcs) = by (is_arc_between t h a) refl (left_has t
         (λ same. let s : (t ≡ tail) × (h ≡ head) = grind (arith, nat_tests) in rw (← s.0, ← s.1) e))
 
 -- an arc is there after a change where the change says so, or says nothing and it was there
-pub changed_has_arc : (net : PureNet) (c : PureChange) (tail head : ℕ) → has_arc (changed net c) tail head ≡ is_there_behind tail head c (has_arc net tail head)
+pub changed_has_arc : (net : PureNet) (c : PureChange) (tail head : ℕ) → has_arc (changed net c) tail head ≡ is_there_after tail head c (has_arc net tail head)
 changed_has_arc net (drop t h) tail head = renumbered_has tail head 0 (filter (λ (a : PureArc). not (is_arc_between t h a)) net.arcs) ∙ left_has t h tail head net.arcs
 changed_has_arc net (link t h l) tail head = by (has_arc net t h) refl
   where
@@ -103,9 +103,9 @@ changed_has_arc net (link t h l) tail head = by (has_arc net t h) refl
     by true e = relabelled_has t h tail head l net.arcs ∙ there (is_pair t h tail head) refl e
     by false e = added_has t h tail head (length net.arcs) l net.arcs
 
-pub after_all_has_arc : (net : PureNet) (cs : List PureChange) (tail head : ℕ) → has_arc (after_all net cs) tail head ≡ is_there_behind_all tail head cs (has_arc net tail head)
+pub after_all_has_arc : (net : PureNet) (cs : List PureChange) (tail head : ℕ) → has_arc (after_all net cs) tail head ≡ is_there_after_all tail head cs (has_arc net tail head)
 after_all_has_arc net [] tail head = refl
-after_all_has_arc net (c ∷ cs) tail head = after_all_has_arc (changed net c) cs tail head ∙ ap (is_there_behind_all tail head cs) (changed_has_arc net c tail head)
+after_all_has_arc net (c ∷ cs) tail head = after_all_has_arc (changed net c) cs tail head ∙ ap (is_there_after_all tail head cs) (changed_has_arc net c tail head)
 
 -- a label in the place of another leaves as many arcs
 pub linked_count : (net : PureNet) (tail head : ℕ) (l : PureLabel) → has_arc net tail head ≡ true → length (changed net (link tail head l)).arcs ≡ length net.arcs

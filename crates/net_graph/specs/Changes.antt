@@ -4,7 +4,7 @@ use Rattle.std.specs.List.{list_any}
 use Rattle.alg_model.specs.Expressions.{PureLabel}
 use Rattle.alg_model.specs.Application.{IsLabel}
 use Rattle.alg_model.specs.Bounds.{LabelAtMost, greatest_number}
-use Rattle.net_graph.specs.declared.limits.TheConstants.{MAX_ARCS}
+use Rattle.net_graph.specs.Limits.{max_arcs}
 use Rattle.net_graph.specs.Nets.{PureArc, PureNet, is_arc_between, has_arc}
 use Rattle.net_graph.specs.Lines.{arcs_with}
 
@@ -56,7 +56,7 @@ pub record MayLink (net : PureNet) (tail head : ℕ) (l : PureLabel) : Type 0 wh
   pub apart : tail ≢ head
   pub label_in : IsLabel net.alg.expression l
   pub bound : LabelAtMost (greatest_number net.alg.edition) l
-  pub room : has_arc net tail head ≡ false → length net.arcs < MAX_ARCS
+  pub room : has_arc net tail head ≡ false → length net.arcs < max_arcs
 
 -- the network may have the change
 abbrev pub MayChange : PureNet → PureChange → Type 0

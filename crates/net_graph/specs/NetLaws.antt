@@ -11,8 +11,8 @@ use Rattle.std.specs.Str.{bytes_eq}
 use Rattle.alg_model.specs.declared.edition.Edition.{Edition}
 use Rattle.alg_model.specs.declared.edition.Edition.TheVariants.{One, Two}
 use Rattle.alg_model.specs.Expressions.{PureAlg, PureLabel, PureValue}
-use Rattle.net_graph.specs.declared.limits.TheConstants.{MAX_ARCS, MAX_NODES_TWO, MAX_DESTS_ONE}
-use Rattle.net_graph.specs.Limits.{max_nodes, max_dests}
+use Rattle.alg_model.specs.Numbers.{IsMost, limits_of}
+use Rattle.net_graph.specs.Limits.{max_arcs, most_nodes, most_dests, max_nodes, max_dests}
 use Rattle.net_graph.specs.Nets.{PureArc, PureOrigin, PureNet, IsNet, IsArcOf, IsOriginOf, AreDistinct, AreNumbered, joins_same, stands_same, is_name, number_of, has_arc, has_origin}
 use Rattle.net_graph.specs.Lines.{with_node, with_arc, with_dest, with_origin_at}
 
@@ -124,13 +124,25 @@ number_within names name d e = within (position_or_len (λ n. bytes_eq name n) n
     within m n e = grind (arith, nat_tests)
 
 -- in any edition nodes and destinations are few
-pub few_nodes : (e : Edition) → max_nodes e ≤ MAX_NODES_TWO
+pub few_nodes : (e : Edition) → max_nodes e ≤ most_nodes
 few_nodes One = omega arith
 few_nodes Two = omega arith
 
-pub few_dests : (e : Edition) → max_dests e ≤ MAX_DESTS_ONE
+pub few_dests : (e : Edition) → max_dests e ≤ most_dests
 few_dests One = omega arith
 few_dests Two = omega arith
+
+-- and one edition has as many
+pub most_of_nodes : IsMost max_nodes most_nodes
+most_of_nodes = record { bounds = few_nodes; reached = (Two, refl) }
+
+pub most_of_dests : IsMost max_dests most_dests
+most_of_dests = record { bounds = few_dests; reached = (One, refl) }
+
+-- all editions have as many arcs
+pub arcs_alike : (e : Edition) → (limits_of e).arcs ≡ max_arcs
+arcs_alike One = refl
+arcs_alike Two = refl
 
 pub with_node_is_net : (net : PureNet) (name : List ℕ) → IsNet net → is_name name ≡ true → number_of net.nodes name ≡ None → length net.nodes < max_nodes net.alg.edition → IsNet (with_node net name)
 with_node_is_net net name n named absent room =
@@ -153,7 +165,7 @@ with_node_is_net net name n named absent room =
     }
 
 -- other arcs make a network where they meet the rules
-pub other_arcs_are_a_net : (net : PureNet) (arcs : List PureArc) → IsNet net → length arcs ≤ MAX_ARCS → AllByRecursion (IsArcOf net.alg (length net.nodes)) arcs → AreDistinct joins_same arcs → AreNumbered 0 arcs
+pub other_arcs_are_a_net : (net : PureNet) (arcs : List PureArc) → IsNet net → length arcs ≤ max_arcs → AllByRecursion (IsArcOf net.alg (length net.nodes)) arcs → AreDistinct joins_same arcs → AreNumbered 0 arcs
     → IsNet (record net { arcs = arcs })
 other_arcs_are_a_net net arcs n room within apart ids = record {
   is_alg = n.is_alg;
@@ -172,7 +184,7 @@ other_arcs_are_a_net net arcs n room within apart ids = record {
 }
 
 pub with_arc_is_net : (net : PureNet) (tail head : ℕ) (l : PureLabel) → IsNet net → IsArcOf net.alg (length net.nodes) (record { id = length net.arcs; tail = tail; head = head; label = l })
-    → has_arc net tail head ≡ false → length net.arcs < MAX_ARCS → IsNet (with_arc net tail head l)
+    → has_arc net tail head ≡ false → length net.arcs < max_arcs → IsNet (with_arc net tail head l)
 with_arc_is_net net tail head l n within absent room =
     let new : PureArc = record { id = length net.arcs; tail = tail; head = head; label = l } in
     let more = length_push net.arcs new in

@@ -2,8 +2,7 @@
 use Rattle.std.specs.Prelude.{◌≡◌, ℕ, ◌+◌, ◌^◌, ◌<◌, ◌≤◌, List, [], ◌∷◌, Bool, true, false, ◌==◌, ◌&&◌, ◌||◌, nat_le, Option, option_map, length, filter, find, position}
 use Rattle.std.specs.List.{list_any, list_all, AllByRecursion}
 use Rattle.std.specs.Str.{bytes_eq}
-use Rattle.net_graph.specs.declared.limits.TheConstants.{MAX_ARCS}
-use Rattle.net_graph.specs.Limits.{max_nodes, max_dests}
+use Rattle.net_graph.specs.Limits.{max_arcs, max_nodes, max_dests}
 use Rattle.alg_model.specs.Expressions.{PureAlg, PureLabel, PureValue}
 use Rattle.alg_model.specs.Carriers.{carrier_of, In}
 use Rattle.alg_model.specs.Application.{IsLabel}
@@ -116,7 +115,7 @@ stands_same o q = o.dest == q.dest && o.node == q.node
 pub record IsNet (net : PureNet) : Type 0 where
   pub is_alg : IsAlg net.alg
   pub node_room : length net.nodes ≤ max_nodes net.alg.edition
-  pub arc_room : length net.arcs ≤ MAX_ARCS
+  pub arc_room : length net.arcs ≤ max_arcs
   pub dest_room : length net.dests ≤ max_dests net.alg.edition
   pub node_names : AllByRecursion (λ n. is_name n ≡ true) net.nodes
   pub dest_names : AllByRecursion (λ n. is_name n ≡ true) net.dests

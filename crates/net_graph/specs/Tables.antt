@@ -6,7 +6,7 @@ use Rattle.alg_model.specs.Expressions.{PureCarrier, PureValue}
 use Rattle.alg_model.specs.Carriers.{carrier_of, In, IsPreferred}
 use Rattle.alg_model.specs.Bounds.{AtMost}
 use Rattle.alg_model.specs.Properties.{PureProperty, Has, monotone}
-use Rattle.net_graph.specs.declared.route.TheConstants.{MAX_ROW_NUMBER}
+use Rattle.net_graph.specs.Limits.{max_row_number}
 use Rattle.net_graph.specs.Nets.{PureArc, PureNet, origin_value}
 use Rattle.net_graph.specs.Routes.{PureRoute, Better}
 use Rattle.net_graph.specs.Walks.{Walk, Weight, along}
@@ -35,7 +35,7 @@ value_at table node = option_map (λ (r : PureRoute). r.value) (route_at table n
 -- the value is in the carrier, its numbers are small, and so is the path
 pub record IsRouteOf (net : PureNet) (r : PureRoute) : Type 0 where
   pub value_in : In (carrier net) r.value
-  pub bound : AtMost MAX_ROW_NUMBER r.value
+  pub bound : AtMost max_row_number r.value
   pub path : length r.path ≤ 2 ^ 29
 
 -- the rows are those of the nodes from i on
@@ -76,30 +76,30 @@ abbrev pub IsOwnOffer : PureNet → ℕ → ℕ → PureRoute → Type 0
 IsOwnOffer net dest i r = (origin_value net dest i ≡ Some r.value) × (r.path ≡ i ∷ [])
 
 -- what was reported of a node's route, if it has one: a table's rows tell it, and so does what a node heard
-abbrev pub Told : Type 0
-Told = ℕ → Option PureRoute
+abbrev pub Reported : Type 0
+Reported = ℕ → Option PureRoute
 
 -- what an arc to j makes of the route that is reported of j, where that is a value and the path of j
 -- doesn't pass i
-pub record IsOfferBy (net : PureNet) (told : Told) (i j : ℕ) (r : PureRoute) : Type 0 where
+pub record IsOfferBy (net : PureNet) (reported : Reported) (i j : ℕ) (r : PureRoute) : Type 0 where
   pub next : PureRoute
-  pub is_told : told j ≡ Some next
+  pub is_reported : reported j ≡ Some next
   pub weighs : along net i j (Some next.value) ≡ Some r.value
   pub loopless : is_among next.path i ≡ false
   pub path : r.path ≡ i ∷ next.path
 
 -- an offer to i made by its own origin or by one of these nodes
-abbrev pub IsOfferFrom : PureNet → ℕ → Told → List ℕ → ℕ → PureRoute → Type 0
-IsOfferFrom net dest told nodes i r = IsOwnOffer net dest i r ⊎ ((j : ℕ) × (is_among nodes j ≡ true) × IsOfferBy net told i j r)
+abbrev pub IsOfferFrom : PureNet → ℕ → Reported → List ℕ → ℕ → PureRoute → Type 0
+IsOfferFrom net dest reported nodes i r = IsOwnOffer net dest i r ⊎ ((j : ℕ) × (is_among nodes j ≡ true) × IsOfferBy net reported i j r)
 
 -- an offer to i for the destination
-abbrev pub Offers : PureNet → ℕ → Told → ℕ → PureRoute → Type 0
-Offers net dest told i r = IsOwnOffer net dest i r ⊎ ((j : ℕ) × IsOfferBy net told i j r)
+abbrev pub Offers : PureNet → ℕ → Reported → ℕ → PureRoute → Type 0
+Offers net dest reported i r = IsOwnOffer net dest i r ⊎ ((j : ℕ) × IsOfferBy net reported i j r)
 
 -- the choice is the offer that no other is better than, or none where there is no offer
-abbrev pub IsChoice : PureNet → ℕ → Told → ℕ → Option PureRoute → Type 0
-IsChoice net dest told i (Some r) = Offers net dest told i r × ((s : PureRoute) → Offers net dest told i s → ¬ Better (carrier net) s r)
-IsChoice net dest told i None = (r : PureRoute) → ¬ Offers net dest told i r
+abbrev pub IsChoice : PureNet → ℕ → Reported → ℕ → Option PureRoute → Type 0
+IsChoice net dest reported i (Some r) = Offers net dest reported i r × ((s : PureRoute) → Offers net dest reported i s → ¬ Better (carrier net) s r)
+IsChoice net dest reported i None = (r : PureRoute) → ¬ Offers net dest reported i r
 
 -- each row is its node's choice from what the table tells
 pub record Stable (net : PureNet) (dest : ℕ) (table : List PureRow) : Type 0 where

@@ -5,7 +5,7 @@ ghost use Rattle.alg_model.specs.Application.{IsLabel};
 ghost use Rattle.alg_model.specs.Bounds.{AtMost, LabelAtMost, greatest_number};
 ghost use Rattle.net_graph.specs.Nets.{IsNet, number_of, has_arc, has_origin, is_name};
 ghost use Rattle.net_graph.specs.Limits.{max_nodes, max_dests};
-ghost use Rattle.net_graph.specs.declared.limits.TheConstants.{MAX_ARCS, MAX_NODES_TWO, MAX_DESTS_ONE};
+ghost use Rattle.net_graph.specs.declared.limits.TheConstants.{MAX_ARCS, MOST_NODES, MOST_DESTS};
 ghost use Rattle.net_graph.specs.Lines.{empty_net, with_node, with_arc, with_dest, with_origin, with_origin_at};
 
 use crate::filed::file_lines;
@@ -222,11 +222,11 @@ impl NetDraft {
     }
 
     /// How many nodes there are, at most [`crate::max_nodes`] of the edition, and at most
-    /// [`crate::MAX_NODES_TWO`] in any.
+    /// [`crate::MOST_NODES`] in any.
     #[tactic(auto, using(crate::specs::NetLaws::few_nodes))]
     pub fn node_count(&self) -> usize
         ensures count { result ≡ length self.now.nodes }
-        ensures few { result ≤ MAX_NODES_TWO }
+        ensures few { result ≤ MOST_NODES }
         ensures net { IsNet self.now }
     {
         self.known.nodes.count()
@@ -241,11 +241,11 @@ impl NetDraft {
     }
 
     /// How many destinations there are, at most [`crate::max_dests`] of the edition, and at most
-    /// [`crate::MAX_DESTS_ONE`] in any.
+    /// [`crate::MOST_DESTS`] in any.
     #[tactic(auto, using(crate::specs::NetLaws::few_dests))]
     pub fn dest_count(&self) -> usize
         ensures count { result ≡ length self.now.dests }
-        ensures few { result ≤ MAX_DESTS_ONE }
+        ensures few { result ≤ MOST_DESTS }
         ensures net { IsNet self.now }
     {
         self.known.dests.count()

@@ -10,6 +10,6 @@ pub fn changed_networks_are_networks()
 
 /// A network after any number of its changes is a network.
 #[tactic(auto, using(crate::specs::Laws::after_is_net))]
-pub fn networks_behind_changes_are_networks()
+pub fn networks_after_changes_are_networks()
     ensures { (net : PureNet) (cs : List PureChange) (k : ℕ) → IsNet net → AreChanges net cs → IsNet (After net cs k) }
 {}

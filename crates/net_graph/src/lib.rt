@@ -16,10 +16,10 @@ mod route;
 
 pub use change::Change;
 pub use draft::NetDraft;
-pub use laws::{changed_networks_are_networks, networks_behind_changes_are_networks};
+pub use laws::{changed_networks_are_networks, networks_after_changes_are_networks};
 pub use limits::{
-    MAX_ARCS, MAX_CHANGES_ONE, MAX_CHANGES_TWO, MAX_DESTS_ONE, MAX_DESTS_TWO, MAX_NODES_ONE,
-    MAX_NODES_TWO, max_changes, max_dests, max_nodes,
+    MAX_ARCS, MOST_DESTS, MOST_NODES, editions_are_alike, max_changes, max_dests, max_nodes,
+    numbers_are_specified,
 };
 pub use net::Net;
 pub use parts::{Arc, Origin};

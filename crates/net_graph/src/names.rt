@@ -26,7 +26,7 @@ impl Model for Names {
 }
 
 impl Names {
-    // No name.
+    /// No name.
     pub fn new(alloc: Global) -> Names
         ensures { result ≡ [] }
     {
@@ -36,14 +36,14 @@ impl Names {
         }
     }
 
-    // How many names there are.
+    /// How many names there are.
     pub fn count(&self) -> usize
         ensures { result ≡ length self.now }
     {
         self.names.len()
     }
 
-    // The number of a name, if it is there.
+    /// The number of a name, if it is there.
     pub fn named(&self, name: &[u8]) -> Option<u32>
         requires { CanBeNumbered (length self.now) }
         ensures { result ≡ number_of self.now name.now }
@@ -54,7 +54,7 @@ impl Names {
         }
     }
 
-    // The name of that number.
+    /// The name of that number.
     pub fn name(&self, number: usize) -> &[u8]
         requires { number < length self.now }
         ensures { slice_get self.now number ≡ Some result.now }
@@ -62,7 +62,7 @@ impl Names {
         self.names.as_slice()[number].as_slice()
     }
 
-    // The name of that number, as it is printed.
+    /// The name of that number, as it is printed.
     pub fn text(&self, number: usize) -> &str
         requires { number < length self.now }
         ensures { slice_get self.now number ≡ Some result.now }
@@ -70,7 +70,7 @@ impl Names {
         self.texts[number].as_str()
     }
 
-    // Adds a name that isn't there. After a refusal nothing has changed.
+    /// Adds a name that isn't there. After a refusal nothing has changed.
     pub fn add(&mut self, alloc: Global, name: &[u8]) -> Result<(), NoMemory>
         requires name { is_name name.now ≡ true }
         requires absent { number_of self.old name.now ≡ None }
@@ -84,7 +84,7 @@ impl Names {
         Ok(())
     }
 
-    // The same names.
+    /// The same names.
     pub fn copy(&self, alloc: Global) -> Result<Names, NoMemory>
         ensures { IfOk result (λ copied. copied ≡ self.now) }
     {
@@ -94,7 +94,7 @@ impl Names {
         })
     }
 
-    // Drops the last name.
+    /// Drops the last name.
     pub fn drop_last(&mut self)
         ensures { (names : List (List ℕ)) (name : List ℕ) → self.old ≡ names ++ name ∷ [] → self.new ≡ names }
     {

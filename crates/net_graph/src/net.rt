@@ -1,6 +1,6 @@
 ghost use Rattle.std.specs.Prelude.{◌≡◌, ◌<◌, ◌≤◌, Some, true, map, find, length, position, slice_get, option_map, IfOk, IfSome};
 ghost use Rattle.std.specs.List.{AllByRecursion};
-ghost use Rattle.net_graph.specs.declared.limits.TheConstants.{MAX_NODES_TWO, MAX_DESTS_ONE};
+ghost use Rattle.net_graph.specs.declared.limits.TheConstants.{MOST_NODES, MOST_DESTS};
 ghost use Rattle.net_graph.specs.Nets.{IsNet, IsArcOf, IsOriginOf, is_name, number_of, has_arc, has_origin, is_arc_between, is_origin_at, arcs_from, arcs_to, origins_of};
 
 use crate::change::{Change, changed_arcs};
@@ -86,11 +86,11 @@ impl Net {
     }
 
     /// How many nodes there are, at most [`crate::max_nodes`] of the edition, and at most
-    /// [`crate::MAX_NODES_TWO`] in any.
+    /// [`crate::MOST_NODES`] in any.
     #[tactic(auto, using(crate::specs::NetLaws::few_nodes))]
     pub fn node_count(&self) -> usize
         ensures count { result ≡ length self.now.nodes }
-        ensures few { result ≤ MAX_NODES_TWO }
+        ensures few { result ≤ MOST_NODES }
         ensures net { IsNet self.now }
     {
         self.known.nodes.count()
@@ -105,11 +105,11 @@ impl Net {
     }
 
     /// How many destinations there are, at most [`crate::max_dests`] of the edition, and at most
-    /// [`crate::MAX_DESTS_ONE`] in any.
+    /// [`crate::MOST_DESTS`] in any.
     #[tactic(auto, using(crate::specs::NetLaws::few_dests))]
     pub fn dest_count(&self) -> usize
         ensures count { result ≡ length self.now.dests }
-        ensures few { result ≤ MAX_DESTS_ONE }
+        ensures few { result ≤ MOST_DESTS }
         ensures net { IsNet self.now }
     {
         self.known.dests.count()

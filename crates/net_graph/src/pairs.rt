@@ -27,7 +27,7 @@ impl Pairs {
     ghost use Rattle.net_graph.specs.Parts.{arc_pair};
     ghost use Rattle.net_graph.specs.Views.{pure_arc};
 
-    // No pair.
+    /// No pair.
     pub fn new(alloc: Global) -> Pairs
         ensures { result ≡ [] }
     {
@@ -36,14 +36,14 @@ impl Pairs {
         }
     }
 
-    // The pair is there.
+    /// The pair is there.
     pub fn contains(&self, first: u32, second: u32) -> bool
         ensures { result ≡ has_pair self.now first second }
     {
         self.pairs.contains(&(first, second))
     }
 
-    // Where the pair stands, if it is there.
+    /// Where the pair stands, if it is there.
     pub fn place(&self, first: u32, second: u32) -> Option<usize>
         ensures place { result ≡ position (is_pair first second) self.now }
         ensures within { IfSome result (λ place. place < length self.now) }
@@ -51,7 +51,7 @@ impl Pairs {
         self.pairs.get_index_of(&(first, second))
     }
 
-    // The same pairs.
+    /// The same pairs.
     pub fn copy(&self) -> Result<Pairs, NoMemory>
         ensures { IfOk result (λ copied. copied ≡ self.now) }
     {
@@ -60,7 +60,7 @@ impl Pairs {
         })
     }
 
-    // The tails and heads of the arcs.
+    /// The tails and heads of the arcs.
     pub fn of_arcs(alloc: Global, arcs: &[Arc]) -> Result<Pairs, NoMemory>
         requires { AreDistinct joins_same (map pure_arc arcs.now) }
         ensures { IfOk result (λ pairs. pairs ≡ map arc_pair (map pure_arc arcs.now)) }
@@ -72,7 +72,7 @@ impl Pairs {
         Ok(pairs)
     }
 
-    // Adds a pair that isn't there. After a refusal nothing has changed.
+    /// Adds a pair that isn't there. After a refusal nothing has changed.
     pub fn add(&mut self, first: u32, second: u32) -> Result<(), NoMemory>
         requires { has_pair self.old first second ≡ false }
         ensures ok { OnOk result (self.new ≡ self.old ++ (first, second) ∷ []) }

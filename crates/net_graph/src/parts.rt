@@ -67,7 +67,7 @@ impl Known {
     ghost use Rattle.net_graph.specs.Parts.{arc_pair};
     ghost use Rattle.net_graph.specs.Views.{pure_arc};
 
-    // The node of that name.
+    /// The node of that name.
     pub fn node_named(&self, name: &[u8]) -> Option<NodeId>
         requires { CanBeNumbered (length self.now.nodes) }
         ensures { option_map (λ node. node.0) result ≡ number_of self.now.nodes name.now }
@@ -75,7 +75,7 @@ impl Known {
         self.nodes.named(name).map(NodeId)
     }
 
-    // The destination of that name.
+    /// The destination of that name.
     pub fn dest_named(&self, name: &[u8]) -> Option<DestId>
         requires { CanBeNumbered (length self.now.dests) }
         ensures { option_map (λ dest. dest.0) result ≡ number_of self.now.dests name.now }
@@ -83,7 +83,7 @@ impl Known {
         self.dests.named(name).map(DestId)
     }
 
-    // The same, with these arcs in place of those that there are.
+    /// The same, with these arcs in place of those that there are.
     pub fn copy_with(&self, alloc: Global, arcs: &[Arc]) -> Result<Known, NoMemory>
         requires { AreDistinct joins_same (map pure_arc arcs.now) }
         ensures { IfOk result (λ known. known ≡ record self.now { arc_pairs = map arc_pair (map pure_arc arcs.now) }) }
@@ -97,8 +97,8 @@ impl Known {
         })
     }
 
-    // Notes an origin of the destination of that name, which is added where it is new. After a
-    // refusal nothing has changed.
+    /// Notes an origin of the destination of that name, which is added where it is new. After a
+    /// refusal nothing has changed.
     pub fn add_origin(
         &mut self,
         alloc: Global,

@@ -2,7 +2,7 @@
 use Rattle.std.specs.Prelude.{◌≡◌, ℕ, ◌≤◌, ◌==◌, Bool, true, false, List, [], ◌∷◌, Option, Some, option_map, length, cond, slice_get}
 use Rattle.std.specs.List.{AllByRecursion}
 use Rattle.net_graph.specs.Nets.{PureArc, PureNet, IsNet}
-use Rattle.node_core.specs.declared.node.TheConstants.{MAX_BEGUN}
+use Rattle.node_core.specs.Numbers.{max_begun}
 
 -- who listens on an arc, and who speaks on it
 abbrev pub listener : PureNet → ℕ → Option ℕ
@@ -45,12 +45,12 @@ pub record IsLater {S M : Type 0} (k : Kind S M) (s t : S) (clock : ℕ) : Type 
   pub begun : k.is_begun t ≡ true
   pub last : k.last t ≡ clock
 
--- What holds of every kind of node. A node puts at most MAX_BEGUN messages on an arc when it begins, and one
+-- What holds of every kind of node. A node puts at most max_begun messages on an arc when it begins, and one
 -- in a step; a message that doesn't fit changes its last clock alone.
 pub record IsLawful {S M : Type 0} (k : Kind S M) : Type 0 where
   pub begins : (s : S) → IsLater k s (k.begin s).0 0
   pub begun_sends : (s : S) → IsSentBy k s 0 (k.begin s).1
-  pub begun_few : (s : S) (a : ℕ) → IsNet (k.net s) → length (on_arc a (k.begin s).1) ≤ MAX_BEGUN
+  pub begun_few : (s : S) (a : ℕ) → IsNet (k.net s) → length (on_arc a (k.begin s).1) ≤ max_begun
   pub steps : (s : S) (a : ℕ) (m : M) (t : ℕ) → k.is_begun s ≡ true → IsLater k s (k.step s a m t).0 t
   pub step_sends : (s : S) (a : ℕ) (m : M) (t : ℕ) → IsSentBy k s t (k.step s a m t).1
   pub step_few : (s : S) (a b : ℕ) (m : M) (t : ℕ) → IsNet (k.net s) → length (on_arc b (k.step s a m t).1) ≤ 1

@@ -1,3 +1,4 @@
+pub mod Numbers
 pub mod Kinds
 pub mod Machine
 pub mod Running

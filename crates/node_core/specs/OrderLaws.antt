@@ -10,7 +10,7 @@ use Rattle.meta_base.specs.declared.ids.Delivery.{Delivery}
 use Rattle.net_graph.specs.Nets.{PureNet}
 use Rattle.node_core.specs.Kinds.{Kind, IsLawful, listener, on_arc}
 use Rattle.node_core.specs.Machine.{Machine, changed_at, begun_messages, Start, clock_after, step_of, stepped, Deliver, front_clock, deliver_at, replay_from, Replay, ComesBefore, Ordered}
-use Rattle.node_core.specs.Running.{entry_at, AreUpTo, IsBehind, IsLeast, LeadsTo}
+use Rattle.node_core.specs.Running.{entry_at, AreUpTo, IsAfter, IsLeast, LeadsTo}
 use Rattle.node_core.specs.MachineLaws.{same_test, at_each, all_join, all_mapped, on_arc_all, option_then, IsFront, front_of, front_is, delivery_of, delivered_at, deliver_by_clock, begun_stamps, replay_more}
 
 pub before_then : (net : PureNet) (e f g : Delivery) → ComesBefore net e f → ComesBefore net f g → ComesBefore net e g
@@ -142,29 +142,29 @@ module _ {S M : Type 0} (k : Kind S M) (lawful : IsLawful k) where
         by [] none h = new_front b t f.number f.message f.rest h f.clock_is
         by (m ∷ rest) front h = let same : f.message ≡ m = cc in old_front b t f.number m rest f.listens other front (f.clock_is ∙ (clock ∙ ap (clock_after k c f.number) same))
 
-    pub stepped_behind : IsBehind k net next e
-    stepped_behind b t h = let f = front_of k net next b t h in by f (f.number == w.number) refl
+    pub stepped_after : IsAfter k net next e
+    stepped_after b t h = let f = front_of k net next b t h in by f (f.number == w.number) refl
       where
         by : (f : IsFront k net next b t) (x : Bool) → (f.number == w.number) ≡ x → ComesBefore net e (entry_at t b)
         by f true same = same_node b t f same
         by f false other = other_node b t f other
 
   -- a delivery that is least leaves only later ones to be made
-  pub least_is_behind : (net : PureNet) (c d : Machine S M) (e : Delivery) → IsLeast k net c e → Deliver k net c e.arc.0 ≡ Some d → IsBehind k net d e
-  least_is_behind net c d e least made =
+  pub least_is_after : (net : PureNet) (c d : Machine S M) (e : Delivery) → IsLeast k net c e → Deliver k net c e.arc.0 ≡ Some d → IsAfter k net d e
+  least_is_after net c d e least made =
       let w = delivery_of k net c e.arc.0 d made in
       let is : e.clock ≡ clock_after k c w.number w.message = same_Some _ _ (sym least.front ∙ front_is k net c e.arc.0 (clock_after k c w.number w.message) (record { number = w.number; message = w.message; rest = w.rest; listens = w.listens; front = w.front; clock_is = refl })) in
-      subst (λ x. IsBehind k net x e) (sym w.makes)
-      (stepped_behind net c e least (record { number = w.number; message = w.message; rest = w.rest; listens = w.listens; front = w.front; clock_is = is }) w.node)
+      subst (λ x. IsAfter k net x e) (sym w.makes)
+      (stepped_after net c e least (record { number = w.number; message = w.message; rest = w.rest; listens = w.listens; front = w.front; clock_is = is }) w.node)
 
   -- so a journal that is made least first is in order
   pub least_first : (net : PureNet) (start c d : Machine S M) (journal : List Delivery) (e : Delivery) → LeadsTo k net start journal c → IsLeast k net c e → Deliver k net c e.arc.0 ≡ Some d → LeadsTo k net start (journal ++ e ∷ []) d
   least_first net start c d journal e to least made =
-      let next = least_is_behind net c d e least made in
-      let earlier : AllByRecursion (λ f. ComesBefore net f e) journal = all_mapped (IsBehind k net c) (λ f. ComesBefore net f e) (λ f behind. behind e.arc.0 e.clock least.front) journal to.behind in
+      let next = least_is_after net c d e least made in
+      let earlier : AllByRecursion (λ f. ComesBefore net f e) journal = all_mapped (IsAfter k net c) (λ f. ComesBefore net f e) (λ f after. after e.arc.0 e.clock least.front) journal to.after in
       record {
         replays = replay_more k net start c d journal e to.replays (deliver_by_clock k net c e least.front ∙ made);
         ordered = ordered_more net journal e to.ordered earlier;
-        behind = all_join (IsBehind k net d) journal (e ∷ [])
-            (all_mapped (λ f. ComesBefore net f e) (IsBehind k net d) (λ f before a t h. before_then net f e (entry_at t a) before (next a t h)) journal earlier) (next, tt);
+        after = all_join (IsAfter k net d) journal (e ∷ [])
+            (all_mapped (λ f. ComesBefore net f e) (IsAfter k net d) (λ f before a t h. before_then net f e (entry_at t a) before (next a t h)) journal earlier) (next, tt);
       }

@@ -31,8 +31,8 @@ module _ {S M : Type 0} (k : Kind S M) where
     pub stamps : (a : ℕ) → AllByRecursion (λ m. k.stamp m ≤ n) (c.link a)
 
   -- each delivery that the machine could make comes after this one
-  abbrev pub IsBehind : PureNet → Machine S M → Delivery → Type 0
-  IsBehind net c e = (a t : ℕ) → front_clock k net c a ≡ Some t → ComesBefore net e (entry_at t a)
+  abbrev pub IsAfter : PureNet → Machine S M → Delivery → Type 0
+  IsAfter net c e = (a t : ℕ) → front_clock k net c a ≡ Some t → ComesBefore net e (entry_at t a)
 
   -- the machine could make this delivery, and none that comes before it
   pub record IsLeast (net : PureNet) (c : Machine S M) (e : Delivery) : Type 0 where
@@ -44,4 +44,4 @@ module _ {S M : Type 0} (k : Kind S M) where
   pub record LeadsTo (net : PureNet) (c : Machine S M) (journal : List Delivery) (d : Machine S M) : Type 0 where
     pub replays : replay_from k net c journal ≡ Some d
     pub ordered : Ordered net journal
-    pub behind : AllByRecursion (IsBehind net d) journal
+    pub after : AllByRecursion (IsAfter net d) journal

@@ -11,4 +11,4 @@ mod stepping;
 
 pub use config::{Config, Delivered};
 pub use laws::{least_first_is_in_order, replays_run};
-pub use node::{MAX_BEGUN, MAX_CLOCK, NodeCore, Outgoing};
+pub use node::{MAX_BEGUN, MAX_CLOCK, NodeCore, Outgoing, numbers_are_specified};

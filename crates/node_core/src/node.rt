@@ -1,5 +1,7 @@
 ghost use Rattle.std.specs.Prelude.{◌≡◌, ◌<◌, ◌≤◌, [], Some, true, false, map, OnOk, OnErr};
+ghost use Rattle.meta_base.specs.Numbers.{max_turns};
 ghost use Rattle.node_core.specs.Kinds.{Kind, IsLawful, listener};
+ghost use Rattle.node_core.specs.Numbers.{max_begun};
 
 use meta_base::{ArcId, List, NoMemory};
 
@@ -8,6 +10,12 @@ pub const MAX_BEGUN: usize = 64;
 
 /// The greatest clock that a node is given, and so the most deliveries that are made.
 pub const MAX_CLOCK: u64 = 1_000_000;
+
+/// The bounds of nodes are the numbers of the specification.
+pub fn numbers_are_specified()
+    ensures begun { MAX_BEGUN ≡ max_begun }
+    ensures clock { MAX_CLOCK ≡ max_turns }
+{}
 
 /// Messages, each with the arc that it goes on, in the order in which they are put there.
 pub type Outgoing<M> = List<(ArcId, M)>;

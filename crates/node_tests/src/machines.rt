@@ -241,7 +241,7 @@ const OTHER_MACHINES: &[Machine] = &[
 ];
 
 #[test]
-fn other_deliveries_are_told_apart(rt: HostRuntime) -> Result<(), Fail> {
+fn other_deliveries_are_reported_apart(rt: HostRuntime) -> Result<(), Fail> {
     for (expression, lines, deliveries, rows) in OTHER_MACHINES {
         let are_right = delivers_over(rt.alloc(), *expression, *lines, *deliveries, *rows)?;
         assert!(rt; !are_right, "{deliveries}");

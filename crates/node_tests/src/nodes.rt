@@ -41,7 +41,7 @@ fn sent_last<N: NodeCore>(
 }
 
 // The route as nodes tell it.
-fn told_of(alloc: Global, route: Option<Route>) -> Result<Option<Shared<SharedRoute>>, Fail> {
+fn reported_of(alloc: Global, route: Option<Route>) -> Result<Option<Shared<SharedRoute>>, Fail> {
     let Some(Route { value, path }) = route else {
         return Ok(None);
     };
@@ -50,15 +50,15 @@ fn told_of(alloc: Global, route: Option<Route>) -> Result<Option<Shared<SharedRo
 }
 
 // The route that was reported.
-fn heard_of(alloc: Global, told: &Option<Shared<SharedRoute>>) -> Result<Option<Route>, Fail> {
-    let Some(told) = told else {
+fn heard_of(alloc: Global, reported: &Option<Shared<SharedRoute>>) -> Result<Option<Route>, Fail> {
+    let Some(reported) = reported else {
         return Ok(None);
     };
     let mut path = List::new(alloc);
-    for node in told.get().path.as_slice() {
+    for node in reported.get().path.as_slice() {
         path.push(*node)?;
     }
-    let value = told.get().value.copy(alloc)?;
+    let value = reported.get().value.copy(alloc)?;
     Ok(Some(Route { value, path }))
 }
 
@@ -69,7 +69,7 @@ fn update_of(alloc: Global, net: &Net, text: &str) -> Result<(ArcId, Update), Fa
     let (dest, row) = rest.split_once(' ').ok_or("no row")?;
     let arc = ArcId(arc.parse()?);
     let dest = dest_of(net, dest)?;
-    let route = told_of(alloc, route_of(alloc, net, row)?)?;
+    let route = reported_of(alloc, route_of(alloc, net, row)?)?;
     Ok((
         arc,
         Update {
@@ -93,7 +93,7 @@ fn updates_of(alloc: Global, net: &Net, text: &str) -> Result<Vec<(ArcId, Update
 }
 
 // Whether the update tells the row of the first destination, at that clock.
-fn tells(alloc: Global, net: &Net, update: &Update, row: &str, clock: u64) -> Result<bool, Fail> {
+fn reports(alloc: Global, net: &Net, update: &Update, row: &str, clock: u64) -> Result<bool, Fail> {
     if update.dest.0 != 0 || update.stamp != clock {
         return Ok(false);
     }
@@ -119,7 +119,7 @@ fn is_sent(
             return Ok(false);
         }
         let (on, update) = &sent[place];
-        if on.0 != arc.parse()? || !tells(alloc, net, update, row, clock)? {
+        if on.0 != arc.parse()? || !reports(alloc, net, update, row, clock)? {
             return Ok(false);
         }
         place += 1;
@@ -333,7 +333,7 @@ fn other_cases() -> &'static str {
 }
 
 #[test]
-fn other_answers_are_told_apart(rt: HostRuntime) -> Result<(), Fail> {
+fn other_answers_are_reported_apart(rt: HostRuntime) -> Result<(), Fail> {
     for case in other_cases().lines() {
         assert!(rt; !answers_over(rt.alloc(), HOPS, HUB, case)?, "{case}");
     }

@@ -1,7 +1,7 @@
 // Tests of `stable_check`: what walks weigh, which tables are relaxed, and which are stable.
-use meta_base::DestId;
+use meta_base::{DestId, NodeId};
 use net_graph::Net;
-use stable_check::{MAX_WALK_NODES, are_nodes_of, is_relaxed, is_stable, is_table_of, weight_of};
+use stable_check::{MAX_WALK_NODES, is_relaxed, is_stable, is_table_of, weight_of};
 use std::alloc::Global;
 use std::test::Fail;
 use testkit_nodes::{is_value, path_of, table_of};
@@ -75,15 +75,19 @@ const KEEPING: &str = "table { o < a < d; D: o -> d; N: d -> a; M: a -> a }";
 
 const ECHO: &[u8] = b"node z p q\nlink p z : D\nlink q p : N\nlink p q : M\norigin x at z : o\n";
 
-// Whether the walk weighs so much for the first destination.
-fn is_weight(alloc: Global, net: &Net, walk: &str, weight: &str) -> Result<bool, Fail> {
-    let walk = path_of(alloc, net, walk)?;
-    let nodes = walk.as_slice();
-    if net.dest_count() == 0 || nodes.len() > MAX_WALK_NODES || !are_nodes_of(net, nodes) {
-        return Err("these are no nodes of the network".into());
+// Whether the nodes weigh so much for the first destination.
+fn do_weigh(alloc: Global, net: &Net, nodes: &[NodeId], weight: &str) -> Result<bool, Fail> {
+    if net.dest_count() == 0 || nodes.len() > MAX_WALK_NODES {
+        return Err("there is no destination, or the walk is too long".into());
     }
     let found = weight_of(alloc, net, DestId(0), nodes)?;
     is_value(alloc, net, found.as_ref(), weight)
+}
+
+// The same of the nodes of these names.
+fn is_weight(alloc: Global, net: &Net, walk: &str, weight: &str) -> Result<bool, Fail> {
+    let walk = path_of(alloc, net, walk)?;
+    do_weigh(alloc, net, walk.as_slice(), weight)
 }
 
 // The same over the network of these lines.
@@ -135,6 +139,17 @@ fn walks_are_weighed(rt: HostRuntime) -> Result<(), Fail> {
     Ok(())
 }
 
+// The network has the nodes 0 to 2.
+#[test]
+fn other_nodes_make_no_walk(rt: HostRuntime) -> Result<(), Fail> {
+    let net = network(rt.alloc(), HOPS, BOTH_WAYS)?;
+    let is_first = do_weigh(rt.alloc(), &net, &[NodeId(3), NodeId(1)], "none")?;
+    let is_last = do_weigh(rt.alloc(), &net, &[NodeId(0), NodeId(3)], "none")?;
+    drop(net);
+    assert!(rt; is_first && is_last);
+    Ok(())
+}
+
 // Walks that don't weigh this.
 const OTHER_WALKS: &[Walk] = &[
     (HOPS, BOTH_WAYS, "a b", "4"),
@@ -143,7 +158,7 @@ const OTHER_WALKS: &[Walk] = &[
 ];
 
 #[test]
-fn other_weights_are_told_apart(rt: HostRuntime) -> Result<(), Fail> {
+fn other_weights_are_reported_apart(rt: HostRuntime) -> Result<(), Fail> {
     for (expression, lines, walk, weight) in OTHER_WALKS {
         let is_weight = is_weight_over(rt.alloc(), *expression, *lines, *walk, *weight)?;
         assert!(rt; !is_weight, "{walk} weighs {weight}");

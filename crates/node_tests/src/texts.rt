@@ -19,10 +19,10 @@ const LINE: &[u8] =
 const LINE_NODES: usize = 3;
 
 // The value of a route and the numbers of its nodes, or none.
-type Told = Option<(Amount, &'static [u32])>;
+type Reported = Option<(Amount, &'static [u32])>;
 
 // Rows of that network, by destination, then node.
-const ROWS: &[Told] = &[
+const ROWS: &[Reported] = &[
     None,
     Some((1, &[1, 2])),
     Some((0, &[2])),
@@ -31,8 +31,8 @@ const ROWS: &[Told] = &[
     Some((5, &[2])),
 ];
 
-fn route_told(alloc: Global, told: Told) -> Result<Option<Route>, NoMemory> {
-    let Some((value, numbers)) = told else {
+fn route_reported(alloc: Global, reported: Reported) -> Result<Option<Route>, NoMemory> {
+    let Some((value, numbers)) = reported else {
         return Ok(None);
     };
     let mut path = List::new(alloc);
@@ -46,13 +46,13 @@ fn route_told(alloc: Global, told: Told) -> Result<Option<Route>, NoMemory> {
 }
 
 // The rows, with those at two places swapped.
-fn rows_told(alloc: Global, swapped: (usize, usize)) -> Result<Vec<RouteRow>, NoMemory> {
+fn rows_reported(alloc: Global, swapped: (usize, usize)) -> Result<Vec<RouteRow>, NoMemory> {
     let mut rows = Vec::new(alloc);
-    for (place, told) in ROWS.iter().enumerate() {
+    for (place, reported) in ROWS.iter().enumerate() {
         rows.push(RouteRow {
             node: NodeId((place % LINE_NODES) as u32),
             dest: DestId((place / LINE_NODES) as u32),
-            route: route_told(alloc, *told)?,
+            route: route_reported(alloc, *reported)?,
         })?;
     }
     if swapped.0 < rows.len() && swapped.1 < rows.len() {
@@ -90,8 +90,8 @@ const ROW_TEXTS: &[((usize, usize), &str, bool)] = &[
 ];
 
 // Whether the text tells the rows, with those at the places swapped.
-fn tells_rows(alloc: Global, swapped: (usize, usize), text: &str) -> Result<bool, Fail> {
-    let rows = rows_told(alloc, swapped)?;
+fn reports_rows(alloc: Global, swapped: (usize, usize), text: &str) -> Result<bool, Fail> {
+    let rows = rows_reported(alloc, swapped)?;
     let net = network(alloc, HOPS, LINE)?;
     let answer = are_rows(alloc, &net, &rows, text);
     drop(net);
@@ -100,9 +100,9 @@ fn tells_rows(alloc: Global, swapped: (usize, usize), text: &str) -> Result<bool
 }
 
 #[test]
-fn other_rows_are_told_apart(rt: HostRuntime) -> Result<(), Fail> {
+fn other_rows_are_reported_apart(rt: HostRuntime) -> Result<(), Fail> {
     for (swapped, text, expected) in ROW_TEXTS {
-        let answer = tells_rows(rt.alloc(), *swapped, *text)?;
+        let answer = reports_rows(rt.alloc(), *swapped, *text)?;
         assert_eq!(rt; answer, *expected, "{text} with {swapped:?}");
     }
     Ok(())
@@ -132,17 +132,17 @@ fn is_table(alloc: Global, text: &str) -> Result<bool, Fail> {
 }
 
 #[test]
-fn other_tables_are_told_apart(rt: HostRuntime) -> Result<(), Fail> {
+fn other_tables_are_reported_apart(rt: HostRuntime) -> Result<(), Fail> {
     for (text, expected) in TABLE_TEXTS {
         assert_eq!(rt; is_table(rt.alloc(), *text)?, *expected, "{text}");
     }
     Ok(())
 }
 
-const ROUTE: Told = Some((1, &[1, 2]));
+const ROUTE: Reported = Some((1, &[1, 2]));
 
 // A route, a text, and whether it tells the route.
-const ROUTE_TEXTS: &[(Told, &str, bool)] = &[
+const ROUTE_TEXTS: &[(Reported, &str, bool)] = &[
     (ROUTE, "1 b c", true),
     (ROUTE, "2 b c", false),
     (ROUTE, "1 c b", false),
@@ -153,8 +153,8 @@ const ROUTE_TEXTS: &[(Told, &str, bool)] = &[
     (None, "1 b c", false),
 ];
 
-fn tells_route(alloc: Global, told: Told, text: &str) -> Result<bool, Fail> {
-    let route = route_told(alloc, told)?;
+fn reports_route(alloc: Global, reported: Reported, text: &str) -> Result<bool, Fail> {
+    let route = route_reported(alloc, reported)?;
     let net = network(alloc, HOPS, LINE)?;
     let answer = is_route(alloc, &net, route.as_ref(), text);
     drop(net);
@@ -163,9 +163,9 @@ fn tells_route(alloc: Global, told: Told, text: &str) -> Result<bool, Fail> {
 }
 
 #[test]
-fn other_routes_are_told_apart(rt: HostRuntime) -> Result<(), Fail> {
-    for (told, text, expected) in ROUTE_TEXTS {
-        let answer = tells_route(rt.alloc(), *told, *text)?;
+fn other_routes_are_reported_apart(rt: HostRuntime) -> Result<(), Fail> {
+    for (reported, text, expected) in ROUTE_TEXTS {
+        let answer = reports_route(rt.alloc(), *reported, *text)?;
         assert_eq!(rt; answer, *expected, "{text}");
     }
     Ok(())
@@ -201,7 +201,7 @@ fn spells_on(alloc: Global, net: &Net, value: &str, other: &str) -> Result<bool,
 }
 
 #[test]
-fn other_values_are_told_apart(rt: HostRuntime) -> Result<(), Fail> {
+fn other_values_are_reported_apart(rt: HostRuntime) -> Result<(), Fail> {
     for (expression, value, other, expected) in VALUES {
         let answer = spells(rt.alloc(), *expression, *value, *other)?;
         assert_eq!(rt; answer, *expected, "{other} for {value}");

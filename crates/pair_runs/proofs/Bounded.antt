@@ -1,18 +1,14 @@
 -- Runs are bounded on every network over an algebra exactly if all its labels are monotone.
-use Rattle.std.proofs.Common.{◌≡◌, ℕ, ◌+◌, ◌≤◌, ◌↔◌, List, [], ◌∷◌, length, map, refl, arith}
-use Rattle.std.specs.List.{AllByRecursion, range_with_len}
+use Rattle.std.proofs.Common.{◌+◌, ◌↔◌, length, map, refl, arith}
+use Rattle.std.specs.List.{range_with_len}
 use Rattle.alg_model.specs.Expressions.{PureAlg, PureLabel, PureValue}
 use Rattle.alg_model.specs.Formation.{IsAlg}
-use Rattle.alg_model.specs.Properties.{monotone, IsMonotone}
-use Rattle.net_graph.specs.Nets.{PureArc, IsArcOf}
-use Rattle.net_graph.specs.Tables.{NetHas}
 use Rattle.node_core.specs.Machine.{Start}
 use Rattle.path_vector.specs.Laws.{new_nodes_may_begin}
 use Rattle.path_vector.specs.Node.{new_node, path_vector}
+use Rattle.settled_laws.specs.OneTable.{monotone_where_none_improves, net_has_monotone}
 use Rattle.settled_laws.specs.Pair.{pair_net, Fits, Improves}
 use Rattle.settled_laws.specs.PairIsNet.{pair_is_net}
-use Rattle.settled_laws.specs.SmallInstances.{small_label_on, small_value_under}
-use Rattle.settled_laws.specs.SmallWedges.{small_wedge}
 use Rattle.settled_laws.specs.UniqueTables.{LabelsAreMonotone}
 use Rattle.vector_rest.specs.EndLaws.{begun_runs_end}
 use Rattle.vector_rest.specs.Left.{left_from}
@@ -27,26 +23,17 @@ none_improves alg l v w a bounded f g =
     let count = run.count_is in
     absurd (omega (arith, few, count))
 
--- where a label made some value better, one without great numbers would do so
 pub monotone_where_bounded : (alg : PureAlg) → IsAlg alg → AllRunsAreBounded alg → LabelsAreMonotone alg
-monotone_where_bounded alg a bounded l is v within p =
-    let s = small_wedge alg l v a is within p in
-    none_improves alg (small_label_on alg.expression l v) (small_value_under alg.expression l v) s.image a bounded s.fits s.improves
-
-arcs_have_monotone : (alg : PureAlg) (nodes : ℕ) (arcs : List PureArc) → LabelsAreMonotone alg → AllByRecursion (IsArcOf alg nodes) arcs → AllByRecursion (λ (a : PureArc). IsMonotone alg.expression a.label) arcs
-arcs_have_monotone alg nodes [] m h = tt
-arcs_have_monotone alg nodes (a ∷ arcs) m h = (m a.label h.0.label_in, arcs_have_monotone alg nodes arcs m h.1)
+monotone_where_bounded alg a bounded = monotone_where_none_improves alg a (λ l v w. none_improves alg l v w a bounded)
 
 -- where they are, no more deliveries are made than are left at the start
 pub bounded_where_monotone : (alg : PureAlg) → LabelsAreMonotone alg → AllRunsAreBounded alg
 bounded_where_monotone alg m net e n =
     let nodes = map (new_node net) (range_with_len 0 (length net.nodes)) in
-    let labels : LabelsAreMonotone net.alg = rw e m in
-    let net_has : NetHas monotone net = arcs_have_monotone net.alg _ net.arcs labels n.arcs_in in
     record {
       most = left_from net (Start path_vector nodes) (Start path_vector nodes);
       within = λ journal end replayed.
-          let all = begun_runs_end net nodes journal end n net_has (new_nodes_may_begin net) replayed in
+          let all = begun_runs_end net nodes journal end n (net_has_monotone alg m net e n) (new_nodes_may_begin net) replayed in
           omega (arith, all);
     }
 

@@ -12,7 +12,7 @@ use Rattle.node_core.specs.Kinds.{listener, on_arc}
 use Rattle.node_core.specs.Machine.{Machine, ComesBefore, Drained, Ordered, Start, clock_after, deliver_at, replay_from, step_of, stepped}
 use Rattle.node_core.specs.MachineLaws.{deliver_by_clock, front_is}
 use Rattle.node_core.specs.Running.{entry_at}
-use Rattle.path_vector.specs.Node.{PvState, PureUpdate, Begin, is_news, new_node, path_vector, told_on}
+use Rattle.path_vector.specs.Node.{PvState, PureUpdate, Begin, is_news, new_node, path_vector, reported_on}
 use Rattle.settled_laws.specs.Pair.{pair_net, Fits, Improves}
 use Rattle.pair_runs.specs.Unfinished.{HasUnfinishedRun}
 use Rattle.pair_runs.specs.ImprovedValues.{AreTested, are_tested}
@@ -170,10 +170,10 @@ module _ (alg : PureAlg) (l : PureLabel) (v w : PureValue) where
 
     -- the nodes begin with their own routes
     p_begun : (Begin (new_node net 0)).1 ≡ (1, update_of (p_route true) 0) ∷ []
-    p_begun = ap (λ z. told_on (filter (is_news (new_node net 0) z 0) (arcs_to net 0)) (record { dest = 0; route = z; stamp = 0 }) ++ []) (p_alone alg l v w tested (new_node net 0).heard refl)
+    p_begun = ap (λ z. reported_on (filter (is_news (new_node net 0) z 0) (arcs_to net 0)) (record { dest = 0; route = z; stamp = 0 }) ++ []) (p_alone alg l v w tested (new_node net 0).heard refl)
 
     q_begun : (Begin (new_node net 1)).1 ≡ (0, update_of (q_route true) 0) ∷ []
-    q_begun = ap (λ z. told_on (filter (is_news (new_node net 1) z 0) (arcs_to net 1)) (record { dest = 0; route = z; stamp = 0 }) ++ []) (q_alone alg l v w tested (new_node net 1).heard refl)
+    q_begun = ap (λ z. reported_on (filter (is_news (new_node net 1) z 0) (arcs_to net 1)) (record { dest = 0; route = z; stamp = 0 }) ++ []) (q_alone alg l v w tested (new_node net 1).heard refl)
 
     starts : IsRound true 0 (Start path_vector (map (new_node net) (range_with_len 0 (length net.nodes))))
     starts = record {

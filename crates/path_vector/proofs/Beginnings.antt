@@ -8,7 +8,7 @@ use Rattle.std.proofs.Math.Path.{fun_ext}
 use Rattle.std.proofs.lemmas.List.{append_assoc}
 use Rattle.net_graph.specs.Nets.{PureArc, PureNet, arcs_to}
 use Rattle.net_graph.specs.Routes.{PureRoute}
-use Rattle.path_vector.specs.Node.{PvState, PureUpdate, all_begun_updates, begun_updates, choice, same_row, told_on}
+use Rattle.path_vector.specs.Node.{PvState, PureUpdate, all_begun_updates, begun_updates, choice, same_row, reported_on}
 use Rattle.path_vector.specs.Updates.{spoken_in}
 
 -- a node with this network, which comes from that one, and has heard and kept these routes
@@ -40,19 +40,19 @@ begun_one s dest = nothing_more (begun_updates s dest)
 
 module _ (net : PureNet) (before : Option PureNet) (number : ℕ) (heard : ℕ → ℕ → Option PureRoute) (rows : ℕ → Option PureRoute) (s : PvState) (is : IsUnbegun net before number heard rows s) where
   -- what is reported of one row
-  abbrev pub told_of : ℕ → Option PureRoute → Bool → List (ℕ × PureUpdate)
-  told_of dest row is_other = told_on (filter (λ (a : PureArc). cond (spoken_in before a.tail a.head) is_other (is_some row)) (arcs_to net number)) (record { dest = dest; route = row; stamp = 0 })
+  abbrev pub reported_of : ℕ → Option PureRoute → Bool → List (ℕ × PureUpdate)
+  reported_of dest row is_other = reported_on (filter (λ (a : PureArc). cond (spoken_in before a.tail a.head) is_other (is_some row)) (arcs_to net number)) (record { dest = dest; route = row; stamp = 0 })
 
-  begun_is : (dest : ℕ) → begun_updates s dest ≡ told_of dest (choice net dest number heard) (not (same_row (choice net dest number heard) (rows dest)))
+  begun_is : (dest : ℕ) → begun_updates s dest ≡ reported_of dest (choice net dest number heard) (not (same_row (choice net dest number heard) (rows dest)))
   begun_is dest = rw (is.net_is, is.before_is, is.number_is, is.heard_is, is.rows_are) refl
 
   -- one destination more
-  pub begun_next : (dest : ℕ) (row : Option PureRoute) (is_other : Bool) (told more : List (ℕ × PureUpdate)) → row ≡ choice net dest number heard → is_other ≡ not (same_row row (rows dest))
-      → told ≡ all_begun_updates s (range_with_len 0 dest) → more ≡ told ++ told_of dest row is_other → more ≡ all_begun_updates s (range_with_len 0 (dest + 1))
-  begun_next dest row is_other told more chosen other so next =
+  pub begun_next : (dest : ℕ) (row : Option PureRoute) (is_other : Bool) (reported more : List (ℕ × PureUpdate)) → row ≡ choice net dest number heard → is_other ≡ not (same_row row (rows dest))
+      → reported ≡ all_begun_updates s (range_with_len 0 dest) → more ≡ reported ++ reported_of dest row is_other → more ≡ all_begun_updates s (range_with_len 0 (dest + 1))
+  begun_next dest row is_other reported more chosen other so next =
       let place : 0 + dest ≡ dest = omega arith in
       let last : suc dest ≡ dest + 1 = omega arith in
-      next ∙ ap (λ z. z ++ told_of dest row is_other) so
+      next ∙ ap (λ z. z ++ reported_of dest row is_other) so
       ∙ ap (λ z. all_begun_updates s (range_with_len 0 dest) ++ z) (rw (other, chosen) refl ∙ sym (begun_is dest) ∙ sym (begun_one s dest))
       ∙ sym (begun_append s (range_with_len 0 dest) (dest ∷ []))
       ∙ ap (λ z. all_begun_updates s (range_with_len 0 dest ++ z ∷ [])) (sym place)

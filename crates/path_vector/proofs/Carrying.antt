@@ -18,7 +18,7 @@ use Rattle.path_vector.specs.Columns.{HasEntries}
 use Rattle.path_vector.specs.Choosing.{IsArcThere, arc_is_found, arc_stands, found_there}
 use Rattle.path_vector.specs.Delivering.{same_arcs}
 use Rattle.path_vector.specs.Items.{IsItem, item_at, item_passed, item_there, none_found, of_all}
-use Rattle.path_vector.specs.Telling.{id_is_place}
+use Rattle.path_vector.specs.Reporting.{id_is_place}
 use Rattle.path_vector.specs.Known.{entry_of, heard_by, known_route, IsNeighbour, AreNeighbours, Listened}
 use Rattle.path_vector.specs.Node.{heard_before, may_be_of, same_arc}
 use Rattle.path_vector.proofs.Choices.{as_many, ids_from_apart, neighbour_at, neighbour_found, tail_is, take_next, take_whole}

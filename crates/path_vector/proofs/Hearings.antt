@@ -12,7 +12,7 @@ use Rattle.path_vector.specs.Known.{entry_of, known_route, heard_by, IsNeighbour
 use Rattle.path_vector.specs.Node.{may_be_of}
 use Rattle.std.proofs.lemmas.Option.{slice_get_within}
 use Rattle.path_vector.specs.Items.{of_all, item_at, item_there}
-use Rattle.path_vector.specs.Telling.{id_is_place}
+use Rattle.path_vector.specs.Reporting.{id_is_place}
 use Rattle.path_vector.proofs.Choices.{as_many, neighbour_at, neighbour_found, ids_from_apart}
 
 pub set_length : {X : Type 0} (xs : List X) (i : ℕ) (y : X) → length (set xs i y) ≡ length xs

@@ -14,4 +14,4 @@ pub mod Rechoosings
 pub mod Settling
 pub mod Silence
 pub mod Stores
-pub mod Tellings
+pub mod Reportings

@@ -57,7 +57,7 @@ pub record IsMoved {L S : Type 0} (n m : Listened L S) (dests place at done : �
   pub there : slice_get os at ≡ Some left
   pub left_count : length left.heard ≡ dests
   pub left_is : (k : ℕ) → done ≤ k → entry_of left.heard k ≡ entry_of m.heard k
-  pub behind : (k : ℕ) → at < k → slice_get os k ≡ slice_get others k
+  pub after : (k : ℕ) → at < k → slice_get os k ≡ slice_get others k
   pub many : length os ≡ length others
 
 module _ {L S : Type 0} (n m : Listened L S) (dests place at : ℕ) (old others : List (Listened L S)) (n_there : slice_get old place ≡ Some n) (m_there : slice_get others at ≡ Some m) where
@@ -73,7 +73,7 @@ module _ {L S : Type 0} (n m : Listened L S) (dests place at : ℕ) (old others 
     there = m_there;
     left_count = many;
     left_is = λ k l. refl;
-    behind = λ k l. refl;
+    after = λ k l. refl;
     many = refl;
   }
 
@@ -119,7 +119,7 @@ module _ {L S : Type 0} (n m : Listened L S) (dests place at : ℕ) (old others 
           there = ap (λ z. slice_get z at) taken.at ∙ get_set os at taken.now (slice_get_within os at is.left is.there);
           left_count = ap length taken.heard ∙ set_length is.left.heard done None ∙ is.left_count;
           left_is = left_next;
-          behind = λ k l. ap (λ z. slice_get z k) taken.at ∙ get_other os at taken.now k l ∙ is.behind k l;
+          after = λ k l. ap (λ z. slice_get z k) taken.at ∙ get_other os at taken.now k l ∙ is.after k l;
           many = ap length taken.at ∙ set_length os at taken.now ∙ is.many;
         }
 

@@ -16,7 +16,7 @@ use Rattle.net_graph.specs.Routes.{PureRoute}
 use Rattle.node_core.specs.Machine.{changed_at}
 use Rattle.path_vector.specs.declared.known.Known.{Known}
 use Rattle.path_vector.specs.Known.{AreNeighbours, entry_of, heard_by, known_route, Listened}
-use Rattle.path_vector.specs.Node.{Begin, PureUpdate, PvState, best_of, carried, choice, heard_before, heard_with, new_node, offers_to, same_row, taken, told_on}
+use Rattle.path_vector.specs.Node.{Begin, PureUpdate, PvState, best_of, carried, choice, heard_before, heard_with, new_node, offers_to, same_row, taken, reported_on}
 use Rattle.path_vector.specs.Nodes.{PureNode, heard_in, heard_lists, row_list, state_of}
 use Rattle.path_vector.specs.State.{IsKept, row_routes}
 use Rattle.path_vector.proofs.Hearings.{entry_set, set_length}
@@ -231,13 +231,13 @@ module _ {L S : Type 0} (value : S → PureValue) where
           ∙ ap (λ s. (taken s a u clock).0) (sym (state_is net before number begun ns rows last))
 
       -- and tells what it tells then
-      pub told_is : (told : List (ℕ × PureUpdate))
-          → told ≡ cond (same_row (choice net u.dest number (heard_by value new)) (row_routes value rows u.dest)) []
-          (told_on (arcs_to net number) (record { dest = u.dest; route = choice net u.dest number (heard_by value new); stamp = clock }))
-          → told ≡ (taken (state_of (node_with net before number begun ns rows last)) a u clock).1
-      told_is told e =
-          subst (λ h. told ≡ cond (same_row (choice net u.dest number h) (row_routes value rows u.dest)) []
-          (told_on (arcs_to net number) (record { dest = u.dest; route = choice net u.dest number h; stamp = clock }))) heard e
+      pub reported_is : (reported : List (ℕ × PureUpdate))
+          → reported ≡ cond (same_row (choice net u.dest number (heard_by value new)) (row_routes value rows u.dest)) []
+          (reported_on (arcs_to net number) (record { dest = u.dest; route = choice net u.dest number (heard_by value new); stamp = clock }))
+          → reported ≡ (taken (state_of (node_with net before number begun ns rows last)) a u clock).1
+      reported_is reported e =
+          subst (λ h. reported ≡ cond (same_row (choice net u.dest number h) (row_routes value rows u.dest)) []
+          (reported_on (arcs_to net number) (record { dest = u.dest; route = choice net u.dest number h; stamp = clock }))) heard e
           ∙ ap (λ s. (taken s a u clock).1) (sym (state_is net before number begun ns rows last))
 
 -- what holds, holds after a refusal
@@ -246,9 +246,9 @@ on_refusal P (Ok x) p = tt
 on_refusal P (Err e) p = p
 
 -- of a row that stayed nothing is reported
-pub nothing_told : (row before : Option PureRoute) (all : List (ℕ × PureUpdate)) → row ≡ before → [] ≡ cond (same_row row before) [] all
-nothing_told row before all e = rw (e, same_row_self before) refl
+pub nothing_reported : (row before : Option PureRoute) (all : List (ℕ × PureUpdate)) → row ≡ before → [] ≡ cond (same_row row before) [] all
+nothing_reported row before all e = rw (e, same_row_self before) refl
 
 -- and of another one all is
-pub all_told : (row before : Option PureRoute) (told all : List (ℕ × PureUpdate)) → same_row row before ≡ false → told ≡ all → told ≡ cond (same_row row before) [] all
-all_told row before told all e f = rw e f
+pub all_reported : (row before : Option PureRoute) (reported all : List (ℕ × PureUpdate)) → same_row row before ≡ false → reported ≡ all → reported ≡ cond (same_row row before) [] all
+all_reported row before reported all e f = rw e f

@@ -34,15 +34,15 @@ pub marked_end : (was now : ℕ → Bool) (ns : List ℕ) (x : ℕ) → ((i : �
 marked_end was now ns x e f i = f i ∙ ap (λ b. b || x == i) (e i) ∙ sym (among_end ns x i)
 
 pub distinct_end : (ns : List ℕ) (x : ℕ) → is_among ns x ≡ false → distinct ns ≡ true → distinct (ns ++ x ∷ []) ≡ true
-distinct_end [] x lacks once = refl
-distinct_end (n ∷ ns) x lacks once =
+distinct_end [] x misses once = refl
+distinct_end (n ∷ ns) x misses once =
     let other : (n == x) ≡ false = grind arith in
     let flipped : (x == n) ≡ false = grind (arith, nat_tests) in
-    let lacks_more : is_among ns x ≡ false = grind arith in
+    let misses_more : is_among ns x ≡ false = grind arith in
     let apart : is_among ns n ≡ false = grind arith in
     let once_more : distinct ns ≡ true = grind arith in
     let apart_too : is_among (ns ++ x ∷ []) n ≡ false = among_end ns x n ∙ rw (apart, flipped) refl in
-    rw (apart_too, distinct_end ns x lacks_more once_more) refl
+    rw (apart_too, distinct_end ns x misses_more once_more) refl
 
 -- a number that stood before stands twice
 pub not_distinct : (ns : List ℕ) (x : ℕ) (more : List ℕ) → is_among ns x ≡ true → distinct (ns ++ x ∷ more) ≡ false
@@ -144,9 +144,9 @@ marked_next was now path k node at e f i =
 
 pub once_next : (path : List NodeId) (k : ℕ) (node : NodeId) → slice_get path k ≡ Some node → is_among (numbers (take k path)) node.0 ≡ false → distinct (numbers (take k path)) ≡ true
     → distinct (numbers (take (k + 1) path)) ≡ true
-once_next path k node at lacks once =
+once_next path k node at misses once =
     let next : suc k ≡ k + 1 = omega arith in
-    ap (λ z. distinct (numbers (take z path))) (sym next) ∙ ap distinct (numbers_take path k node at) ∙ distinct_end (numbers (take k path)) node.0 lacks once
+    ap (λ z. distinct (numbers (take z path))) (sym next) ∙ ap distinct (numbers_take path k node at) ∙ distinct_end (numbers (take k path)) node.0 misses once
 
 numbers_split : (path : List NodeId) (k : ℕ) (node : NodeId) → slice_get path k ≡ Some node → (more : List ℕ) × (numbers path ≡ numbers (take k path) ++ node.0 ∷ more)
 numbers_split [] k node e = absurd (cc)

@@ -73,5 +73,5 @@ module _ {L S : Type 0} (stands_for : L → PureLabel → Type 0) (is_sig : S �
     where
       others : (c : ℕ) → (c == a.id) ≡ false → heard_by value ns c dest ≡ heard_by value new c dest
       others c apart =
-          let lacks : (c == b) ≡ false = subst (λ z. (c == z) ≡ false) number apart in
-          sym (ap (λ h. h c dest) heard ∙ rw lacks refl)
+          let misses : (c == b) ≡ false = subst (λ z. (c == z) ≡ false) number apart in
+          sym (ap (λ h. h c dest) heard ∙ rw misses refl)

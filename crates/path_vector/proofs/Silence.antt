@@ -9,7 +9,7 @@ use Rattle.net_graph.specs.Nets.{PureArc, PureNet, IsNet, arcs_from}
 use Rattle.net_graph.specs.Routes.{PureRoute}
 use Rattle.net_graph.specs.Views.{pure_arc}
 use Rattle.net_graph.specs.declared.parts.Arc.{Arc}
-use Rattle.net_graph.specs.declared.limits.TheConstants.{MAX_ARCS, MAX_DESTS_ONE}
+use Rattle.net_graph.specs.declared.limits.TheConstants.{MAX_ARCS, MOST_DESTS}
 use Rattle.path_vector.specs.Columns.{AreSilent, IsSilent}
 use Rattle.path_vector.specs.Known.{entry_of, heard_by, known_route, AreNeighbours, IsNeighbour, Listened}
 use Rattle.path_vector.specs.declared.neighbour.Neighbour.{Neighbour}
@@ -51,13 +51,13 @@ fewer p (x ∷ xs) = by (p x) (fewer p xs)
     by false more = omega arith
 
 -- their entries for all destinations can be counted
-pub store_fits : {L : Type 0} (stands_for : L → PureLabel → Type 0) (net : PureNet) (i dests : ℕ) (ns : List (Neighbour L)) → IsNet net → dests ≤ MAX_DESTS_ONE → AreAt stands_for (arcs_from net i) ns → dests * length ns < 2 ^ 64
+pub store_fits : {L : Type 0} (stands_for : L → PureLabel → Type 0) (net : PureNet) (i dests : ℕ) (ns : List (Neighbour L)) → IsNet net → dests ≤ MOST_DESTS → AreAt stands_for (arcs_from net i) ns → dests * length ns < 2 ^ 64
 store_fits stands_for net i dests ns n few are =
     let arcs : length (arcs_from net i) ≤ length net.arcs = fewer (λ (a : PureArc). a.tail == i) net.arcs in
     let room : length net.arcs ≤ MAX_ARCS = n.arc_room in
     let many = as_many stands_for (arcs_from net i) ns are in
     let least : length ns ≤ MAX_ARCS = omega arith in
-    let most : dests * length ns ≤ MAX_DESTS_ONE * MAX_ARCS = mul-le-mul few least in
+    let most : dests * length ns ≤ MOST_DESTS * MAX_ARCS = mul-le-mul few least in
     omega arith
 
 module _ {L S : Type 0} (stands_for : L → PureLabel → Type 0) (is_sig : S → Type 0) (value : S → PureValue) (net : PureNet) where

@@ -15,10 +15,10 @@ use Rattle.alg_model.specs.Laws.{images_in, images_at_most, at_most_more}
 use Rattle.alg_model.specs.Tests.{is_in, is_in-Decides, is_at_most, is_at_most-Decides}
 use Rattle.net_graph.specs.Nets.{PureArc, PureOrigin, PureNet, IsNet, IsArcOf, IsOriginOf, AreDistinct, joins_same, is_arc_between, is_origin_at, arcs_from, origin_value}
 use Rattle.net_graph.specs.Routes.{PureRoute, Better, compare_routes, is_less, is_better}
-use Rattle.net_graph.specs.Tables.{Told, carrier, is_among, IsOwnOffer, IsOfferBy, Offers, IsChoice}
+use Rattle.net_graph.specs.Tables.{Reported, carrier, is_among, IsOwnOffer, IsOfferBy, Offers, IsChoice}
 use Rattle.path_vector.specs.Node.{PvState, own_offers, offer_by, offers_to, best_of, choice, begins_with, greatest_on, may_be_of}
 use Rattle.path_vector.specs.Coherent.{heard_of}
-use Rattle.path_vector.specs.Telling.{arcs_stand}
+use Rattle.path_vector.specs.Reporting.{arcs_stand}
 use Rattle.path_vector.specs.Items.{IsItem, of_all, found_item, none_found, items_all, all_items, item_split, item_left, item_right, item_passed, item_passes, item_mapped, item_maps, from_not}
 use Rattle.net_graph.specs.RouteOrder.{not_better_trans, better_asymmetric}
 
@@ -93,7 +93,7 @@ none_best c (x ∷ rs) i e r = λ _. by (best_there c x rs i)
   where
     by : (b : PureRoute) × IsBestOf c (x ∷ rs) b → ⊥
     by (b, best) =
-        let lacks = none_found (λ r. list_all (λ s. not (is_better c s r)) (x ∷ rs)) (x ∷ rs) b e best.item in
+        let misses = none_found (λ r. list_all (λ s. not (is_better c s r)) (x ∷ rs)) (x ∷ rs) b e best.item in
         let holds = items_all (λ s. not (is_better c s b)) (x ∷ rs) (λ s j. to_not (is_better c s b) (to_not_less (compare_routes c s b) (best.unbeaten s j))) in
         cc
 
@@ -213,8 +213,8 @@ more_on : (k g : ℕ) → k * (g + 1) + g ≤ suc k * (g + 1)
 more_on k g = grind arith
 
 -- what is reported of its neighbours to a node that heard these routes on its arcs
-abbrev pub told_by : PureNet → ℕ → (ℕ → Option PureRoute) → Told
-told_by net i heard j = option_and_then (λ (a : PureArc). heard a.id) (find (is_arc_between i j) net.arcs)
+abbrev pub reported_by : PureNet → ℕ → (ℕ → Option PureRoute) → Reported
+reported_by net i heard j = option_and_then (λ (a : PureArc). heard a.id) (find (is_arc_between i j) net.arcs)
 
 module _ (net : PureNet) (n : IsNet net) (dest i : ℕ) (heard : ℕ → Option PureRoute) where
   own_item : (r : PureRoute) → IsItem r (own_offers net dest i) → IsOwnOffer net dest i r
@@ -257,21 +257,21 @@ module _ (net : PureNet) (n : IsNet net) (dest i : ℕ) (heard : ℕ → Option 
       item_maps (λ (a : PureArc). option_and_then (offer_by net a) (heard a.id)) (arcs_from net i) o.arc r (item_passes (λ (b : PureArc). b.tail == i) net.arcs o.arc o.item test)
       (rw o.is_heard (offer_from net o.arc o.next r o.made))
 
-  by_arc : (r : PureRoute) → IsArcOffer r → (j : ℕ) × IsOfferBy net (told_by net i heard) i j r
+  by_arc : (r : PureRoute) → IsArcOffer r → (j : ℕ) × IsOfferBy net (reported_by net i heard) i j r
   by_arc r o =
       let there : find (is_arc_between i o.arc.head) net.arcs ≡ Some o.arc = subst (λ z. find (is_arc_between z o.arc.head) net.arcs ≡ Some o.arc) o.tail (arc_is_found net o.arc n o.item) in (
         o.arc.head,
         record {
           next = o.next;
-          is_told = rw there o.is_heard;
+          is_reported = rw there o.is_heard;
           weighs = rw there o.made.weighs;
           loopless = rw o.tail at o.made.loopless;
           path = rw o.tail at o.made.path;
         },
       )
 
-  to_arc : (r : PureRoute) (j : ℕ) → IsOfferBy net (told_by net i heard) i j r → IsArcOffer r
-  to_arc r j o = by (find (is_arc_between i j) net.arcs) refl o.is_told o.weighs
+  to_arc : (r : PureRoute) (j : ℕ) → IsOfferBy net (reported_by net i heard) i j r → IsArcOffer r
+  to_arc r j o = by (find (is_arc_between i j) net.arcs) refl o.is_reported o.weighs
     where
       by : (f : Option PureArc) → find (is_arc_between i j) net.arcs ≡ f → option_and_then (λ (a : PureArc). heard a.id) f ≡ Some o.next
           → option_and_then (λ l. option_and_then (App net.alg.expression l) (Some o.next.value)) (option_map (λ (a : PureArc). a.label) f) ≡ Some r.value → IsArcOffer r
@@ -288,19 +288,19 @@ module _ (net : PureNet) (n : IsNet net) (dest i : ℕ) (heard : ℕ → Option 
           }
 
   -- the list of the offers has the offers
-  pub item_is_offer : (r : PureRoute) → IsItem r (offers_to net dest i heard) → Offers net dest (told_by net i heard) i r
+  pub item_is_offer : (r : PureRoute) → IsItem r (offers_to net dest i heard) → Offers net dest (reported_by net i heard) i r
   item_is_offer r e = by (item_split (own_offers net dest i) (filter_map (λ (a : PureArc). option_and_then (offer_by net a) (heard a.id)) (arcs_from net i)) r e)
     where
-      by : IsItem r (own_offers net dest i) ⊎ IsItem r (filter_map (λ (a : PureArc). option_and_then (offer_by net a) (heard a.id)) (arcs_from net i)) → Offers net dest (told_by net i heard) i r
+      by : IsItem r (own_offers net dest i) ⊎ IsItem r (filter_map (λ (a : PureArc). option_and_then (offer_by net a) (heard a.id)) (arcs_from net i)) → Offers net dest (reported_by net i heard) i r
       by (inl own) = inl (own_item r own)
       by (inr it) = inr (by_arc r (arc_item r it))
 
-  pub offer_is_item : (r : PureRoute) → Offers net dest (told_by net i heard) i r → IsItem r (offers_to net dest i heard)
+  pub offer_is_item : (r : PureRoute) → Offers net dest (reported_by net i heard) i r → IsItem r (offers_to net dest i heard)
   offer_is_item r (inl own) = item_left (own_offers net dest i) (filter_map (λ (a : PureArc). option_and_then (offer_by net a) (heard a.id)) (arcs_from net i)) r (item_own r own)
   offer_is_item r (inr (j, o)) = item_right (own_offers net dest i) (filter_map (λ (a : PureArc). option_and_then (offer_by net a) (heard a.id)) (arcs_from net i)) r (item_arc r (to_arc r j o))
 
   pub offer_in : ((a : PureArc) (r : PureRoute) → IsItem a net.arcs → a.tail ≡ i → heard a.id ≡ Some r → In (carrier net) r.value)
-      → (r : PureRoute) → Offers net dest (told_by net i heard) i r → In (carrier net) r.value
+      → (r : PureRoute) → Offers net dest (reported_by net i heard) i r → In (carrier net) r.value
   offer_in h r (inl (value, path)) = (own_origin net dest i r.value n value).2
   offer_in h r (inr (j, o)) =
       let a = to_arc r j o in
@@ -309,10 +309,10 @@ module _ (net : PureNet) (n : IsNet net) (dest i : ℕ) (heard : ℕ → Option 
 
   -- the choice is the offer that no other is better than
   pub choice_is : ((a : PureArc) (r : PureRoute) → IsItem a net.arcs → a.tail ≡ i → heard a.id ≡ Some r → In (carrier net) r.value)
-      → IsChoice net dest (told_by net i heard) i (best_of (carrier net) (offers_to net dest i heard))
+      → IsChoice net dest (reported_by net i heard) i (best_of (carrier net) (offers_to net dest i heard))
   choice_is h = by (best_of (carrier net) (offers_to net dest i heard)) refl
     where
-      by : (o : Option PureRoute) → best_of (carrier net) (offers_to net dest i heard) ≡ o → IsChoice net dest (told_by net i heard) i o
+      by : (o : Option PureRoute) → best_of (carrier net) (offers_to net dest i heard) ≡ o → IsChoice net dest (reported_by net i heard) i o
       by (Some r) e =
           let best = best_is (carrier net) (offers_to net dest i heard) r e in
           (item_is_offer r best.item, λ s o. best.unbeaten s (offer_is_item s o))
@@ -320,7 +320,7 @@ module _ (net : PureNet) (n : IsNet net) (dest i : ℕ) (heard : ℕ → Option 
 
   -- where what was heard may be the speakers', an offer may be the node's
   pub offer_may_be : ((a : PureArc) (r : PureRoute) → IsItem a net.arcs → a.tail ≡ i → heard a.id ≡ Some r → (dest < length net.dests) × (may_be_of net a.head r ≡ true))
-      → (r : PureRoute) → Offers net dest (told_by net i heard) i r → (dest < length net.dests) × (may_be_of net i r ≡ true)
+      → (r : PureRoute) → Offers net dest (reported_by net i heard) i r → (dest < length net.dests) × (may_be_of net i r ≡ true)
   offer_may_be h r (inl (value, path)) =
       let own = own_origin net dest i r.value n value in
       let itself : (i == i) ≡ true = grind (arith, nat_tests) in
@@ -342,7 +342,7 @@ module _ (net : PureNet) (n : IsNet net) (dest i : ℕ) (heard : ℕ → Option 
       let known = h a.arc a.next a.item a.tail a.is_heard in
       let next = may_be_parts net a.arc.head a.next known.1 in
       let path : r.path ≡ i ∷ a.next.path = rw a.tail at a.made.path in
-      let lacks : is_among a.next.path i ≡ false = rw a.tail at a.made.loopless in
+      let misses : is_among a.next.path i ≡ false = rw a.tail at a.made.loopless in
       let itself : (i == i) ≡ true = grind (arith, nat_tests) in
       let below : nat_lt i (length net.nodes) ≡ true = let b = is.tail_in in let t = a.tail in grind (arith, nat_tests) in
       let g = greatest_number net.alg.edition in
@@ -352,7 +352,7 @@ module _ (net : PureNet) (n : IsNet net) (dest i : ℕ) (heard : ℕ → Option 
         may_be_from net i r (record {
           value_in = images_in net.alg.expression a.arc.label a.next.value r.value n.is_alg.formed is.label_in next.value_in a.made.weighs;
           begins = rw path itself;
-          apart = rw path (rw lacks next.apart);
+          apart = rw path (rw misses next.apart);
           inside = rw path (rw below next.inside);
           bound = rw path (at_most_more (k * (g + 1) + g) (suc k * (g + 1)) r.value (more_on k g) bound);
         }),

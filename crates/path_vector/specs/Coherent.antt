@@ -3,12 +3,12 @@ use Rattle.std.specs.Prelude.{◌≡◌, ℕ, ◌+◌, ◌<◌, ◌==◌, true, 
 use Rattle.std.specs.List.{AllByRecursion}
 use Rattle.net_graph.specs.Nets.{PureArc, PureNet, is_arc_between}
 use Rattle.net_graph.specs.Routes.{PureRoute}
-use Rattle.net_graph.specs.Tables.{PureRow, Told, IsChoice}
+use Rattle.net_graph.specs.Tables.{PureRow, Reported, IsChoice}
 use Rattle.node_core.specs.Machine.{Machine, Deliver}
 use Rattle.path_vector.specs.Node.{PvState, PureUpdate, fits, spoke_on, may_be_of, path_vector}
 
 -- what a node heard of each neighbour for a destination
-abbrev pub heard_of : PvState → ℕ → Told
+abbrev pub heard_of : PvState → ℕ → Reported
 heard_of s dest j = option_and_then (λ (a : PureArc). s.heard a.id dest) (find (is_arc_between s.number j) s.net.arcs)
 
 -- the last that a list of updates says of a destination; what was heard, if it says nothing
@@ -34,7 +34,7 @@ pub record IsCoherent (net : PureNet) (c : Machine PvState PureUpdate) : Type 0 
       → (dest < length net.dests) × (may_be_of net i r ≡ true)
   pub chosen : (i dest : ℕ) (s : PvState) → c.node i ≡ Some s → dest < length net.dests
       → IsChoice net dest (heard_of s dest) i (s.rows dest)
-  pub told : (a : PureArc) (s t : PvState) (dest : ℕ) → slice_get net.arcs a.id ≡ Some a
+  pub reported : (a : PureArc) (s t : PvState) (dest : ℕ) → slice_get net.arcs a.id ≡ Some a
       → c.node a.tail ≡ Some s → c.node a.head ≡ Some t → last_said dest (s.heard a.id dest) (c.link a.id) ≡ t.rows dest
 
 -- the row of each node for a destination, as a table

@@ -12,11 +12,11 @@ use Rattle.net_graph.specs.Tables.{carrier, IsChoice}
 use Rattle.node_core.specs.Kinds.{on_arc}
 use Rattle.node_core.specs.Machine.{Machine, changed_at, clock_after, stepped, taken_by, Deliver, deliver_at, replay_from}
 use Rattle.node_core.specs.MachineLaws.{all_join}
-use Rattle.path_vector.specs.Node.{PvState, PureUpdate, same_row, offers_to, best_of, choice, may_be_of, fits, told_on, heard_with, taken, path_vector}
+use Rattle.path_vector.specs.Node.{PvState, PureUpdate, same_row, offers_to, best_of, choice, may_be_of, fits, reported_on, heard_with, taken, path_vector}
 use Rattle.path_vector.specs.Coherent.{heard_of, last_said, IsNode, IsCoherent, deliver_along}
-use Rattle.path_vector.specs.Telling.{id_is_place, told_once}
+use Rattle.path_vector.specs.Reporting.{id_is_place, reported_once}
 use Rattle.path_vector.specs.Items.{IsItem, item_at, unfiltered}
-use Rattle.path_vector.specs.Choosing.{arc_is_in, told_by, arc_stands, may_be_parts, choice_is, choice_may_be}
+use Rattle.path_vector.specs.Choosing.{arc_is_in, reported_by, arc_stands, may_be_parts, choice_is, choice_may_be}
 use Rattle.path_vector.specs.Words.{same_row_is, fits_on, fits_is, fits_parts, fits_from, heard_of_is, choice_moves, last_said_append}
 
 and_true : (b : Bool) → (b && true) ≡ b
@@ -49,8 +49,8 @@ pub record IsTaken (net : PureNet) (x : PureArc) (s t : PvState) (u : PureUpdate
   pub puts : (a : PureArc) → slice_get net.arcs a.id ≡ Some a
       → on_arc a.id out ≡ cond (a.head == x.tail) (cond (same_row row (s.rows u.dest)) [] (record { dest = u.dest; route = row; stamp = clock } ∷ [])) []
 
-told_out : (net : PureNet) (i : ℕ) (u : PureUpdate) (a : PureArc) → IsNet net → slice_get net.arcs a.id ≡ Some a → on_arc a.id (told_on (arcs_to net i) u) ≡ cond (a.head == i) (u ∷ []) []
-told_out net i u a n e = rw (unfiltered (arcs_to net i), and_true (a.head == i)) at (told_once net i (λ _. true) u a n e)
+reported_out : (net : PureNet) (i : ℕ) (u : PureUpdate) (a : PureArc) → IsNet net → slice_get net.arcs a.id ≡ Some a → on_arc a.id (reported_on (arcs_to net i) u) ≡ cond (a.head == i) (u ∷ []) []
+reported_out net i u a n e = rw (unfiltered (arcs_to net i), and_true (a.head == i)) at (reported_once net i (λ _. true) u a n e)
 
 pub taken_is : (net : PureNet) (x : PureArc) (s : PvState) (u : PureUpdate) (clock : ℕ) → IsNet net → s.net ≡ net → s.number ≡ x.tail → s.is_begun ≡ true
     → IsTaken net x s (taken s x.id u clock).0 u clock (taken s x.id u clock).1 (choice s.net u.dest s.number (heard_with s.heard x.id u))
@@ -75,12 +75,12 @@ taken_is net x s u clock n e f g = record {
         new : PureUpdate
         new = record { dest = u.dest; route = choice s.net u.dest s.number (heard_with s.heard x.id u); stamp = clock }
 
-        by : (b : Bool) → on_arc a.id (cond b [] (told_on (arcs_to s.net s.number) (record { dest = u.dest; route = choice s.net u.dest s.number (heard_with s.heard x.id u); stamp = clock })))
+        by : (b : Bool) → on_arc a.id (cond b [] (reported_on (arcs_to s.net s.number) (record { dest = u.dest; route = choice s.net u.dest s.number (heard_with s.heard x.id u); stamp = clock })))
             ≡ cond (a.head == x.tail) (cond b [] (record { dest = u.dest; route = choice s.net u.dest s.number (heard_with s.heard x.id u); stamp = clock } ∷ [])) []
         by true = nothing (a.head == x.tail)
-        by false = subst (λ m. (j : ℕ) → j ≡ x.tail → on_arc a.id (told_on (arcs_to m j) (record { dest = u.dest; route = choice s.net u.dest s.number (heard_with s.heard x.id u); stamp = clock }))
+        by false = subst (λ m. (j : ℕ) → j ≡ x.tail → on_arc a.id (reported_on (arcs_to m j) (record { dest = u.dest; route = choice s.net u.dest s.number (heard_with s.heard x.id u); stamp = clock }))
             ≡ cond (a.head == x.tail) (record { dest = u.dest; route = choice s.net u.dest s.number (heard_with s.heard x.id u); stamp = clock } ∷ []) []) (sym e)
-            (λ j h. rw h (told_out net x.tail (record { dest = u.dest; route = choice s.net u.dest s.number (heard_with s.heard x.id u); stamp = clock }) a n stands)) s.number f
+            (λ j h. rw h (reported_out net x.tail (record { dest = u.dest; route = choice s.net u.dest s.number (heard_with s.heard x.id u); stamp = clock }) a n stands)) s.number f
 
 -- the machine after node x.tail, which was s and is t, took u
 abbrev pub after_taken : Machine PvState PureUpdate → PureArc → PvState → ℕ → List (ℕ × PureUpdate) → List PureUpdate → Machine PvState PureUpdate
@@ -158,17 +158,17 @@ module _ (net : PureNet) (n : IsNet net) (c : Machine PvState PureUpdate) (k : I
     other_heard : (b dest : ℕ) → (dest == u.dest) ≡ false → heard_with s.heard x.id u b dest ≡ s.heard b dest
     other_heard b dest e = rw (and_right (b == x.id) (dest == u.dest) e) refl
 
-    told_new : (dest j : ℕ) → told_by net x.tail (λ b. heard_with s.heard x.id u b dest) j ≡ heard_of t dest j
-    told_new dest j = by (find (is_arc_between x.tail j) net.arcs) ∙ sym (heard_of_is net t x.tail dest j is.net_is is.number_is)
+    reported_new : (dest j : ℕ) → reported_by net x.tail (λ b. heard_with s.heard x.id u b dest) j ≡ heard_of t dest j
+    reported_new dest j = by (find (is_arc_between x.tail j) net.arcs) ∙ sym (heard_of_is net t x.tail dest j is.net_is is.number_is)
       where
         by : (o : Option PureArc) → option_and_then (λ (a : PureArc). heard_with s.heard x.id u a.id dest) o ≡ option_and_then (λ (a : PureArc). t.heard a.id dest) o
         by None = refl
         by (Some a) = sym (is.heard a.id dest)
 
-    told_old : (dest j : ℕ) → (dest == u.dest) ≡ false → heard_of s dest j ≡ heard_of t dest j
-    told_old dest j e =
+    reported_old : (dest j : ℕ) → (dest == u.dest) ≡ false → heard_of s dest j ≡ heard_of t dest j
+    reported_old dest j e =
         let old = node_is net c k x.tail s node in
-        heard_of_is net s x.tail dest j old.0 old.1 ∙ (by (find (is_arc_between x.tail j) net.arcs) ∙ told_new dest j)
+        heard_of_is net s x.tail dest j old.0 old.1 ∙ (by (find (is_arc_between x.tail j) net.arcs) ∙ reported_new dest j)
       where
         by : (o : Option PureArc) → option_and_then (λ (a : PureArc). s.heard a.id dest) o ≡ option_and_then (λ (a : PureArc). heard_with s.heard x.id u a.id dest) o
         by None = refl
@@ -180,12 +180,12 @@ module _ (net : PureNet) (n : IsNet net) (c : Machine PvState PureUpdate) (k : I
         by : (b : Bool) → (dest == u.dest) ≡ b → IsChoice net dest (heard_of t dest) x.tail (cond b row (s.rows dest))
         by true f =
             let d : dest ≡ u.dest = eqb-true dest u.dest f in
-            let here : IsChoice net u.dest (told_by net x.tail (λ b. heard_with s.heard x.id u b u.dest)) x.tail row =
-            subst (λ o. IsChoice net u.dest (told_by net x.tail (λ b. heard_with s.heard x.id u b u.dest)) x.tail o) (sym is.row_is)
+            let here : IsChoice net u.dest (reported_by net x.tail (λ b. heard_with s.heard x.id u b u.dest)) x.tail row =
+            subst (λ o. IsChoice net u.dest (reported_by net x.tail (λ b. heard_with s.heard x.id u b u.dest)) x.tail o) (sym is.row_is)
             (choice_is net n u.dest x.tail (λ b. heard_with s.heard x.id u b u.dest) (λ a r item tail e. (may_be_parts net a.head r (item_known u.dest a r item tail e).1).value_in)) in
             subst (λ z. IsChoice net z (heard_of t z) x.tail row) (sym d)
-            (choice_moves net u.dest x.tail (told_by net x.tail (λ b. heard_with s.heard x.id u b u.dest)) (heard_of t u.dest) (λ j a e. told_new u.dest j) row here)
-        by false f = choice_moves net dest x.tail (heard_of s dest) (heard_of t dest) (λ j a e. told_old dest j f) (s.rows dest) (k.chosen x.tail dest s node below)
+            (choice_moves net u.dest x.tail (reported_by net x.tail (λ b. heard_with s.heard x.id u b u.dest)) (heard_of t u.dest) (λ j a e. reported_new u.dest j) row here)
+        by false f = choice_moves net dest x.tail (heard_of s dest) (heard_of t dest) (λ j a e. reported_old dest j f) (s.rows dest) (k.chosen x.tail dest s node below)
 
     chosen_after : (j dest : ℕ) (q : PvState) → after.node j ≡ Some q → dest < length net.dests → IsChoice net dest (heard_of q dest) j (q.rows dest)
     chosen_after j dest q e below = at_after (λ j z. IsChoice net dest (heard_of z dest) j (z.rows dest)) (chosen_here dest below) (λ j z ne old. k.chosen j dest z old below) j q e
@@ -290,14 +290,14 @@ module _ (net : PureNet) (n : IsNet net) (c : Machine PvState PureUpdate) (k : I
             let test : (a.head == x.tail) ≡ false = rw (← head) at ne in
             rw (is.puts a at, test, same) refl
 
-    told_after : (a : PureArc) (p q : PvState) (dest : ℕ) → slice_get net.arcs a.id ≡ Some a → after.node a.tail ≡ Some p → after.node a.head ≡ Some q
+    reported_after : (a : PureArc) (p q : PvState) (dest : ℕ) → slice_get net.arcs a.id ≡ Some a → after.node a.tail ≡ Some p → after.node a.head ≡ Some q
         → last_said dest (p.heard a.id dest) (after.link a.id) ≡ q.rows dest
-    told_after a p q dest at e f =
+    reported_after a p q dest at e f =
         let arc = arc_is_in net a n (item_at net.arcs a.id a at) in
         let tail = k.nodes a.tail arc.tail_in in
         let head = k.nodes a.head arc.head_in in
         last_said_append dest (p.heard a.id dest) (changed_at c.link x.id rest a.id) (on_arc a.id out)
-        ∙ (ap (λ h. last_said dest h (on_arc a.id out)) (same_said a dest tail.0 p at tail.1.0 e ∙ k.told a tail.0 head.0 dest at tail.1.0 head.1.0)
+        ∙ (ap (λ h. last_said dest h (on_arc a.id out)) (same_said a dest tail.0 p at tail.1.0 e ∙ k.reported a tail.0 head.0 dest at tail.1.0 head.1.0)
         ∙ new_said a dest head.0 q at head.1.0 f)
 
     pub taken_keeps : IsCoherent net after
@@ -308,7 +308,7 @@ module _ (net : PureNet) (n : IsNet net) (c : Machine PvState PureUpdate) (k : I
       known = known_after;
       routes = routes_after;
       chosen = chosen_after;
-      told = told_after;
+      reported = reported_after;
     }
 
 step_keeps : (net : PureNet) → IsNet net → (c : Machine PvState PureUpdate) → IsCoherent net c → (x : PureArc) (s : PvState) (u : PureUpdate) (rest : List PureUpdate)

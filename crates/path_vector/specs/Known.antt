@@ -19,15 +19,15 @@ module _ {S : Type 0} (value : S → PureValue) where
 
   -- a route of a node by its value and what lies after the node on its path
   abbrev pub route_through : ℕ → S → List NodeId → PureRoute
-  route_through node sig behind = record { value = value sig; path = node ∷ numbers behind }
+  route_through node sig after = record { value = value sig; path = node ∷ numbers after }
 
   -- what an offer to a node stands for
   abbrev pub offered_route : ℕ → Offer S → PureRoute
-  offered_route node o = route_through node o.sig o.behind.now
+  offered_route node o = route_through node o.sig o.after.now
 
 -- the offer whose value stands in a place, by what lies after the node on its path
 abbrev pub placed : {S : Type 0} → Option (Bor (List NodeId)) → Option S → Option (Offer S)
-placed behind place = option_and_then (λ b. option_map (λ s. record { sig = s; behind = b }) place) behind
+placed after place = option_and_then (λ b. option_map (λ s. record { sig = s; after = b }) place) after
 
 -- the value in a place, if it was put there
 abbrev pub standing : {S : Type 0} → Bool → Option S → Option S

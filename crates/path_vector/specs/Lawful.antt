@@ -6,38 +6,38 @@ use Rattle.std.proofs.lemmas.List.FromFn.{length-range_with_len}
 use Rattle.net_graph.specs.Nets.{IsNet, arcs_to}
 use Rattle.net_graph.specs.NetLaws.{few_dests}
 use Rattle.net_graph.specs.Routes.{PureRoute}
-use Rattle.node_core.specs.declared.node.TheConstants.{MAX_BEGUN}
+use Rattle.node_core.specs.Numbers.{max_begun}
 use Rattle.node_core.specs.Machine.{changed_at}
 use Rattle.node_core.specs.Kinds.{IsLawful, IsSentBy, IsLater, on_arc, speaker}
 use Rattle.node_core.specs.MachineLaws.{all_join, on_arc_join}
-use Rattle.path_vector.specs.Node.{PvState, PureUpdate, told_on, fits, choice, same_row, is_news, begun_updates, all_begun_updates, Begin, heard_with, taken, Step, path_vector}
+use Rattle.path_vector.specs.Node.{PvState, PureUpdate, reported_on, fits, choice, same_row, is_news, begun_updates, all_begun_updates, Begin, heard_with, taken, Step, path_vector}
 use Rattle.path_vector.specs.Items.{unfiltered}
-use Rattle.path_vector.specs.Telling.{told_at_most_once, told_by_speaker, told_all}
+use Rattle.path_vector.specs.Reporting.{reported_at_most_once, reported_by_speaker, reported_all}
 
 begun_stamped : (s : PvState) (dests : List ℕ) → AllByRecursion (λ (q : ℕ × PureUpdate). q.1.stamp ≡ 0) (all_begun_updates s dests)
 begun_stamped s [] = tt
 begun_stamped s (dest ∷ dests) =
     let row = choice s.net dest s.number s.heard in
     all_join (λ (q : ℕ × PureUpdate). q.1.stamp ≡ 0) (begun_updates s dest) (all_begun_updates s dests)
-    (told_all (λ u. u.stamp ≡ 0) (filter (is_news s row dest) (arcs_to s.net s.number)) (record { dest = dest; route = row; stamp = 0 }) refl) (begun_stamped s dests)
+    (reported_all (λ u. u.stamp ≡ 0) (filter (is_news s row dest) (arcs_to s.net s.number)) (record { dest = dest; route = row; stamp = 0 }) refl) (begun_stamped s dests)
 
 begun_spoken : (s : PvState) (dests : List ℕ) → IsNet s.net → AllByRecursion (λ (q : ℕ × PureUpdate). speaker s.net q.0 ≡ Some s.number) (all_begun_updates s dests)
 begun_spoken s [] n = tt
 begun_spoken s (dest ∷ dests) n =
     let row = choice s.net dest s.number s.heard in
     all_join (λ (q : ℕ × PureUpdate). speaker s.net q.0 ≡ Some s.number) (begun_updates s dest) (all_begun_updates s dests)
-    (told_by_speaker s.net s.number (is_news s row dest) (record { dest = dest; route = row; stamp = 0 }) n) (begun_spoken s dests n)
+    (reported_by_speaker s.net s.number (is_news s row dest) (record { dest = dest; route = row; stamp = 0 }) n) (begun_spoken s dests n)
 
 begun_count : (s : PvState) (a : ℕ) (dests : List ℕ) → IsNet s.net → length (on_arc a (all_begun_updates s dests)) ≤ length dests
 begun_count s a [] n = omega arith
 begun_count s a (dest ∷ dests) n =
     let row = choice s.net dest s.number s.heard in
-    let one = told_at_most_once s.net s.number a (is_news s row dest) (record { dest = dest; route = row; stamp = 0 }) n in
+    let one = reported_at_most_once s.net s.number a (is_news s row dest) (record { dest = dest; route = row; stamp = 0 }) n in
     let more = begun_count s a dests n in
     let sum = length-append (on_arc a (begun_updates s dest)) (on_arc a (all_begun_updates s dests)) in
     rw (on_arc_join a (begun_updates s dest) (all_begun_updates s dests)) (omega (arith, one, more, sum))
 
-begun_few : (s : PvState) (a : ℕ) → IsNet s.net → length (on_arc a (Begin s).1) ≤ MAX_BEGUN
+begun_few : (s : PvState) (a : ℕ) → IsNet s.net → length (on_arc a (Begin s).1) ≤ max_begun
 begun_few s a n =
     let count = begun_count s a (range_with_len 0 (length s.net.dests)) n in
     let dests = length-range_with_len 0 (length s.net.dests) in
@@ -62,20 +62,20 @@ module _ (s : PvState) (a : ℕ) (u : PureUpdate) (t : ℕ) where
   step_sent : IsSentBy path_vector s t (Step s a u t).1
   step_sent = by (fits s a u) (same_row row (s.rows u.dest))
     where
-      by : (b c : Bool) → IsSentBy path_vector s t (cond {A = PvState × List (ℕ × PureUpdate)} b (record s { heard = heard_with s.heard a u; rows = changed_at s.rows u.dest row; last = t }, cond c [] (told_on (arcs_to s.net s.number) new)) (record s { last = t }, [])).1
+      by : (b c : Bool) → IsSentBy path_vector s t (cond {A = PvState × List (ℕ × PureUpdate)} b (record s { heard = heard_with s.heard a u; rows = changed_at s.rows u.dest row; last = t }, cond c [] (reported_on (arcs_to s.net s.number) new)) (record s { last = t }, [])).1
       by true true = record { stamped = tt; spoken = λ n. tt }
       by true false = record {
-        stamped = told_all (λ v. v.stamp ≡ t) (arcs_to s.net s.number) new refl;
-        spoken = λ n. rw (unfiltered (arcs_to s.net s.number)) at (told_by_speaker s.net s.number (λ _. true) new n);
+        stamped = reported_all (λ v. v.stamp ≡ t) (arcs_to s.net s.number) new refl;
+        spoken = λ n. rw (unfiltered (arcs_to s.net s.number)) at (reported_by_speaker s.net s.number (λ _. true) new n);
       }
       by false c = record { stamped = tt; spoken = λ n. tt }
 
   step_few : (b : ℕ) → IsNet s.net → length (on_arc b (Step s a u t).1) ≤ 1
   step_few b n = by (fits s a u) (same_row row (s.rows u.dest))
     where
-      by : (f c : Bool) → length (on_arc b (cond {A = PvState × List (ℕ × PureUpdate)} f (record s { heard = heard_with s.heard a u; rows = changed_at s.rows u.dest row; last = t }, cond c [] (told_on (arcs_to s.net s.number) new)) (record s { last = t }, [])).1) ≤ 1
+      by : (f c : Bool) → length (on_arc b (cond {A = PvState × List (ℕ × PureUpdate)} f (record s { heard = heard_with s.heard a u; rows = changed_at s.rows u.dest row; last = t }, cond c [] (reported_on (arcs_to s.net s.number) new)) (record s { last = t }, [])).1) ≤ 1
       by true true = omega arith
-      by true false = rw (unfiltered (arcs_to s.net s.number)) at (told_at_most_once s.net s.number b (λ _. true) new n)
+      by true false = rw (unfiltered (arcs_to s.net s.number)) at (reported_at_most_once s.net s.number b (λ _. true) new n)
       by false c = omega arith
 
 -- what holds of every kind of node holds of path-vector nodes

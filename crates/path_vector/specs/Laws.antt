@@ -1,7 +1,7 @@
 -- What holds of path-vector machines, in one place for the proofs of other crates.
 
 -- runs are coherent, and quiet ones stable; carried nodes may begin
-pub use Rattle.path_vector.specs.Runs.{runs_are_coherent, quiet_runs_are_stable, carried_nodes_may_begin}
+pub use Rattle.path_vector.specs.Runs.{runs_are_coherent, quiet_runs_are_stable, deliveries_are_coherent, drained_machines_are_stable, carried_nodes_may_begin}
 -- the kind is lawful
 pub use Rattle.path_vector.specs.Lawful.{path_vector_is_lawful}
 -- a choice is the offer that no other is better than, and may be the node's

@@ -17,6 +17,6 @@ pub mod Runs
 pub mod Settling
 pub mod Starting
 pub mod State
-pub mod Telling
+pub mod Reporting
 pub mod Updates
 pub mod Words

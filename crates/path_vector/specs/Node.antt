@@ -81,8 +81,8 @@ fits s a u = nat_lt u.dest (length s.net.dests)
     && option_map_or (λ j. option_map_or (may_be_of s.net j) u.route true) (speaker s.net a) false
 
 -- an update to each listener on these arcs
-abbrev pub told_on : List PureArc → PureUpdate → List (ℕ × PureUpdate)
-told_on arcs u = map (λ (a : PureArc). (a.id, u)) arcs
+abbrev pub reported_on : List PureArc → PureUpdate → List (ℕ × PureUpdate)
+reported_on arcs u = map (λ (a : PureArc). (a.id, u)) arcs
 
 -- the node was carried, and spoke on the arc before
 abbrev pub spoke_on : PvState → PureArc → Bool
@@ -96,7 +96,7 @@ is_news s row dest a = cond (spoke_on s a) (not (same_row row (s.rows dest))) (i
 abbrev pub begun_updates : PvState → ℕ → List (ℕ × PureUpdate)
 begun_updates s dest =
     let row = choice s.net dest s.number s.heard in
-    told_on (filter (is_news s row dest) (arcs_to s.net s.number)) (record { dest = dest; route = row; stamp = 0 })
+    reported_on (filter (is_news s row dest) (arcs_to s.net s.number)) (record { dest = dest; route = row; stamp = 0 })
 
 abbrev pub all_begun_updates : PvState → List ℕ → List (ℕ × PureUpdate)
 all_begun_updates s [] = []
@@ -119,7 +119,7 @@ taken s a u clock =
     let heard = heard_with s.heard a u in
     let row = choice s.net u.dest s.number heard in (
       record s { heard = heard; rows = changed_at s.rows u.dest row; last = clock },
-      cond (same_row row (s.rows u.dest)) [] (told_on (arcs_to s.net s.number) (record { dest = u.dest; route = row; stamp = clock })),
+      cond (same_row row (s.rows u.dest)) [] (reported_on (arcs_to s.net s.number) (record { dest = u.dest; route = row; stamp = clock })),
     )
 
 abbrev pub Step : PvState → ℕ → PureUpdate → ℕ → PvState × List (ℕ × PureUpdate)

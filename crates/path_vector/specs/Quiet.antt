@@ -8,12 +8,11 @@ use Rattle.std.proofs.lemmas.Bool.Decides.{nat_tests}
 use Rattle.std.proofs.lemmas.Nat.{mul-le}
 use Rattle.std.proofs.lemmas.List.{length-map}
 use Rattle.std.proofs.lemmas.Map.Steps.{length-le_from_distinct_below}
-use Rattle.alg_model.specs.declared.edition.TheConstants.{MAX_LABEL_NUMBER}
+use Rattle.alg_model.specs.Numbers.{max_label_number}
 use Rattle.alg_model.specs.Bounds.{greatest_number}
 use Rattle.alg_model.specs.Carriers.{distinct}
 use Rattle.alg_model.specs.Laws.{at_most_more, greatest_is_bounded}
-use Rattle.net_graph.specs.declared.limits.TheConstants.{MAX_NODES_TWO}
-use Rattle.net_graph.specs.declared.route.TheConstants.{MAX_ROW_NUMBER}
+use Rattle.net_graph.specs.Limits.{most_nodes, max_row_number}
 use Rattle.net_graph.specs.Nets.{PureArc, PureNet, IsNet, is_arc_between}
 use Rattle.net_graph.specs.NetLaws.{few_nodes, either_false}
 use Rattle.net_graph.specs.Routes.{PureRoute}
@@ -28,19 +27,19 @@ use Rattle.path_vector.specs.Delivering.{node_is}
 
 -- ---- routes that may be a node's are small
 
-lacks : (n : ℕ) (ns : List ℕ) → list_any (λ m. m == n) ns ≡ false → AllByRecursion (λ m. eqb n m ≡ false) ns
-lacks n [] e = tt
-lacks n (k ∷ ns) e =
+misses : (n : ℕ) (ns : List ℕ) → list_any (λ m. m == n) ns ≡ false → AllByRecursion (λ m. eqb n m ≡ false) ns
+misses n [] e = tt
+misses n (k ∷ ns) e =
     let both = either_false (k == n) (list_any (λ m. m == n) ns) e in
     let other : (k == n) ≡ false = both.0 in
-    (grind (arith, nat_tests), lacks n ns both.1)
+    (grind (arith, nat_tests), misses n ns both.1)
 
 apart : (ns : List ℕ) → distinct ns ≡ true → IsDistinct eqb ns
 unfolding IsDistinct
 apart [] e = tt
 apart (n ∷ ns) e =
     let both = and_parts (not (list_any (λ m. m == n) ns)) (distinct ns) e in
-    (lacks n ns (from_not (list_any (λ m. m == n) ns) both.0), apart ns both.1)
+    (misses n ns (from_not (list_any (λ m. m == n) ns) both.0), apart ns both.1)
 
 below : (k : ℕ) (ns : List ℕ) → list_all (λ n. nat_lt n k) ns ≡ true → (q : ℕ) → list_any (eqb q) ns ≡ true → q < k
 below k [] e q f = absurd (cc)
@@ -63,7 +62,7 @@ short_path net j r h = length-le_from_distinct_below r.path (length net.nodes) (
 up_to : (a b c : ℕ) → a ≤ b → b ≤ c → a ≤ c
 up_to a b c l m = omega arith
 
-row_room : MAX_NODES_TWO * (MAX_LABEL_NUMBER + 1) ≤ MAX_ROW_NUMBER
+row_room : most_nodes * (max_label_number + 1) ≤ max_row_number
 row_room = omega arith
 
 -- a route that may be a node's is one of the network's
@@ -73,11 +72,11 @@ is_route net j r n e =
     let short = short_path net j r h in
     let room = n.node_room in
     let few = few_nodes net.alg.edition in
-    let path : length r.path ≤ MAX_NODES_TWO = omega arith in
+    let path : length r.path ≤ most_nodes = omega arith in
     let small = greatest_is_bounded net.alg.edition in
-    let step : greatest_number net.alg.edition + 1 ≤ MAX_LABEL_NUMBER + 1 = omega arith in
-    let bound : greatest_on net r.path ≤ MAX_ROW_NUMBER = up_to (length r.path * (greatest_number net.alg.edition + 1)) (MAX_NODES_TWO * (MAX_LABEL_NUMBER + 1)) MAX_ROW_NUMBER (mul-le (length r.path) (greatest_number net.alg.edition + 1) MAX_NODES_TWO (MAX_LABEL_NUMBER + 1) path step) row_room in
-    record { value_in = h.value_in; bound = at_most_more (greatest_on net r.path) MAX_ROW_NUMBER r.value bound h.bound; path = omega (arith, path) }
+    let step : greatest_number net.alg.edition + 1 ≤ max_label_number + 1 = omega arith in
+    let bound : greatest_on net r.path ≤ max_row_number = up_to (length r.path * (greatest_number net.alg.edition + 1)) (most_nodes * (max_label_number + 1)) max_row_number (mul-le (length r.path) (greatest_number net.alg.edition + 1) most_nodes (max_label_number + 1) path step) row_room in
+    record { value_in = h.value_in; bound = at_most_more (greatest_on net r.path) max_row_number r.value bound h.bound; path = omega (arith, path) }
 
 module _ (net : PureNet) (n : IsNet net) (c : Machine PvState PureUpdate) (k : IsCoherent net c) (dest : ℕ) where
   rows_from : (i : ℕ) (table : List PureRow) → AreRowsOf c dest i table → AreRowsFrom net dest i table
@@ -103,7 +102,7 @@ module _ (net : PureNet) (n : IsNet net) (c : Machine PvState PureUpdate) (k : I
   module _ (drained : Drained c) where
     -- what was heard on an arc is the speaker's row
     pub heard_is_row : (a : PureArc) (s t : PvState) → slice_get net.arcs a.id ≡ Some a → c.node a.tail ≡ Some s → c.node a.head ≡ Some t → s.heard a.id dest ≡ t.rows dest
-    heard_is_row a s t stands e f = ap (last_said dest (s.heard a.id dest)) (sym (drained a.id)) ∙ k.told a s t dest stands e f
+    heard_is_row a s t stands e f = ap (last_said dest (s.heard a.id dest)) (sym (drained a.id)) ∙ k.reported a s t dest stands e f
 
     -- a table of the rows is stable
     pub quiet_is_stable : dest < length net.dests → (table : List PureRow) → AreRowsOf c dest 0 table → length table ≡ length net.nodes → Stable net dest table

@@ -23,12 +23,12 @@ other_dest : (dest d : ℕ) (states : List PvState) → (d == dest) ≡ false �
 other_dest dest d [] e = refl
 other_dest dest d (s ∷ states) e = rw e (other_dest dest d states e)
 
-behind : (dest a n : ℕ) (states : List PvState) → dest < a → rows_at dest (rows_for states (range_with_len a n)) ≡ []
-behind dest a zero states l = refl
-behind dest a (suc n) states l =
+after : (dest a n : ℕ) (states : List PvState) → dest < a → rows_at dest (rows_for states (range_with_len a n)) ≡ []
+after dest a zero states l = refl
+after dest a (suc n) states l =
     let e : (a == dest) ≡ false = grind (arith, nat_tests) in
     filter-append (λ (row : PureRow). row.dest == dest) (dest_rows states a) (rows_for states (range_with_len (a + 1) n))
-    ∙ (ap (λ l. l ++ rows_at dest (rows_for states (range_with_len (a + 1) n))) (other_dest dest a states e) ∙ behind dest (a + 1) n states (omega arith))
+    ∙ (ap (λ l. l ++ rows_at dest (rows_for states (range_with_len (a + 1) n))) (other_dest dest a states e) ∙ after dest (a + 1) n states (omega arith))
 
 at_dest : (dest a n : ℕ) (states : List PvState) → a ≤ dest → dest < a + n → rows_at dest (rows_for states (range_with_len a n)) ≡ dest_rows states dest
 at_dest dest a zero states l m = absurd (omega arith)
@@ -40,7 +40,7 @@ at_dest dest a (suc n) states l m = by (a == dest) refl (λ k. at_dest dest (a +
         let same : a ≡ dest = eqb-true a dest e in
         let below : dest < a + 1 = omega arith in
         filter-append (λ (row : PureRow). row.dest == dest) (dest_rows states a) (rows_for states (range_with_len (a + 1) n))
-        ∙ (ap (λ l. rows_at dest (dest_rows states a) ++ l) (behind dest (a + 1) n states below)
+        ∙ (ap (λ l. rows_at dest (dest_rows states a) ++ l) (after dest (a + 1) n states below)
         ∙ (append-nil (rows_at dest (dest_rows states a)) ∙ (ap (λ d. rows_at dest (dest_rows states d)) same ∙ same_dest dest states)))
     by false e rest =
         let k : a + 1 ≤ dest = grind (arith, nat_tests) in

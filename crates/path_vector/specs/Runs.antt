@@ -5,9 +5,9 @@ use Rattle.net_graph.specs.Nets.{PureNet, IsNet}
 use Rattle.net_graph.specs.Tables.{Stable}
 use Rattle.node_core.specs.Machine.{Machine, Start, Replay, Drained}
 use Rattle.path_vector.specs.Node.{PvState, PureUpdate, carried, dest_rows, path_vector}
-use Rattle.path_vector.specs.Coherent.{IsCoherent, AreNodesOf, MayBegin}
+use Rattle.path_vector.specs.Coherent.{IsCoherent, AreNodesOf, MayBegin, deliver_along}
 use Rattle.path_vector.specs.Starting.{start_is_coherent}
-use Rattle.path_vector.specs.Delivering.{deliveries_keep}
+use Rattle.path_vector.specs.Delivering.{deliveries_keep, deliveries_along_keep}
 use Rattle.path_vector.specs.Quiet.{quiet_rows_are_stable}
 use Rattle.path_vector.specs.Beginning.{carried_may_begin}
 
@@ -20,6 +20,15 @@ runs_are_coherent net nodes journal c n m e = deliveries_keep net journal (Start
 pub quiet_runs_are_stable : (net : PureNet) (nodes states : List PvState) (journal : List Delivery) (c : Machine PvState PureUpdate) (dest : ℕ) → IsNet net → MayBegin net nodes
     → Replay path_vector net nodes journal ≡ Some c → Drained c → AreNodesOf c 0 states → length states ≡ length net.nodes → dest < length net.dests → Stable net dest (dest_rows states dest)
 quiet_runs_are_stable net nodes states journal c dest n m e drained are count within = quiet_rows_are_stable net c dest states n (runs_are_coherent net nodes journal c n m e) drained within are count
+
+-- the same of deliveries by their arcs alone
+pub deliveries_are_coherent : (net : PureNet) (nodes : List PvState) (arcs : List ℕ) (c : Machine PvState PureUpdate) → IsNet net → MayBegin net nodes
+    → deliver_along net (Start path_vector nodes) arcs ≡ Some c → IsCoherent net c
+deliveries_are_coherent net nodes arcs c n m e = deliveries_along_keep net arcs (Start path_vector nodes) c n (start_is_coherent net n nodes m) e
+
+pub drained_machines_are_stable : (net : PureNet) (nodes states : List PvState) (arcs : List ℕ) (c : Machine PvState PureUpdate) (dest : ℕ) → IsNet net → MayBegin net nodes
+    → deliver_along net (Start path_vector nodes) arcs ≡ Some c → Drained c → AreNodesOf c 0 states → length states ≡ length net.nodes → dest < length net.dests → Stable net dest (dest_rows states dest)
+drained_machines_are_stable net nodes states arcs c dest n m e drained are count within = quiet_rows_are_stable net c dest states n (deliveries_are_coherent net nodes arcs c n m e) drained within are count
 
 -- the nodes of a coherent machine in which nothing is on its way may begin on a network that differs in its arcs
 -- alone

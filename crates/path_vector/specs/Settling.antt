@@ -9,7 +9,7 @@ use Rattle.path_vector.specs.Node.{begins_with, choice, offer_by}
 -- the node is the second on the path
 abbrev pub is_next : ℕ → List ℕ → Bool
 is_next j [] = false
-is_next j (i ∷ behind) = begins_with j behind
+is_next j (i ∷ after) = begins_with j after
 
 -- there is a row, and it goes by that neighbour
 abbrev pub goes_by : ℕ → Option PureRoute → Bool

@@ -15,9 +15,9 @@ use Rattle.node_core.specs.Machine.{begun_messages, Start}
 use Rattle.node_core.specs.MachineLaws.{all_join, on_arc_join}
 use Rattle.path_vector.specs.Node.{PvState, PureUpdate, same_row, offers_to, best_of, choice, may_be_of, fits, spoke_on, is_news, begun_updates, all_begun_updates, Begin, path_vector}
 use Rattle.path_vector.specs.Coherent.{heard_of, last_said, IsNode, IsCoherent, MayBegin}
-use Rattle.path_vector.specs.Telling.{told_once}
+use Rattle.path_vector.specs.Reporting.{reported_once}
 use Rattle.path_vector.specs.Items.{IsItem, item_at, item_there}
-use Rattle.path_vector.specs.Choosing.{told_by, arc_is_in, arc_stands, may_be_parts, choice_is, choice_may_be}
+use Rattle.path_vector.specs.Choosing.{reported_by, arc_is_in, arc_stands, may_be_parts, choice_is, choice_may_be}
 use Rattle.path_vector.specs.Words.{same_row_is, fits_on, fits_is, fits_from, heard_of_is, choice_moves}
 
 -- ---- what stands on an arc at the start
@@ -32,7 +32,7 @@ begun_on s a [] n stands head = refl
 begun_on s a (dest ∷ dests) n stands head =
     let row = choice s.net dest s.number s.heard in
     let u : PureUpdate = record { dest = dest; route = row; stamp = 0 } in
-    let one : on_arc a.id (begun_updates s dest) ≡ cond (is_news s row dest a) (u ∷ []) [] = rw head at (told_once s.net s.number (is_news s row dest) u a n stands) in
+    let one : on_arc a.id (begun_updates s dest) ≡ cond (is_news s row dest a) (u ∷ []) [] = rw head at (reported_once s.net s.number (is_news s row dest) u a n stands) in
     on_arc_join a.id (begun_updates s dest) (all_begun_updates s dests)
     ∙ (ap (λ l. l ++ on_arc a.id (all_begun_updates s dests)) one ∙ ap (λ l. cond (is_news s row dest a) (u ∷ []) [] ++ l) (begun_on s a dests n stands head))
 
@@ -41,7 +41,7 @@ begun_elsewhere s a [] n stands head = refl
 begun_elsewhere s a (dest ∷ dests) n stands head =
     let row = choice s.net dest s.number s.heard in
     let u : PureUpdate = record { dest = dest; route = row; stamp = 0 } in
-    let one : on_arc a.id (begun_updates s dest) ≡ [] = rw head at (told_once s.net s.number (is_news s row dest) u a n stands) in
+    let one : on_arc a.id (begun_updates s dest) ≡ [] = rw head at (reported_once s.net s.number (is_news s row dest) u a n stands) in
     on_arc_join a.id (begun_updates s dest) (all_begun_updates s dests)
     ∙ (ap (λ l. l ++ on_arc a.id (all_begun_updates s dests)) one ∙ begun_elsewhere s a dests n stands head)
 
@@ -60,14 +60,14 @@ silent net n a stands s e head =
     begun_elsewhere s a (range_with_len 0 (length s.net.dests)) (subst IsNet (sym e) n) (subst (λ z. slice_get z.arcs a.id ≡ Some a) (sym e) stands) head
 
 -- nodes after the speaker say nothing on its arc
-behind_silent : (net : PureNet) → IsNet net → (a : PureArc) → slice_get net.arcs a.id ≡ Some a → (i : ℕ) (nodes : List PvState) → AreFrom net i nodes → a.head < i → on_arc a.id (begun_messages path_vector nodes) ≡ []
-behind_silent net n a stands i [] are l = refl
-behind_silent net n a stands i (s ∷ nodes) are l =
+after_silent : (net : PureNet) → IsNet net → (a : PureArc) → slice_get net.arcs a.id ≡ Some a → (i : ℕ) (nodes : List PvState) → AreFrom net i nodes → a.head < i → on_arc a.id (begun_messages path_vector nodes) ≡ []
+after_silent net n a stands i [] are l = refl
+after_silent net n a stands i (s ∷ nodes) are l =
     let h = are 0 s refl in
     let number : s.number ≡ i + 0 = h.1 in
     let head : (a.head == s.number) ≡ false = grind (arith, nat_tests) in
     on_arc_join a.id (Begin s).1 (begun_messages path_vector nodes)
-    ∙ (ap (λ m. m ++ on_arc a.id (begun_messages path_vector nodes)) (silent net n a stands s h.0 head) ∙ behind_silent net n a stands (i + 1) nodes (are_more net i s nodes are) (omega arith))
+    ∙ (ap (λ m. m ++ on_arc a.id (begun_messages path_vector nodes)) (silent net n a stands s h.0 head) ∙ after_silent net n a stands (i + 1) nodes (are_more net i s nodes are) (omega arith))
 
 -- what stands on an arc is what its speaker says there
 speaker_says : (net : PureNet) → IsNet net → (a : PureArc) → slice_get net.arcs a.id ≡ Some a → (i k : ℕ) (nodes : List PvState) (t : PvState) → AreFrom net i nodes → slice_get nodes k ≡ Some t → a.head ≡ i + k
@@ -76,7 +76,7 @@ speaker_says net n a stands i k [] t are e h = absurd (cc)
 speaker_says net n a stands i zero (s ∷ nodes) t are e h =
     let same : s ≡ t = cc in
     on_arc_join a.id (Begin s).1 (begun_messages path_vector nodes)
-    ∙ (ap (λ m. on_arc a.id (Begin s).1 ++ m) (behind_silent net n a stands (i + 1) nodes (are_more net i s nodes are) (omega arith))
+    ∙ (ap (λ m. on_arc a.id (Begin s).1 ++ m) (after_silent net n a stands (i + 1) nodes (are_more net i s nodes are) (omega arith))
     ∙ (append-nil (on_arc a.id (Begin s).1) ∙ ap (λ (z : PvState). on_arc a.id (Begin z).1) same))
 speaker_says net n a stands i (suc k) (s ∷ nodes) t are e h =
     let here = are 0 s refl in
@@ -205,7 +205,7 @@ module _ (net : PureNet) (n : IsNet net) (nodes : List PvState) (m : MayBegin ne
   row_chosen i dest s e =
       let f = m.fresh i s e in
       subst (λ o. IsChoice net dest (heard_of s dest) i o) (sym (choice_of i dest s e))
-      (choice_moves net dest i (told_by net i (λ b. s.heard b dest)) (heard_of s dest) (λ j a g. sym (heard_of_is net s i dest j f.0 f.1)) (best_of (carrier net) (offers_to net dest i (λ b. s.heard b dest)))
+      (choice_moves net dest i (reported_by net i (λ b. s.heard b dest)) (heard_of s dest) (λ j a g. sym (heard_of_is net s i dest j f.0 f.1)) (best_of (carrier net) (offers_to net dest i (λ b. s.heard b dest)))
       (choice_is net n dest i (λ b. s.heard b dest) (λ a r item tail h. (may_be_parts net a.head r (item_known i dest s e a r item tail h).1).value_in)))
 
   link_is : (a : PureArc) (t : PvState) → slice_get net.arcs a.id ≡ Some a → slice_get nodes a.head ≡ Some t → on_arc a.id (begun_messages path_vector nodes) ≡ news_on t a (range_with_len 0 (length net.dests))
@@ -261,7 +261,7 @@ module _ (net : PureNet) (n : IsNet net) (nodes : List PvState) (m : MayBegin ne
     known = λ a q dest r stands e h. at_start (λ z. z.heard a.id dest ≡ Some r → (dest < length net.dests) × (may_be_of net a.head r ≡ true)) a.tail (λ s f g. heard_known a s dest r stands f g) q e h;
     routes = λ i dest q r e h. at_start (λ z. z.rows dest ≡ Some r → (dest < length net.dests) × (may_be_of net i r ≡ true)) i (λ s f g. row_may_be i dest s r f g) q e h;
     chosen = λ i dest q e below. at_start (λ z. IsChoice net dest (heard_of z dest) i (z.rows dest)) i (λ s f. row_chosen i dest s f) q e;
-    told = λ a p q dest stands e f.
+    reported = λ a p q dest stands e f.
         at_start (λ z. last_said dest (z.heard a.id dest) (on_arc a.id (begun_messages path_vector nodes)) ≡ q.rows dest) a.tail
         (λ s g. at_start (λ z. last_said dest (s.heard a.id dest) (on_arc a.id (begun_messages path_vector nodes)) ≡ z.rows dest) a.head (λ t h. said_start a s t dest stands g h) q f) p e;
   }

@@ -11,10 +11,10 @@ use Rattle.alg_model.specs.Tests.{same_value, same_value-Decides}
 use Rattle.net_graph.specs.Nets.{PureArc, PureNet, is_arc_between}
 use Rattle.net_graph.specs.Routes.{PureRoute}
 use Rattle.std.specs.Str.{bytes_eq}
-use Rattle.net_graph.specs.Tables.{Told, IsOfferBy, Offers, IsChoice}
+use Rattle.net_graph.specs.Tables.{Reported, IsOfferBy, Offers, IsChoice}
 use Rattle.path_vector.specs.Node.{PvState, PureUpdate, same_route, same_row, may_be_of, fits}
 use Rattle.path_vector.specs.Coherent.{heard_of, last_said}
-use Rattle.path_vector.specs.Choosing.{told_by}
+use Rattle.path_vector.specs.Choosing.{reported_by}
 
 -- ---- rows
 
@@ -58,29 +58,29 @@ fits_from net a u below f =
 
 -- ---- what was heard
 
-pub heard_of_is : (net : PureNet) (q : PvState) (i dest j : ℕ) → q.net ≡ net → q.number ≡ i → heard_of q dest j ≡ told_by net i (λ b. q.heard b dest) j
+pub heard_of_is : (net : PureNet) (q : PvState) (i dest j : ℕ) → q.net ≡ net → q.number ≡ i → heard_of q dest j ≡ reported_by net i (λ b. q.heard b dest) j
 heard_of_is net q i dest j e f = rw (e, f) refl
 
 -- what is reported is alike where the node has an arc
-abbrev pub AreAlike : PureNet → ℕ → Told → Told → Type 0
-AreAlike net i told other = (j : ℕ) (a : PureArc) → find (is_arc_between i j) net.arcs ≡ Some a → told j ≡ other j
+abbrev pub AreAlike : PureNet → ℕ → Reported → Reported → Type 0
+AreAlike net i reported other = (j : ℕ) (a : PureArc) → find (is_arc_between i j) net.arcs ≡ Some a → reported j ≡ other j
 
-pub offer_moves : (net : PureNet) (dest i : ℕ) (told other : Told) → AreAlike net i told other → (r : PureRoute) → Offers net dest told i r → Offers net dest other i r
-offer_moves net dest i told other same r (inl own) = inl own
-offer_moves net dest i told other same r (inr (j, o)) = inr (j, by (find (is_arc_between i j) net.arcs) refl o.weighs)
+pub offer_moves : (net : PureNet) (dest i : ℕ) (reported other : Reported) → AreAlike net i reported other → (r : PureRoute) → Offers net dest reported i r → Offers net dest other i r
+offer_moves net dest i reported other same r (inl own) = inl own
+offer_moves net dest i reported other same r (inr (j, o)) = inr (j, by (find (is_arc_between i j) net.arcs) refl o.weighs)
   where
     by : (f : Option PureArc) → find (is_arc_between i j) net.arcs ≡ f
         → option_and_then (λ l. option_and_then (App net.alg.expression l) (Some o.next.value)) (option_map (λ (a : PureArc). a.label) f) ≡ Some r.value → IsOfferBy net other i j r
     by None f g = absurd (cc)
-    by (Some a) f g = record { next = o.next; is_told = sym (same j a f) ∙ o.is_told; weighs = o.weighs; loopless = o.loopless; path = o.path }
+    by (Some a) f g = record { next = o.next; is_reported = sym (same j a f) ∙ o.is_reported; weighs = o.weighs; loopless = o.loopless; path = o.path }
 
 -- a choice stays one where what is reported is alike
-pub choice_moves : (net : PureNet) (dest i : ℕ) (told other : Told) → AreAlike net i told other → (o : Option PureRoute) → IsChoice net dest told i o → IsChoice net dest other i o
-choice_moves net dest i told other same (Some r) c = (
-  offer_moves net dest i told other same r c.0,
-  λ s o. c.1 s (offer_moves net dest i other told (λ j a e. sym (same j a e)) s o),
+pub choice_moves : (net : PureNet) (dest i : ℕ) (reported other : Reported) → AreAlike net i reported other → (o : Option PureRoute) → IsChoice net dest reported i o → IsChoice net dest other i o
+choice_moves net dest i reported other same (Some r) c = (
+  offer_moves net dest i reported other same r c.0,
+  λ s o. c.1 s (offer_moves net dest i other reported (λ j a e. sym (same j a e)) s o),
 )
-choice_moves net dest i told other same None c = λ r o. c r (offer_moves net dest i other told (λ j a e. sym (same j a e)) r o)
+choice_moves net dest i reported other same None c = λ r o. c r (offer_moves net dest i other reported (λ j a e. sym (same j a e)) r o)
 
 -- ---- what is said
 

@@ -1,4 +1,4 @@
-ghost use Rattle.std.specs.Prelude.{◌≡◌, ◌<◌, ℕ, IfOk, length, map, option_map};
+ghost use Rattle.std.specs.Prelude.{◌≡◌, ◌<◌, IfOk, length, map, option_map};
 ghost use Rattle.std.specs.List.{range_with_len};
 ghost use Rattle.net_graph.specs.Nets.{IsNet};
 ghost use Rattle.path_vector.specs.Known.{heard_by};
@@ -10,7 +10,7 @@ use crate::choosing::choose;
 use crate::heard::Heard;
 use crate::known::Known;
 use crate::rechoosing::{is_same_row, update_of};
-use crate::telling::tell_begun;
+use crate::reporting::report_begun;
 use crate::update::Update;
 use alg_model::Algebra;
 use meta_base::{DestId, List, NoMemory, NodeId};
@@ -37,7 +37,7 @@ pub(crate) fn begun_rows<A: Algebra>(
         (A.sig_value algebra.now) net.now node.0 own.now neighbours.now r.0.items) }
     ensures rows { let value = A.sig_value algebra.now in IfOk result (λ r. row_routes value r.0.items ≡
         λ dest. choice net.now dest node.0 (heard_by value neighbours.now)) }
-    ensures told { let value = A.sig_value algebra.now in (s : PvState) → s.net ≡ net.now →
+    ensures reported { let value = A.sig_value algebra.now in (s : PvState) → s.net ≡ net.now →
         s.before ≡ option_map (λ n. n.now) before.entry → s.number ≡ node.0 → s.heard ≡ heard_by value neighbours.now →
         s.rows ≡ row_routes value rows.now →
         IfOk result (λ r. map noted r.1 ≡ all_begun_updates s (range_with_len 0 (length net.now.dests))) }
@@ -59,7 +59,7 @@ pub(crate) fn begun_rows<A: Algebra>(
         )?;
         let is_same = is_same_row(alloc, algebra, &row, &rows[place])?;
         let update = update_of(alloc, algebra, dest, &row, 0)?;
-        tell_begun(alloc, net, before, node, !is_same, &update, &mut out)?;
+        report_begun(alloc, net, before, node, !is_same, &update, &mut out)?;
         begun.push(row)?;
     }
     Ok((begun, out))

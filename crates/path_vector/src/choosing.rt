@@ -26,7 +26,7 @@ fn own_offer<'p, A: Algebra>(
     match own {
         Some(sig) => Ok(Some(Offer {
             sig: algebra.copy(alloc, sig)?,
-            behind: &[],
+            after: &[],
         })),
         None => Ok(None),
     }
@@ -59,8 +59,8 @@ pub(crate) fn choose<A: Algebra>(
     for place in 0..neighbours.count() {
         let label = &neighbours.neighbour(place).label;
         let known = neighbours.route(place, dest.0 as usize);
-        let behind = offer_into(alloc, algebra, net, node, label, known, spare)?;
-        keep_better(algebra, &mut best, behind, spare);
+        let after = offer_into(alloc, algebra, net, node, label, known, spare)?;
+        keep_better(algebra, &mut best, after, spare);
     }
     match best {
         Some(offer) => Ok(Some(taken_by(alloc, node, offer)?)),

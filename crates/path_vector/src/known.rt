@@ -35,15 +35,15 @@ fn copy_path(alloc: Global, path: &[NodeId]) -> Result<List<NodeId>, NoMemory>
 pub(crate) fn known_of<A: Algebra>(
     alloc: Global,
     algebra: &A,
-    told: &SharedRoute,
+    reported: &SharedRoute,
 ) -> Result<Known<A::Sig>, NoMemory>
-    requires { In (carrier_of (A.expression algebra.now)) (pure_value told.now.value) }
+    requires { In (carrier_of (A.expression algebra.now)) (pure_value reported.now.value) }
     ensures sig { IfOk result (λ known. A.is_sig algebra.now known.sig) }
-    ensures route { IfOk result (λ known. known_route (A.sig_value algebra.now) known ≡ pure_shared told.now) }
+    ensures route { IfOk result (λ known. known_route (A.sig_value algebra.now) known ≡ pure_shared reported.now) }
 {
     Ok(Known {
-        sig: algebra.sig_of(alloc, &told.value)?,
-        path: told.path.share()?,
+        sig: algebra.sig_of(alloc, &reported.value)?,
+        path: reported.path.share()?,
     })
 }
 
@@ -63,19 +63,19 @@ pub(crate) fn route_of<A: Algebra>(
 }
 
 // What is reported of a known route.
-pub(crate) fn told_of<A: Algebra>(
+pub(crate) fn reported_of<A: Algebra>(
     alloc: Global,
     algebra: &A,
     known: &Known<A::Sig>,
 ) -> Result<Shared<SharedRoute>, NoMemory>
     requires { A.is_sig algebra.now known.now.sig }
-    ensures { IfOk result (λ told. pure_shared told ≡ known_route (A.sig_value algebra.now) known.now) }
+    ensures { IfOk result (λ reported. pure_shared reported ≡ known_route (A.sig_value algebra.now) known.now) }
 {
-    let told = SharedRoute {
+    let reported = SharedRoute {
         value: algebra.value_of(alloc, &known.sig)?,
         path: known.path.share()?,
     };
-    Shared::new(alloc, told)
+    Shared::new(alloc, reported)
 }
 
 // Whether two values in the algebra's form are one.

@@ -17,13 +17,14 @@ mod offer;
 mod own;
 mod paths;
 mod rechoosing;
+mod reporting;
 mod rows;
 mod shared;
-mod telling;
 mod update;
 
 pub use laws::{
-    carried_nodes_may_begin, new_nodes_may_begin, quiet_runs_are_stable, runs_are_coherent,
+    carried_nodes_may_begin, drained_machines_are_stable, new_nodes_may_begin,
+    quiet_runs_are_stable, runs_are_coherent,
 };
 pub use node::PvNode;
 pub use rows::rows_of;

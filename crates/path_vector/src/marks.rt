@@ -3,13 +3,13 @@ ghost use Rattle.std.specs.Prelude.{◌≡◌, ◌<◌, ◌/◌, ◌==◌, ◌||
 ghost use Rattle.path_vector.specs.Marks.{is_marked};
 
 use meta_base::NodeId;
-use net_graph::MAX_NODES_TWO;
+use net_graph::MOST_NODES;
 
 // How many nodes a word has marks of.
 const WORD_BITS: u32 = u64::BITS;
 
 // How many words have marks of the nodes of any network.
-pub(crate) const MARK_WORDS: usize = MAX_NODES_TWO / WORD_BITS as usize;
+pub(crate) const MARK_WORDS: usize = MOST_NODES / WORD_BITS as usize;
 
 // Whether the node is marked.
 pub(crate) fn is_marked(words: &[u64], node: NodeId) -> bool

@@ -52,7 +52,7 @@ fn hear_all_at<L, S: Drop>(
     requires there { HasEntries at dests others.old }
     ensures heard { (n m : Listened L S) → slice_get neighbours.old place ≡ Some n → slice_get others.old at ≡ Some m →
         neighbours.new ≡ set neighbours.old place (record n { heard = m.heard }) }
-    ensures behind { (k : ℕ) → at < k → slice_get others.new k ≡ slice_get others.old k }
+    ensures after { (k : ℕ) → at < k → slice_get others.new k ≡ slice_get others.old k }
     ensures count { length others.new ≡ length others.old }
 {
     for dest in 0..dests {

@@ -1,6 +1,6 @@
 ghost use Rattle.std.specs.Prelude.{◌≡◌, ◌<◌, ◌≤◌, [], Some, true, IfOk, OnErr, OnOk, length, map, slice_get};
 ghost use Rattle.std.proofs.Math.ListN.{set};
-ghost use Rattle.net_graph.specs.declared.limits.TheConstants.{MAX_DESTS_ONE};
+ghost use Rattle.net_graph.specs.declared.limits.TheConstants.{MOST_DESTS};
 ghost use Rattle.net_graph.specs.Nets.{PureArc};
 ghost use Rattle.net_graph.specs.Views.{pure_row};
 ghost use Rattle.path_vector.specs.Lawful.{path_vector_is_lawful};
@@ -128,7 +128,7 @@ impl<'a, A: Algebra> PvNode<'a, A> {
     // How many destinations its network has.
     pub(crate) fn dest_count(&self) -> usize
         ensures count { result ≡ length self.now.net.dests }
-        ensures few { result ≤ MAX_DESTS_ONE }
+        ensures few { result ≤ MOST_DESTS }
     {
         self.net.dest_count()
     }
@@ -187,7 +187,7 @@ impl<'a, A: Algebra> PvNode<'a, A> {
         };
         let dest = update.dest.0 as usize;
         put_row(&mut self.rows, dest, change.row, &mut self.spare);
-        *out = change.told;
+        *out = change.reported;
         Ok(())
     }
 }
@@ -227,7 +227,7 @@ impl<'a, A: Algebra> NodeCore for PvNode<'a, A> {
     }
 
     fn on_start(&mut self, out: &mut Outgoing<Update>) -> Result<(), NoMemory> {
-        let (rows, told) = begun_rows(
+        let (rows, reported) = begun_rows(
             *self.rows.allocator(),
             self.algebra,
             self.net,
@@ -240,7 +240,7 @@ impl<'a, A: Algebra> NodeCore for PvNode<'a, A> {
         self.rows = rows;
         self.is_begun = true;
         self.last = 0;
-        *out = told;
+        *out = reported;
         Ok(())
     }
 

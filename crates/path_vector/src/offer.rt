@@ -1,10 +1,10 @@
-ghost use Rattle.std.specs.Prelude.{◌≡◌, ◌<◌, ◌∷◌, ℕ, IfOk, IfSome, length, option_map, option_and_then};
+ghost use Rattle.std.specs.Prelude.{◌≡◌, ◌<◌, ◌∷◌, ℕ, IfOk, IfSome, option_map, option_and_then};
 ghost use Rattle.alg_model.specs.declared.alg.TheConstants.{MAX_VALUE_NUMBER};
 ghost use Rattle.alg_model.specs.Application.{App};
 ghost use Rattle.alg_model.specs.Bounds.{AtMost};
 ghost use Rattle.alg_model.specs.Carriers.{carrier_of};
 ghost use Rattle.alg_model.specs.Expressions.{PureLabel};
-ghost use Rattle.net_graph.specs.Nets.{PureArc, PureNet, IsNet};
+ghost use Rattle.net_graph.specs.Nets.{PureArc, IsNet};
 ghost use Rattle.net_graph.specs.Routes.{is_better};
 ghost use Rattle.path_vector.specs.Known.{known_route, offered_route, placed, standing, route_through};
 ghost use Rattle.path_vector.specs.Known.{better_of, MayOffer};
@@ -27,7 +27,7 @@ use std::mem::swap;
 #[derive(Drop)]
 pub(crate) struct Offer<'p, S> {
     pub sig: S,
-    pub behind: &'p [NodeId],
+    pub after: &'p [NodeId],
 }
 
 // What the label makes of the value, put into `place`, in the memory of the value that stands there. True where it
@@ -69,11 +69,11 @@ pub(crate) fn offer_into<'p, A: Algebra>(
     requires net { IsNet net.now }
     requires said { (a : PureArc) × MayOffer (A.stands_for algebra.now) (A.is_sig algebra.now)
         (A.sig_value algebra.now) net.now a label.now known.now }
-    ensures sig { IfOk result (λ behind. IfSome (placed behind place.new) (λ o. A.is_sig algebra.now o.sig)) }
+    ensures sig { IfOk result (λ after. IfSome (placed after place.new) (λ o. A.is_sig algebra.now o.sig)) }
     ensures offer { (a : PureArc) → a.tail ≡ node.0 → MayOffer (A.stands_for algebra.now)
         (A.is_sig algebra.now) (A.sig_value algebra.now) net.now a label.now known.now →
-        let value = A.sig_value algebra.now in IfOk result (λ behind.
-        option_map (offered_route value node.0) (placed behind place.new) ≡
+        let value = A.sig_value algebra.now in IfOk result (λ after.
+        option_map (offered_route value node.0) (placed after place.new) ≡
         option_and_then (offer_by net.now a) (option_map (known_route value) known.now)) }
 {
     let Some(known) = known else {
@@ -90,15 +90,15 @@ pub(crate) fn offer_into<'p, A: Algebra>(
 
 // The offer whose value stands in the place, which is empty then.
 pub(crate) fn take_offer<'p, S>(
-    behind: Option<&'p [NodeId]>,
+    after: Option<&'p [NodeId]>,
     place: &mut Option<S>,
 ) -> Option<Offer<'p, S>>
-    ensures { result ≡ placed behind.entry place.old }
+    ensures { result ≡ placed after.entry place.old }
 {
-    match behind {
-        Some(behind) => Some(Offer {
+    match after {
+        Some(after) => Some(Offer {
             sig: place.take()?,
-            behind,
+            after,
         }),
         None => None,
     }
@@ -109,19 +109,19 @@ pub(crate) fn take_offer<'p, S>(
 pub(crate) fn is_first<A: Algebra>(
     algebra: &A,
     first: &A::Sig,
-    behind_first: &[NodeId],
+    after_first: &[NodeId],
     second: &A::Sig,
-    behind_second: &[NodeId],
+    after_second: &[NodeId],
 ) -> bool
     requires first { A.is_sig algebra.now first.now }
     requires second { A.is_sig algebra.now second.now }
     ensures { (node : ℕ) → let value = A.sig_value algebra.now in
         result ≡ is_better (carrier_of (A.expression algebra.now))
-        (route_through value node first.now behind_first.now)
-        (route_through value node second.now behind_second.now) }
+        (route_through value node first.now after_first.now)
+        (route_through value node second.now after_second.now) }
 {
     match algebra.order(first, second) {
-        Ordering::Equal => compare(behind_first, behind_second) == Ordering::Less,
+        Ordering::Equal => compare(after_first, after_second) == Ordering::Less,
         values => values == Ordering::Less,
     }
 }
@@ -131,27 +131,27 @@ pub(crate) fn is_first<A: Algebra>(
 pub(crate) fn keep_better<'p, A: Algebra>(
     algebra: &A,
     best: &mut Option<Offer<'p, A::Sig>>,
-    behind: Option<&'p [NodeId]>,
+    after: Option<&'p [NodeId]>,
     place: &mut Option<A::Sig>,
 )
     requires best { IfSome best.old (λ o. A.is_sig algebra.now o.sig) }
-    requires next { IfSome (placed behind place.old) (λ o. A.is_sig algebra.now o.sig) }
+    requires next { IfSome (placed after place.old) (λ o. A.is_sig algebra.now o.sig) }
     ensures sig { IfSome best.new (λ o. A.is_sig algebra.now o.sig) }
     ensures better { (node : ℕ) → let value = A.sig_value algebra.now in
         option_map (offered_route value node) best.new ≡ better_of (carrier_of (A.expression algebra.now))
         (option_map (offered_route value node) best.old)
-        (option_map (offered_route value node) (placed behind.entry place.old)) }
+        (option_map (offered_route value node) (placed after.entry place.old)) }
 {
     let Some(first) = best else {
-        *best = take_offer(behind, place);
+        *best = take_offer(after, place);
         return;
     };
-    let (Some(behind), Some(next)) = (behind, place) else {
+    let (Some(after), Some(next)) = (after, place) else {
         return;
     };
-    if is_first(algebra, next, behind, &first.sig, first.behind) {
+    if is_first(algebra, next, after, &first.sig, first.after) {
         swap(&mut first.sig, next);
-        first.behind = behind;
+        first.after = after;
     }
 }
 
@@ -162,11 +162,11 @@ pub(crate) fn taken_by<S: Drop>(
     offer: Offer<'_, S>,
 ) -> Result<Known<S>, NoMemory>
     ensures sig { IfOk result (λ known. known.sig ≡ offer.entry.sig) }
-    ensures path { IfOk result (λ known. known.path ≡ node ∷ offer.entry.behind.now) }
+    ensures path { IfOk result (λ known. known.path ≡ node ∷ offer.entry.after.now) }
 {
-    let mut path = Vec::with_capacity(alloc, offer.behind.len().saturating_add(1))?;
+    let mut path = Vec::with_capacity(alloc, offer.after.len().saturating_add(1))?;
     path.push(node)?;
-    path.extend_from_slice(offer.behind)?;
+    path.extend_from_slice(offer.after)?;
     Ok(Known {
         sig: offer.sig,
         path: Shared::new(alloc, List::from_vec(path))?,

@@ -2,7 +2,7 @@
 ghost use Rattle.std.specs.Prelude.{◌≡◌, ◌==◌, ◌∷◌, ℕ, nat_lt, true};
 ghost use Rattle.std.specs.List.{list_all, list_any};
 ghost use Rattle.meta_base.specs.NodePaths.{numbers};
-ghost use Rattle.net_graph.specs.declared.limits.TheConstants.{MAX_NODES_TWO};
+ghost use Rattle.net_graph.specs.declared.limits.TheConstants.{MOST_NODES};
 ghost use Rattle.alg_model.specs.Carriers.{distinct};
 ghost use Rattle.path_vector.specs.Node.{begins_with};
 ghost use Rattle.path_vector.specs.Settling.{is_next};
@@ -28,12 +28,12 @@ pub(crate) fn starts_at(path: &[NodeId], node: NodeId) -> bool
 }
 
 // What lies after the first node of the path.
-pub(crate) fn behind(path: &[NodeId]) -> &[NodeId]
+pub(crate) fn after(path: &[NodeId]) -> &[NodeId]
     ensures { (i : ℕ) → begins_with i (numbers path.now) ≡ true → numbers path.now ≡ i ∷ numbers result.now }
 {
     match path {
         [] => path,
-        [_first, behind @ ..] => behind,
+        [_first, after @ ..] => after,
     }
 }
 
@@ -43,7 +43,7 @@ pub(crate) fn is_second(path: &[NodeId], node: NodeId) -> bool
 {
     match path {
         [] => false,
-        [_first, behind @ ..] => starts_at(behind, node),
+        [_first, after @ ..] => starts_at(after, node),
     }
 }
 
@@ -52,7 +52,7 @@ const SHORT_PATH: usize = 12;
 
 // Whether no node is on the path twice. The nodes are those of a network.
 pub(crate) fn has_each_once(path: &[NodeId]) -> bool
-    requires { list_all (λ n. nat_lt n.0 MAX_NODES_TWO) path.now ≡ true }
+    requires { list_all (λ n. nat_lt n.0 MOST_NODES) path.now ≡ true }
     ensures { result ≡ distinct (numbers path.now) }
 {
     if path.len() <= SHORT_PATH {
@@ -75,7 +75,7 @@ fn has_none_before_itself(path: &[NodeId]) -> bool
 
 // Whether no node is on the path twice, by marks. The nodes are those of a network.
 fn has_each_marked_once(path: &[NodeId]) -> bool
-    requires { list_all (λ n. nat_lt n.0 MAX_NODES_TWO) path.now ≡ true }
+    requires { list_all (λ n. nat_lt n.0 MOST_NODES) path.now ≡ true }
     ensures { result ≡ distinct (numbers path.now) }
 {
     let mut passed = [0; MARK_WORDS];

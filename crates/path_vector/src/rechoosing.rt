@@ -10,10 +10,10 @@ ghost use Rattle.path_vector.specs.Updates.{pure_update};
 
 use crate::choosing::choose;
 use crate::heard::Heard;
-use crate::known::{Known, are_same, told_of};
+use crate::known::{Known, are_same, reported_of};
 use crate::offer::{is_first, offer_into, take_offer, taken_by};
-use crate::paths::{behind, is_second};
-use crate::telling::told;
+use crate::paths::{after, is_second};
+use crate::reporting::reported;
 use crate::update::Update;
 use alg_model::Algebra;
 use meta_base::{ArcId, DestId, NoMemory, NodeId};
@@ -53,7 +53,7 @@ pub(crate) fn update_of<A: Algebra>(
         record { dest = dest.0; route = option_map (known_route value) row.now; stamp = stamp }) }
 {
     let route = match row {
-        Some(known) => Some(told_of(alloc, algebra, known)?),
+        Some(known) => Some(reported_of(alloc, algebra, known)?),
         None => None,
     };
     Ok(Update { dest, route, stamp })
@@ -63,7 +63,7 @@ pub(crate) fn update_of<A: Algebra>(
 #[derive(Drop)]
 pub(crate) struct Change<S> {
     pub row: Option<Known<S>>,
-    pub told: Outgoing<Update>,
+    pub reported: Outgoing<Update>,
 }
 
 // The change from the one row to the other, if they aren't one.
@@ -89,8 +89,8 @@ fn change_of<A: Algebra>(
         return Ok(None);
     }
     let update = update_of(alloc, algebra, dest, &row, clock)?;
-    let told = told(alloc, net, node, update)?;
-    Ok(Some(Change { row, told }))
+    let reported = reported(alloc, net, node, update)?;
+    Ok(Some(Change { row, reported }))
 }
 
 // Whether the row goes by that neighbour.
@@ -107,23 +107,23 @@ fn goes_by<A: Algebra>(_algebra: &A, row: &Option<Known<A::Sig>>, neighbour: Nod
 fn is_worse<A: Algebra>(
     algebra: &A,
     node: NodeId,
-    behind_offer: Option<&[NodeId]>,
+    after_offer: Option<&[NodeId]>,
     place: &Option<A::Sig>,
     row: &Option<Known<A::Sig>>,
 ) -> bool
-    requires offer { IfSome (placed behind_offer place.now) (λ o. A.is_sig algebra.now o.sig) }
+    requires offer { IfSome (placed after_offer place.now) (λ o. A.is_sig algebra.now o.sig) }
     requires row { IfSome row.now (λ k. A.is_sig algebra.now k.sig) }
     requires begins { IfSome row.now (λ k. begins_with node.0 (numbers k.path) ≡ true) }
     ensures { let value = A.sig_value algebra.now in
         result ≡ is_worse (carrier_of (A.expression algebra.now))
-        (option_map (offered_route value node.0) (placed behind_offer.entry place.now))
+        (option_map (offered_route value node.0) (placed after_offer.entry place.now))
         (option_map (known_route value) row.now) }
 {
-    match (behind_offer, place, row) {
+    match (after_offer, place, row) {
         (_, _, None) => false,
-        (Some(behind_offer), Some(sig), Some(row)) => {
-            let behind_row = behind(row.path.as_slice());
-            is_first(algebra, &row.sig, behind_row, sig, behind_offer)
+        (Some(after_offer), Some(sig), Some(row)) => {
+            let after_row = after(row.path.as_slice());
+            is_first(algebra, &row.sig, after_row, sig, after_offer)
         }
         (None, _, Some(_)) | (_, None, Some(_)) => true,
     }
@@ -165,15 +165,15 @@ pub(crate) fn rechoose<A: Algebra>(
     let place = net.place_of(arc);
     let label = &neighbours.neighbour(place).label;
     let known = neighbours.route(place, dest.0 as usize);
-    let behind_offer = offer_into(alloc, algebra, net, node, label, known, spare)?;
-    if is_worse(algebra, node, behind_offer, spare, before) {
+    let after_offer = offer_into(alloc, algebra, net, node, label, known, spare)?;
+    if is_worse(algebra, node, after_offer, spare, before) {
         if !goes_by(algebra, before, net.arc(arc).head) {
             return Ok(None);
         }
         let row = choose(alloc, algebra, net, node, own, neighbours, dest, spare)?;
         return change_of(alloc, algebra, net, node, before, row, dest, clock);
     }
-    let Some(offer) = take_offer(behind_offer, spare) else {
+    let Some(offer) = take_offer(after_offer, spare) else {
         return Ok(None);
     };
     let row = Some(taken_by(alloc, node, offer)?);

@@ -1,2 +1,2 @@
-mod Profiles
+mod StepLaws
 mod Places

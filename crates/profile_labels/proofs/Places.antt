@@ -6,21 +6,23 @@ use Rattle.alg_model.specs.Expressions.{PureAlg, PureLabel, row_label}
 use Rattle.alg_model.specs.Application.{IsLabel}
 use Rattle.alg_model.specs.Bounds.{greatest_number}
 use Rattle.alg_model.specs.Formation.{IsAlg}
+use Rattle.alg_model.specs.Forms.{IsBase}
 use Rattle.alg_classes.specs.declared.profile.Profile.{Profile}
+use Rattle.alg_classes.specs.Growth.{Only}
 use Rattle.alg_classes.specs.Profiles.{ProfileOf}
-use Rattle.base_classes.specs.Kinds.{IsBase}
 use Rattle.base_classes.specs.Lists.{candidate}
 use Rattle.base_classes.specs.CandidateLaws.{has_candidate, label_bounded}
 use Rattle.table_classes.specs.Rows.{IsTable}
 use Rattle.table_classes.specs.RowLaws.{each_row, row_bound}
 use Rattle.profile_labels.specs.declared.labelled.Labelled.{Labelled}
-use Rattle.profile_labels.specs.Growth.{Grown, Only}
-use Rattle.profile_labels.specs.Labels.{IsLabelWith, LabelledOf, IsCoveredBy, CoversBy}
+use Rattle.profile_labels.specs.Growth.{Grown}
+use Rattle.profile_labels.specs.Labels.{AreDistinct, IsLabelWith, LabelledOf, IsCoveredBy, CoversBy}
 use Rattle.profile_labels.specs.Places.{HasBefore}
 
 -- an empty list has none before the first place
 pub none_before : (a : PureAlg) (label_at : ℕ → PureLabel) (xs : List Labelled) → xs ≡ [] → HasBefore a label_at 0 xs
 none_before a label_at xs empty = record {
+  distinct = subst AreDistinct (sym empty) tt;
   each = subst (AllByRecursion (LabelledOf a)) (sym empty) tt;
   before = λ p k. absurd (omega (arith, k));
 }
@@ -29,6 +31,7 @@ none_before a label_at xs empty = record {
 one_more : (a : PureAlg) (label_at : ℕ → PureLabel) (place : ℕ) (xs : List Labelled) → HasBefore a label_at place xs
     → (IsLabel a.expression (label_at place) → IsCoveredBy a xs (label_at place)) → HasBefore a label_at (place + 1) xs
 one_more a label_at place xs h has = record {
+  distinct = h.distinct;
   each = h.each;
   before = λ p k i. ⊎_elim
       (λ l. h.before p l i)
@@ -45,6 +48,7 @@ none_more a label_at place xs none h = one_more a label_at place xs h (λ i. abs
 pub added_more : (a : PureAlg) (label_at : ℕ → PureLabel) (place : ℕ) (old new : List Labelled) (p : Profile) → IsLabelWith a (label_at place) p
     → HasBefore a label_at place old → Grown (LabelledOf a) (Only p) old new → HasBefore a label_at (place + 1) new
 added_more a label_at place old new p is h grown = one_more a label_at place new (record {
+  distinct = grown.distinct h.distinct;
   each = grown.each h.each;
   before = λ q k i. let c = h.before q k i in (c.0, c.1, grown.kept c.0 c.2);
 }) (λ i. (p, is.profile, grown.reached p refl))
@@ -70,6 +74,7 @@ base_with a l p is base i profile = record {
 pub rows_cover : (a : PureAlg) (place : ℕ) (xs : List Labelled) → IsTable a.expression
     → ((r : ℕ) → IsLabel a.expression (row_label r) → r < place) → HasBefore a row_label place xs → CoversBy a xs
 rows_cover a place xs table below h = record {
+  distinct = h.distinct;
   each = h.each;
   labels = each_row a.expression table (IsCoveredBy a xs) (λ r i. h.before r (below r i) i);
 }
@@ -78,6 +83,7 @@ rows_cover a place xs table below h = record {
 pub candidates_cover : (a : PureAlg) (place : ℕ) (xs : List Labelled) → IsAlg a → IsBase a.expression → 4 ≤ place
     → HasBefore a (candidate a.expression) place xs → CoversBy a xs
 candidates_cover a place xs is base all h = record {
+  distinct = h.distinct;
   each = h.each;
   labels = λ l i.
       let f = has_candidate a.expression l base is.formed.ranges i in

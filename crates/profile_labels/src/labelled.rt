@@ -1,13 +1,13 @@
-ghost use Rattle.std.specs.Prelude.{◌≡◌};
 ghost use Rattle.std.specs.List.{AllByRecursion};
 ghost use Rattle.alg_model.specs.Expressions.{PureAlg};
 ghost use Rattle.alg_model.specs.Views.{pure_label};
-ghost use Rattle.alg_classes.specs.Classes.{ClassOf, HasProfile, IsTruthOf};
-ghost use Rattle.std.specs.Prelude.{IfOk, OnOk};
-ghost use Rattle.profile_labels.specs.Growth.{Grown, Only};
-ghost use Rattle.profile_labels.specs.Labels.{Has, IsLabelWith, LabelledOf};
+ghost use Rattle.alg_classes.specs.Classes.{ClassOf, HasProfile};
+ghost use Rattle.std.specs.Prelude.{OnOk};
+ghost use Rattle.alg_classes.specs.Growth.{Only};
+ghost use Rattle.profile_labels.specs.Growth.{Grown};
+ghost use Rattle.profile_labels.specs.Labels.{IsLabelWith, LabelledOf};
 
-use alg_classes::{Class, Profile};
+use alg_classes::{Class, Profile, Profiled, has_profile};
 use alg_model::Label;
 use meta_base::{List, NoMemory};
 use std::alloc::Global;
@@ -19,13 +19,13 @@ pub struct Labelled {
     pub label: Label,
 }
 
-/// Whether a label of the slice has the profile. It takes no memory.
-pub fn has_profile(labels: &[Labelled], profile: &Profile) -> bool
-    ensures { IsTruthOf result (Has labels.now profile.now) }
-{
-    match labels {
-        [] => false,
-        [labelled, rest @ ..] => labelled.profile == *profile || has_profile(rest, profile),
+impl Profiled for Labelled {
+    ghost use Rattle.profile_labels.specs.Labels.{of_label};
+
+    ghost profile_of = { of_label };
+
+    fn profile(&self) -> &Profile {
+        &self.profile
     }
 }
 
@@ -44,17 +44,6 @@ pub(crate) fn add_label(
     list.push(Labelled { profile, label })
 }
 
-// The class's label, with its profile.
-fn of_class(alloc: Global, class: &Class) -> Result<Labelled, NoMemory>
-    ensures profile { IfOk result (λ x. x.profile ≡ class.now.profile) }
-    ensures label { IfOk result (λ x. pure_label x.label ≡ pure_label class.now.label) }
-{
-    Ok(Labelled {
-        profile: class.profile,
-        label: class.label.copy(alloc)?,
-    })
-}
-
 // Adds the labels of the classes.
 pub(crate) fn add_labels(
     alloc: Global,
@@ -67,7 +56,7 @@ pub(crate) fn add_labels(
     match classes {
         [] => Ok(()),
         [class, rest @ ..] => {
-            list.push(of_class(alloc, class)?)?;
+            add_label(list, class.profile, class.label.copy(alloc)?)?;
             add_labels(alloc, list, rest)
         }
     }

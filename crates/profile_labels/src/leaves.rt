@@ -4,7 +4,7 @@ ghost use Rattle.alg_classes.specs.Classes.{alg_in};
 ghost use Rattle.alg_model.specs.Formation.{IsAlg, MeetsRanges};
 ghost use Rattle.alg_model.specs.Views.{expression_of};
 ghost use Rattle.alg_model.specs.declared.edition.Edition.{Edition};
-ghost use Rattle.base_classes.specs.Kinds.{IsBase};
+ghost use Rattle.alg_model.specs.Forms.{IsBase};
 ghost use Rattle.base_classes.specs.Lists.{candidate};
 ghost use Rattle.profile_labels.specs.Labels.{CoversBy};
 ghost use Rattle.profile_labels.specs.Places.{HasBefore};

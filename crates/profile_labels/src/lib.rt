@@ -9,5 +9,5 @@ mod leaves;
 mod parts;
 mod step;
 
-pub use labelled::{Labelled, has_profile};
+pub use labelled::Labelled;
 pub use parts::covering_labels;

@@ -8,7 +8,8 @@ ghost use Rattle.alg_model.specs.Expressions.{Expression, PureAlg, lex, scoped, 
 ghost use Rattle.alg_model.specs.Formation.{IsAlg, IsCarrier, IsFormed};
 ghost use Rattle.alg_model.specs.Views.{expression_of, pure_carrier, pure_value};
 ghost use Rattle.alg_model.specs.declared.edition.Edition.{Edition};
-ghost use Rattle.profile_labels.specs.Growth.{Grown, Only, Over};
+ghost use Rattle.alg_classes.specs.Growth.{Only};
+ghost use Rattle.profile_labels.specs.Growth.{Grown, Over};
 ghost use Rattle.profile_labels.specs.Labels.{CoversBy, LabelledOf};
 ghost use Rattle.scoped_classes.specs.Scoped.{OfOuters, outer_rule};
 
@@ -18,13 +19,13 @@ use crate::labelled::add_labels;
 use crate::leaves::{labels_of_base, labels_of_table};
 use crate::step::{Step, add_joined, add_steps};
 use alg_classes::{ClassList, best, worst};
-use alg_model::{Alg, Carrier, Tree, Value, tree_carrier};
+use alg_model::{Alg, Carrier, LabelForm, Tree, Value, tree_carrier};
 use meta_base::{List, NoMemory};
 use std::alloc::Global;
 use union_classes::{left_class_list, right_class_list};
 
-/// Labels of the algebra, among which each profile of its labels is, each with its profile. They are refused for
-/// want of memory alone.
+/// Labels of the algebra, each with its profile: one for each profile that a label of it has. They are refused for want of
+/// memory alone.
 pub fn covering_labels(alloc: Global, alg: &Alg) -> Result<List<Labelled>, NoMemory>
     ensures { IfOk result (CoversBy alg.now) }
 {
@@ -32,22 +33,27 @@ pub fn covering_labels(alloc: Global, alg: &Alg) -> Result<List<Labelled>, NoMem
 }
 
 // The same of a part of the algebra.
-// What is neither an operator nor a table is one of the eleven base algebras.
 #[cycle(part_labels)]
 fn part_labels(alloc: Global, alg: &Alg, part: &Tree) -> Result<List<Labelled>, NoMemory>
     requires { IsAlg (alg_in (expression_of part.now) alg.now.edition) }
     ensures { IfOk result (CoversBy (alg_in (expression_of part.now) alg.now.edition)) }
 {
-    match part {
-        Tree::Lex(a, b) => labels_of_lex(alloc, alg, a, b),
-        Tree::Scoped(a, b) => labels_of_scoped(alloc, alg, a, b),
-        Tree::Union(a, b) => labels_of_union(alloc, alg, a, b),
-        Tree::Sum(a, b) => labels_of_sum(alloc, alg, a, b),
-        Tree::Plus(a, b) => labels_of_plus(alloc, alg, a, b),
-        Tree::Left(a) => labels_of(alloc, &left_class_list(alloc, &part_carrier(alloc, a)?)?),
-        Tree::Right(a) => labels_of_right(alloc, alg, a),
-        Tree::Table(_) => labels_of_table(alloc, part),
-        base => labels_of_base(alloc, base),
+    match part.label_form() {
+        LabelForm::Lex(a, b) => labels_of_lex(alloc, alg, a, b),
+        LabelForm::Scoped(a, b) => labels_of_scoped(alloc, alg, a, b),
+        LabelForm::Union(a, b) => labels_of_union(alloc, alg, a, b),
+        LabelForm::Sum(a, b) => labels_of_sum(alloc, alg, a, b),
+        LabelForm::Plus(a, b) => labels_of_plus(alloc, alg, a, b),
+        LabelForm::Left(a) => labels_of(alloc, &left_class_list(alloc, &part_carrier(alloc, a)?)?),
+        LabelForm::Right(a) => labels_of_right(alloc, alg, a),
+        LabelForm::Table(_) => labels_of_table(alloc, part),
+        LabelForm::Numbers(_, _)
+        | LabelForm::UpTo(_)
+        | LabelForm::Keep
+        | LabelForm::Symbol(_)
+        | LabelForm::Tag(_)
+        | LabelForm::Guard(_)
+        | LabelForm::Gate => labels_of_base(alloc, part),
     }
 }
 

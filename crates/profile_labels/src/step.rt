@@ -3,14 +3,14 @@ ghost use Rattle.std.specs.Prelude.{◌≡◌, IfOk, OnOk};
 ghost use Rattle.std.specs.List.{AllByRecursion};
 ghost use Rattle.alg_model.specs.Expressions.{PureAlg};
 ghost use Rattle.alg_model.specs.Views.{pure_label};
-ghost use Rattle.profile_labels.specs.Growth.{Grown, Only, Over};
+ghost use Rattle.alg_classes.specs.Growth.{Only};
+ghost use Rattle.profile_labels.specs.Growth.{Grown, Over};
 ghost use Rattle.profile_labels.specs.Labels.{LabelledOf};
 ghost use Rattle.profile_labels.specs.Steps.{Joins, Makes, joint_profile, step_label, step_profile};
 
 use crate::Labelled;
 use crate::joint::Joint;
-use crate::labelled::has_profile;
-use alg_classes::Profile;
+use alg_classes::{Profile, has_profile};
 use alg_model::{Carrier, Label, Value};
 use meta_base::{List, NoMemory};
 use scoped_classes::{inner_profile, outer_profile};

@@ -43,7 +43,7 @@ arc a b l:1
 ";
 
 #[test]
-fn codes_are_told(rt: HostRuntime) -> Result<(), Fail> {
+fn codes_are_reported(rt: HostRuntime) -> Result<(), Fail> {
     let cases: &[(&[u8], &[u8], &[u8])] = &[
         (SHORT_THEN_WIDE, WAYS, WAYS_CODE),
         (

@@ -10,6 +10,8 @@ mod demos;
 #[cfg(test)]
 mod gadgets;
 #[cfg(test)]
+mod gates;
+#[cfg(test)]
 mod host;
 #[cfg(test)]
 mod program;

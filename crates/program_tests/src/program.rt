@@ -1,6 +1,6 @@
 // Tests of `metacli`: whole runs over memory, from words and files to the status and what was written.
 use meta_base::{
-    List, MAX_FILE_BYTES, MemFile, MemShelf, MemSink, NoMemory, OpenGate, Shelf, Sink, Text,
+    Gate, List, MAX_FILE_BYTES, MemFile, MemShelf, MemSink, NoMemory, OpenGate, Shelf, Sink, Text,
 };
 use metacli::{Command, Required, read_words, run_meta, status};
 use std::alloc::Global;
@@ -22,7 +22,7 @@ pub(crate) fn ended_with(outcome: Outcome, text: &[u8], status: u8) -> bool {
 }
 
 // Whether the run was refused for a label with a line that begins so.
-pub(crate) fn is_lacking(outcome: Outcome, begins: &str) -> Result<bool, Fail> {
+pub(crate) fn is_missing(outcome: Outcome, begins: &str) -> Result<bool, Fail> {
     let text = str::from_utf8(&outcome.taken)?;
     Ok(outcome.status == 3 && text.starts_with(begins) && text.lines().count() == 1)
 }
@@ -49,13 +49,14 @@ fn list_of<T: Copy>(alloc: Global, items: &[T]) -> Result<List<T>, NoMemory> {
 }
 
 // The status of a run. It promises nothing of what was taken, so tests are quick to prove.
-fn status_of_run<S: Shelf, K: Sink>(
+fn status_of_run<S: Shelf, K: Sink, G: Gate>(
     rt: &(impl AllocGlobal + Threads + Wait + Sync),
     words: &[Text],
     shelf: &mut S,
     out: &mut K,
+    gate: &G,
 ) -> u8 {
-    let ended = run_meta(rt, words, shelf, out, &OpenGate);
+    let ended = run_meta(rt, words, shelf, out, gate);
     let status = status(&ended.answer);
     drop(ended);
     status
@@ -66,6 +67,16 @@ fn run_around(
     rt: &(impl AllocGlobal + Threads + Wait + Sync),
     words: &[&str],
     around: Around,
+) -> Result<Outcome, Fail> {
+    run_watched(rt, words, around, &OpenGate)
+}
+
+// The same with a gate.
+fn run_watched<G: Gate>(
+    rt: &(impl AllocGlobal + Threads + Wait + Sync),
+    words: &[&str],
+    around: Around,
+    gate: &G,
 ) -> Result<Outcome, Fail> {
     let alloc = rt.alloc();
     let mut files = List::new(alloc);
@@ -84,7 +95,7 @@ fn run_around(
     for word in words {
         texts.push(Text::copy(alloc, *word)?)?;
     }
-    let status = status_of_run(rt, &texts, &mut shelf, &mut out);
+    let status = status_of_run(rt, &texts, &mut shelf, &mut out, gate);
     Ok(Outcome {
         status,
         taken: out.taken().to_vec(alloc)?,
@@ -107,17 +118,25 @@ pub(crate) fn run_on(
     file: &[u8],
     net: &[u8],
 ) -> Result<Outcome, Fail> {
-    run_around(
-        rt,
-        words,
-        Around {
-            file,
-            net,
-            failing_calls: &[],
-            failing_writes: &[],
-            bite: BITE,
-        },
-    )
+    run_at(rt, words, file, net, &OpenGate)
+}
+
+// The same with a gate.
+pub(crate) fn run_at<G: Gate>(
+    rt: &(impl AllocGlobal + Threads + Wait + Sync),
+    words: &[&str],
+    file: &[u8],
+    net: &[u8],
+    gate: &G,
+) -> Result<Outcome, Fail> {
+    let around = Around {
+        file,
+        net,
+        failing_calls: &[],
+        failing_writes: &[],
+        bite: BITE,
+    };
+    run_watched(rt, words, around, gate)
 }
 
 // What a run with this status would come to that wrote this text.
@@ -135,7 +154,7 @@ const OTHER_ENDS: &[(&[u8], u8)] = &[
 ];
 
 #[test]
-fn other_ends_are_told_apart(rt: HostRuntime) -> Result<(), Fail> {
+fn other_ends_are_reported_apart(rt: HostRuntime) -> Result<(), Fail> {
     for (taken, status) in OTHER_ENDS {
         let outcome = outcome_of(rt.alloc(), *taken, *status)?;
         assert!(rt; !ended_with(outcome, b"quiet 1\n", 0));
@@ -144,7 +163,7 @@ fn other_ends_are_told_apart(rt: HostRuntime) -> Result<(), Fail> {
 }
 
 // Ends that are no refusal for a label that fails to be strict.
-const NO_LACKS: &[(&[u8], u8)] = &[
+const NO_MISSING: &[(&[u8], u8)] = &[
     (b"strict fails on a b: 0 on 0 gives 0\n", 0),
     (b"isotone fails on a b: 0 on 0 gives 0\n", 3),
     (b"strict fails on a b: 0 on 0 gives 0\na x 0 a\n", 3),
@@ -152,10 +171,10 @@ const NO_LACKS: &[(&[u8], u8)] = &[
 ];
 
 #[test]
-fn other_refusals_are_told_apart(rt: HostRuntime) -> Result<(), Fail> {
-    for (taken, status) in NO_LACKS {
+fn other_refusals_are_reported_apart(rt: HostRuntime) -> Result<(), Fail> {
+    for (taken, status) in NO_MISSING {
         let outcome = outcome_of(rt.alloc(), *taken, *status)?;
-        assert!(rt; !is_lacking(outcome, "strict fails on ")?);
+        assert!(rt; !is_missing(outcome, "strict fails on ")?);
     }
     Ok(())
 }
@@ -373,7 +392,7 @@ fn words_mean_commands(rt: HostRuntime) -> Result<(), Fail> {
 }
 
 #[test]
-fn other_commands_are_told_apart(rt: HostRuntime) -> Result<(), Fail> {
+fn other_commands_are_reported_apart(rt: HostRuntime) -> Result<(), Fail> {
     let check = Command::Check {
         file: 1,
         net: None,
@@ -465,7 +484,7 @@ const NO_STRICT: &[(&[u8], u8)] = &[
 ];
 
 #[test]
-fn other_answers_are_told_apart(rt: HostRuntime) -> Result<(), Fail> {
+fn other_answers_are_reported_apart(rt: HostRuntime) -> Result<(), Fail> {
     for (taken, status) in NO_STRICT {
         let outcome = outcome_of(rt.alloc(), *taken, *status)?;
         assert!(rt; !has_said(outcome, "y-yyy", "strict no: 0 on ")?);

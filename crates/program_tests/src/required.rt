@@ -32,7 +32,7 @@ const OTHER_ENDS: &[(&str, &str, u8)] = &[
 ];
 
 #[test]
-fn other_ends_are_told_apart(rt: HostRuntime) -> Result<(), Fail> {
+fn other_ends_are_reported_apart(rt: HostRuntime) -> Result<(), Fail> {
     for (verdicts, line, status) in OTHER_ENDS {
         let text = format!(in rt.alloc(); "{verdicts}{line}")?;
         let outcome = outcome_of(rt.alloc(), text.as_bytes(), *status)?;

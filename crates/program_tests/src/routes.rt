@@ -1,6 +1,6 @@
 // Tests of `route`: rows whose values are worked out by hand, labels that forbid it, and a plain program that relaxes
 // values along arcs until none changes.
-use crate::program::{BAD_GADGET, CUSTOMERS, ended_with, is_lacking, run_on};
+use crate::program::{BAD_GADGET, CUSTOMERS, ended_with, is_missing, run_on};
 use meta_base::NoMemory;
 use std::alloc::{AllocGlobal, Global};
 use std::fmt::Write;
@@ -149,7 +149,7 @@ fn labels_forbid_routes(rt: HostRuntime) -> Result<(), Fail> {
         ),
     ];
     for (file, net, begins) in cases {
-        assert!(rt; is_lacking(run_on(&rt, &["route", "f", "n"], *file, *net)?, *begins)?);
+        assert!(rt; is_missing(run_on(&rt, &["route", "f", "n"], *file, *net)?, *begins)?);
     }
     Ok(())
 }
@@ -341,7 +341,7 @@ fn drawn_networks_have_the_relaxed_values(rt: HostRuntime) -> Result<(), Fail> {
 
 // Sums are greater than their greatest parts.
 #[test]
-fn other_values_are_told_apart(rt: HostRuntime) -> Result<(), Fail> {
+fn other_values_are_reported_apart(rt: HostRuntime) -> Result<(), Fail> {
     let mut draw = Draw { state: 1 };
     assert!(rt; !agrees(&rt, Policy::Sum, Policy::Greatest, &mut draw)?);
     Ok(())

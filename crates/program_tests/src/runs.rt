@@ -228,7 +228,7 @@ const OTHER_ENDS: &[(&[u8], &[u8], u8)] = &[
 ];
 
 #[test]
-fn other_ends_are_told_apart(rt: HostRuntime) -> Result<(), Fail> {
+fn other_ends_are_reported_apart(rt: HostRuntime) -> Result<(), Fail> {
     for (taken, other, status) in OTHER_ENDS {
         let outcome = outcome_of(rt.alloc(), *taken, *status)?;
         assert!(rt; !ended_by(outcome, b"quiet 1\n", *other, 0));
@@ -267,7 +267,7 @@ fn flags_may_be_left_out(rt: HostRuntime) -> Result<(), Fail> {
 }
 
 // No table of this network is stable, so its nodes never come to rest.
-const GADGET: &[u8] = b"node z p q r
+pub(crate) const GADGET: &[u8] = b"node z p q r
 link p z : D
 link q z : D
 link r z : D

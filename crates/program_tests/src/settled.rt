@@ -1,6 +1,6 @@
 // Tests of `settle`: the one stable table of a network, worked out by hand, also after each change of one whose nodes
 // ran through its changes; and labels that forbid it.
-use crate::program::{CUSTOMERS, ended_with, is_lacking, run_on};
+use crate::program::{CUSTOMERS, ended_with, is_missing, run_on};
 use std::test::Fail;
 
 // Costs are added up.
@@ -84,7 +84,7 @@ fn labels_forbid_settling(rt: HostRuntime) -> Result<(), Fail> {
         ),
     ];
     for (file, net, begins) in cases {
-        assert!(rt; is_lacking(run_on(&rt, &["settle", "f", "n"], *file, *net)?, *begins)?);
+        assert!(rt; is_missing(run_on(&rt, &["settle", "f", "n"], *file, *net)?, *begins)?);
     }
     Ok(())
 }

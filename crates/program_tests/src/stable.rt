@@ -1,6 +1,6 @@
 // Tests of `stable`: the one stable table of each destination where labels are monotone, which runs come to, worked out
 // by hand; and labels that forbid it.
-use crate::program::{BAD_GADGET, CUSTOMERS, Outcome, ended_with, is_lacking, outcome_of, run_on};
+use crate::program::{BAD_GADGET, CUSTOMERS, Outcome, ended_with, is_missing, outcome_of, run_on};
 use crate::runs::{DISAGREE, WORKERS};
 use crate::settled::PROVIDERS;
 use std::str;
@@ -77,7 +77,7 @@ fn labels_forbid_stable_tables(rt: HostRuntime) -> Result<(), Fail> {
         ),
     ];
     for (file, net, begins) in cases {
-        assert!(rt; is_lacking(run_on(&rt, &["stable", "f", "n"], *file, *net)?, *begins)?);
+        assert!(rt; is_missing(run_on(&rt, &["stable", "f", "n"], *file, *net)?, *begins)?);
     }
     Ok(())
 }
@@ -104,7 +104,7 @@ const NO_RESTS: &[(&[u8], u8)] = &[
 ];
 
 #[test]
-fn other_ends_are_told_apart(rt: HostRuntime) -> Result<(), Fail> {
+fn other_ends_are_reported_apart(rt: HostRuntime) -> Result<(), Fail> {
     for (taken, status) in NO_RESTS {
         let outcome = outcome_of(rt.alloc(), *taken, *status)?;
         assert!(rt; !is_at_rest(outcome, "a x 0 a\n")?);

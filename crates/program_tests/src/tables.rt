@@ -135,7 +135,7 @@ fn workers_find_the_same_tables(rt: HostRuntime) -> Result<(), Fail> {
 }
 
 #[test]
-fn other_tables_are_told_apart(rt: HostRuntime) -> Result<(), Fail> {
+fn other_tables_are_reported_apart(rt: HostRuntime) -> Result<(), Fail> {
     for expected in OTHER_TABLES {
         assert!(rt; !find_on_square(&rt, 1, *expected)?);
     }

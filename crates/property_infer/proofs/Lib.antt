@@ -1,2 +1,3 @@
+pub mod ActionLaws
 pub mod Ways
 pub mod Leaves

@@ -1,7 +1,7 @@
--- What the program's facts, examples and actions stand for; and what it asks of the parts of a pair, or of the two
+-- What the program's actions stand for; and what it asks of the parts of a pair, or of the two
 -- sides of a value, whose examples then answer for both together.
 use Rattle.std.specs.Prelude.{Option, Some, option_map}
-use Rattle.alg_model.specs.declared.alg.TheConstants.{MAX_INSTANCE_NUMBER}
+use Rattle.alg_model.specs.Numbers.{max_instance_number}
 use Rattle.alg_model.specs.declared.edition.Edition.{Edition}
 use Rattle.alg_model.specs.Application.{IsLabel, App}
 use Rattle.alg_model.specs.Bounds.{AtMost, LabelAtMost, greatest_number}
@@ -10,38 +10,23 @@ use Rattle.alg_model.specs.Expressions.{Expression, PureCarrier, PureValue, pair
 use Rattle.alg_model.specs.Formation.{IsAlg}
 use Rattle.alg_model.specs.Views.{expression_of, pure_label, pure_value}
 use Rattle.alg_classes.specs.Facts as facts
-use Rattle.alg_classes.specs.Facts.{PureExample, at, between}
-use Rattle.alg_classes.specs.Classes.{alg_in}
-use Rattle.alg_classes.specs.Constants.{constant, kept}
+use Rattle.alg_classes.specs.Facts.{PureExample, at}
+use Rattle.alg_classes.specs.Classes.{alg_in, pure_example}
+use Rattle.alg_classes.specs.Constants.{constant, kept, denied}
 use Rattle.alg_classes.specs.Pairs.{paired, spanned}
 use Rattle.alg_classes.specs.Pairs as pair
-use Rattle.union_classes.specs.Sums.{denied, on_first, on_second, across}
+use Rattle.union_classes.specs.Sums.{on_first, on_second, across}
 use Rattle.union_classes.specs.Sums as side
 use Rattle.property_infer.specs.declared.action.Action.{Action}
 use Rattle.property_infer.specs.declared.action.Action.TheVariants.{OfLabel, Constant, Keep, Deny}
-use Rattle.property_infer.specs.declared.example.Example.{Example}
-use Rattle.property_infer.specs.declared.example.Example.TheVariants.{At, Between}
-use Rattle.property_infer.specs.declared.fact.Fact.{Fact}
-use Rattle.property_infer.specs.declared.fact.Fact.TheVariants.{Total, Dead, Mono, Strict, Iso, Canc, Cond, Narrow}
+use Rattle.alg_classes.specs.declared.example.Example.{Example}
+use Rattle.alg_classes.specs.declared.fact.Fact.{Fact}
+use Rattle.alg_classes.specs.declared.fact.Fact.TheVariants.{Total, Dead, Narrow}
 use Rattle.property_infer.specs.declared.pairs.OfPair.{OfPair}
 use Rattle.property_infer.specs.declared.pairs.OfPair.TheVariants.{Both, OutsideFirst, OutsideSecond, Split}
 use Rattle.property_infer.specs.declared.sides.OfSides.{OfSides}
 use Rattle.property_infer.specs.declared.sides.OfSides.TheVariants.{First, Second, Across}
 use Rattle.property_infer.specs.Answers.{Answers}
-
-abbrev pub pure_fact : Fact → facts.Fact
-pure_fact Total = facts.total
-pure_fact Dead = facts.dead
-pure_fact Mono = facts.mono
-pure_fact Strict = facts.strict
-pure_fact Iso = facts.iso
-pure_fact Canc = facts.canc
-pure_fact Cond = facts.cond
-pure_fact Narrow = facts.narrow
-
-abbrev pub pure_example : Example → PureExample
-pure_example (At v) = at (pure_value v)
-pure_example (Between u v) = between (pure_value u) (pure_value v)
 
 -- the part that the action is on, and what it does to the values of that
 abbrev pub part_of : Action → Expression
@@ -75,37 +60,37 @@ pub record IsAction (e : Edition) (x : Action) : Type 0 where
 
 -- the example answers whether the fact holds of the action
 abbrev pub ToFact : Action → Fact → Option PureExample → Type 0
-ToFact x k = Answers (carrier_under x) (action_of x) (pure_fact k)
+ToFact x k = Answers (carrier_under x) (action_of x) k
 
 abbrev pub AnswersFor : Action → Fact → Option Example → Type 0
 AnswersFor x k o = ToFact x k (option_map pure_example o)
 
 -- the same of two actions, one on each part of a pair, and of one on each side
-abbrev pub AnswersForPair : Action → Action → facts.Fact → Option PureExample → Type 0
+abbrev pub AnswersForPair : Action → Action → Fact → Option PureExample → Type 0
 AnswersForPair x y = Answers (pairs (carrier_under x) (carrier_under y)) (paired (action_of x) (action_of y))
 
-abbrev pub AnswersForSides : Action → Action → facts.Fact → Option PureExample → Type 0
+abbrev pub AnswersForSides : Action → Action → Fact → Option PureExample → Type 0
 AnswersForSides x y = Answers (sides (carrier_under x) (carrier_under y)) (side.beside (action_of x) (action_of y))
 
 -- a value of the part, with small numbers
 abbrev pub IsSmallIn : Action → PureValue → Type 0
-IsSmallIn x v = In (carrier_under x) v × AtMost MAX_INSTANCE_NUMBER v
+IsSmallIn x v = In (carrier_under x) v × AtMost max_instance_number v
 
 -- whatever answers what is asked of the parts makes an answer for the pair
 abbrev pub MakesPair : Action → Action → Fact → OfPair → Type 0
 MakesPair x y k (Both p q) =
-    (o r : Option PureExample) → ToFact x p o → ToFact y q r → AnswersForPair x y (pure_fact k) (pair.beside o r)
+    (o r : Option PureExample) → ToFact x p o → ToFact y q r → AnswersForPair x y k (pair.beside o r)
 MakesPair x y k OutsideFirst =
-    (o : Option PureExample) (v : PureValue) → ToFact x Total o → IsSmallIn y v → AnswersForPair x y (pure_fact k) (pair.beside o (Some (at v)))
+    (o : Option PureExample) (v : PureValue) → ToFact x Total o → IsSmallIn y v → AnswersForPair x y k (pair.beside o (Some (at v)))
 MakesPair x y k OutsideSecond =
-    (u : PureValue) (r : Option PureExample) → IsSmallIn x u → ToFact y Total r → AnswersForPair x y (pure_fact k) (pair.beside (Some (at u)) r)
+    (u : PureValue) (r : Option PureExample) → IsSmallIn x u → ToFact y Total r → AnswersForPair x y k (pair.beside (Some (at u)) r)
 MakesPair x y k Split =
     (o r s : Option PureExample) → ToFact x Narrow o → ToFact y Dead r → ToFact y Total s
-    → AnswersForPair x y (pure_fact k) (pair.beside o (spanned r s))
+    → AnswersForPair x y k (pair.beside o (spanned r s))
 
 -- and of the sides, for both
 abbrev pub MakesSides : Action → Action → Fact → OfSides → Type 0
-MakesSides x y k First = (o : Option PureExample) → ToFact x k o → AnswersForSides x y (pure_fact k) (option_map on_first o)
-MakesSides x y k Second = (r : Option PureExample) → ToFact y k r → AnswersForSides x y (pure_fact k) (option_map on_second r)
+MakesSides x y k First = (o : Option PureExample) → ToFact x k o → AnswersForSides x y k (option_map on_first o)
+MakesSides x y k Second = (r : Option PureExample) → ToFact y k r → AnswersForSides x y k (option_map on_second r)
 MakesSides x y k (Across p) =
-    (o r : Option PureExample) → ToFact x p o → ToFact y Dead r → AnswersForSides x y (pure_fact k) (across o r)
+    (o r : Option PureExample) → ToFact x p o → ToFact y Dead r → AnswersForSides x y k (across o r)

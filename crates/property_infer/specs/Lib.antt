@@ -3,9 +3,7 @@ pub mod Answers
 pub mod PairAnswers
 pub mod SideAnswers
 pub mod Asked
-pub mod ActionLaws
-pub mod Told
+pub mod Reported
 pub mod Labels
-pub mod PartLaws
-pub mod ToldLaws
+pub mod ReportedLaws
 pub mod LabelLaws

@@ -1,14 +1,12 @@
 // What acts on the values of a part of an algebra.
 ghost use Rattle.std.specs.Prelude.{◌≡◌};
 ghost use Rattle.alg_classes.specs.Profiles.{IsProfile};
-ghost use Rattle.alg_model.specs.Formation.{IsCarrier};
 ghost use Rattle.alg_model.specs.Views.{expression_of};
 ghost use Rattle.alg_model.specs.declared.edition.Edition.{Edition};
 ghost use Rattle.property_infer.specs.Asked.{part_of, carrier_under, action_of, IsAction};
-ghost use Rattle.union_classes.specs.Sums.{denied_profile};
 
 use crate::labels::part_profile;
-use alg_classes::{Profile, constant_profile, kept_profile};
+use alg_classes::{Profile, constant_profile, denied_profile, kept_profile};
 use alg_model::{Label, Tree, Value};
 
 /// What acts on the values of a part of an algebra. A label of an operator does by two of them, one for each part.
@@ -48,21 +46,5 @@ impl<'a> Action<'a> {
             Action::Keep(part) => kept_profile(part),
             Action::Deny(_) => denied_profile(),
         }
-    }
-}
-
-// The facts of what sends every value to none.
-fn denied_profile() -> Profile
-    ensures { result ≡ denied_profile }
-{
-    Profile {
-        total: false,
-        dead: true,
-        mono: true,
-        strict: true,
-        iso: true,
-        canc: true,
-        cond: true,
-        narrow: true,
     }
 }

@@ -1,32 +1,24 @@
 // Examples against the facts of a label, made from the top: of the parts only what shows the fact that is asked for.
 ghost use Rattle.std.specs.Prelude.{◌≡◌, option_map, IfOk};
-ghost use Rattle.alg_classes.specs.Classes.{ExampleAtMost, pure_at, pure_between, pure_examples};
+ghost use Rattle.alg_classes.specs.Classes.{ExampleAtMost, pure_example};
 ghost use Rattle.alg_classes.specs.Constants.{constant_examples, kept_examples};
 ghost use Rattle.alg_model.specs.Carriers.{carrier_of};
 ghost use Rattle.alg_model.specs.Views.{expression_of, pure_value};
 ghost use Rattle.alg_model.specs.declared.alg.TheConstants.{MAX_INSTANCE_NUMBER};
 ghost use Rattle.alg_model.specs.declared.edition.Edition.{Edition};
-ghost use Rattle.property_infer.specs.Asked.{pure_fact, pure_example, AnswersFor, AnswersForPair, AnswersForSides};
+ghost use Rattle.property_infer.specs.Asked.{AnswersFor, AnswersForPair, AnswersForSides};
 ghost use Rattle.property_infer.specs.Asked.{IsAction, IsSmallIn};
 
-use crate::action::Action;
-use crate::fact::Fact;
+use crate::action::Action::{self, Constant, Deny, Keep, OfLabel};
 use crate::pairs::{OfPair, asked_of_pair, beside, spanned};
 use crate::parts::part_carrier;
 use crate::sides::{OfSides, across, asked_of_sides, on_first, on_second};
-use alg_classes::{Examples, apart, best, worse_than};
-use alg_model::{Label, Tree, Value};
-use base_classes::base_examples;
+use alg_classes::{Example, Fact, apart, best, worse_than};
+use alg_model::{Label, LabelForm, Tree, Value};
+use base_classes::base_example;
 use meta_base::NoMemory;
 use std::alloc::Global;
-use table_classes::table_examples;
-
-/// A value, or two, at which a fact fails.
-#[derive(Debug, Drop)]
-pub(crate) enum Example {
-    At(Value),
-    Between(Value, Value),
-}
+use table_classes::table_example;
 
 // An example against the fact, or `None` where the action has it.
 #[cycle(example_for)]
@@ -39,15 +31,14 @@ pub(crate) fn example_for(
     ensures { IfOk result (AnswersFor action.entry fact) }
 {
     match action {
-        Action::OfLabel(part, label) => label_example(alloc, part, label, fact),
-        Action::Constant(part, value) => constant_example(alloc, part, value, fact),
-        Action::Keep(part) => kept_example(alloc, part, fact),
-        Action::Deny(part) => denied_example(alloc, part, fact),
+        OfLabel(part, label) => label_example(alloc, part, label, fact),
+        Constant(part, value) => constant_example(alloc, part, value, fact),
+        Keep(part) => kept_example(alloc, part, fact),
+        Deny(part) => denied_example(alloc, part, fact),
     }
 }
 
 // The same of a label of the part.
-// What is neither an operator nor a table is one of the eleven base algebras.
 #[cycle(example_for)]
 fn label_example(
     alloc: Global,
@@ -58,43 +49,43 @@ fn label_example(
     requires { (e : Edition) × IsAction e (Action.OfLabel part label) }
     ensures { IfOk result (AnswersFor (Action.OfLabel part.entry label.entry) fact) }
 {
-    match part {
-        Tree::Lex(a, b) => match label {
-            Label::Pair(l, m) => {
-                pair_example(alloc, Action::OfLabel(a, l), Action::OfLabel(b, m), fact)
-            }
+    match part.label_form() {
+        LabelForm::Lex(a, b) => match label {
+            Label::Pair(l, m) => pair_example(alloc, OfLabel(a, l), OfLabel(b, m), fact),
             _ => unreachable!(),
         },
-        Tree::Scoped(a, b) => match label {
-            Label::Outer(l, v) => {
-                pair_example(alloc, Action::OfLabel(a, l), Action::Constant(b, v), fact)
-            }
-            Label::Inner(m) => pair_example(alloc, Action::Keep(a), Action::OfLabel(b, m), fact),
+        LabelForm::Scoped(a, b) => match label {
+            Label::Outer(l, v) => pair_example(alloc, OfLabel(a, l), Constant(b, v), fact),
+            Label::Inner(m) => pair_example(alloc, Keep(a), OfLabel(b, m), fact),
             _ => unreachable!(),
         },
-        Tree::Union(a, b) => match label {
-            Label::First(l) => side_example(alloc, Action::OfLabel(a, l), Action::Deny(b), fact),
-            Label::Second(m) => side_example(alloc, Action::Deny(a), Action::OfLabel(b, m), fact),
+        LabelForm::Union(a, b) => match label {
+            Label::First(l) => side_example(alloc, OfLabel(a, l), Deny(b), fact),
+            Label::Second(m) => side_example(alloc, Deny(a), OfLabel(b, m), fact),
             _ => unreachable!(),
         },
-        Tree::Sum(a, b) => match label {
-            Label::Both(l, m) => {
-                side_example(alloc, Action::OfLabel(a, l), Action::OfLabel(b, m), fact)
-            }
+        LabelForm::Sum(a, b) => match label {
+            Label::Both(l, m) => side_example(alloc, OfLabel(a, l), OfLabel(b, m), fact),
             _ => unreachable!(),
         },
-        Tree::Plus(a, b) => match label {
+        LabelForm::Plus(a, b) => match label {
             Label::First(l) => label_example(alloc, a, l, fact),
             Label::Second(m) => label_example(alloc, b, m, fact),
             _ => unreachable!(),
         },
-        Tree::Left(a) => match label {
+        LabelForm::Left(a) => match label {
             Label::Const(v) => constant_example(alloc, a, v, fact),
             _ => unreachable!(),
         },
-        Tree::Right(a) => kept_example(alloc, a, fact),
-        Tree::Table(_) => Ok(among(table_examples(part, label), fact)),
-        base => Ok(among(base_examples(alloc, base, label)?, fact)),
+        LabelForm::Right(a) => kept_example(alloc, a, fact),
+        LabelForm::Table(_) => Ok(table_example(part, label, fact)),
+        LabelForm::Numbers(_, _)
+        | LabelForm::UpTo(_)
+        | LabelForm::Keep
+        | LabelForm::Symbol(_)
+        | LabelForm::Tag(_)
+        | LabelForm::Guard(_)
+        | LabelForm::Gate => base_example(alloc, part, label, fact),
     }
 }
 
@@ -108,7 +99,7 @@ fn pair_example(
 ) -> Result<Option<Example>, NoMemory>
     requires first { (e : Edition) × IsAction e x }
     requires second { (e : Edition) × IsAction e y }
-    ensures { IfOk result (λ o. AnswersForPair x.entry y.entry (pure_fact fact) (option_map pure_example o)) }
+    ensures { IfOk result (λ o. AnswersForPair x.entry y.entry fact (option_map pure_example o)) }
 {
     match asked_of_pair(x, y, fact) {
         OfPair::Both(of_x, of_y) => {
@@ -145,7 +136,7 @@ fn side_example(
 ) -> Result<Option<Example>, NoMemory>
     requires first { (e : Edition) × IsAction e x }
     requires second { (e : Edition) × IsAction e y }
-    ensures { IfOk result (λ o. AnswersForSides x.entry y.entry (pure_fact fact) (option_map pure_example o)) }
+    ensures { IfOk result (λ o. AnswersForSides x.entry y.entry fact (option_map pure_example o)) }
 {
     match asked_of_sides(x, y, fact) {
         OfSides::First => {
@@ -173,14 +164,17 @@ fn constant_example(
 ) -> Result<Option<Example>, NoMemory>
     requires { (e : Edition) × IsAction e (Action.Constant part value) }
     ensures made { IfOk result (λ o. option_map pure_example o ≡
-        constant_examples (carrier_of (expression_of part.now)) (pure_value value.now) (pure_fact fact)) }
+        constant_examples (carrier_of (expression_of part.now)) (pure_value value.now) fact) }
     ensures small { IfOk result (λ o. ExampleAtMost MAX_INSTANCE_NUMBER (option_map pure_example o)) }
 {
     match fact {
         Fact::Dead | Fact::Strict => Ok(Some(Example::At(value.copy(alloc)?))),
-        Fact::Mono => Ok(at(worse_than(alloc, &part_carrier(alloc, part)?, value)?)),
-        Fact::Canc | Fact::Narrow => Ok(between(apart(alloc, &part_carrier(alloc, part)?)?)),
-        Fact::Total | Fact::Iso | Fact::Cond => Ok(None),
+        Fact::Monotone => Ok(Example::at(worse_than(alloc, &part_carrier(alloc, part)?, value)?)),
+        Fact::Cancellative | Fact::Narrow => Ok(Example::between(apart(
+            alloc,
+            &part_carrier(alloc, part)?,
+        )?)),
+        Fact::Total | Fact::Isotone | Fact::Condensed => Ok(None),
     }
 }
 
@@ -188,15 +182,18 @@ fn constant_example(
 fn kept_example(alloc: Global, part: &Tree, fact: Fact) -> Result<Option<Example>, NoMemory>
     requires { (e : Edition) × IsAction e (Action.Keep part) }
     ensures made { IfOk result (λ o. option_map pure_example o ≡
-        kept_examples (carrier_of (expression_of part.now)) (pure_fact fact)) }
+        kept_examples (carrier_of (expression_of part.now)) fact) }
     ensures small { IfOk result (λ o. ExampleAtMost MAX_INSTANCE_NUMBER (option_map pure_example o)) }
 {
     match fact {
         Fact::Dead | Fact::Strict => {
             Ok(Some(Example::At(best(alloc, &part_carrier(alloc, part)?)?)))
         }
-        Fact::Cond | Fact::Narrow => Ok(between(apart(alloc, &part_carrier(alloc, part)?)?)),
-        Fact::Total | Fact::Mono | Fact::Iso | Fact::Canc => Ok(None),
+        Fact::Condensed | Fact::Narrow => Ok(Example::between(apart(
+            alloc,
+            &part_carrier(alloc, part)?,
+        )?)),
+        Fact::Total | Fact::Monotone | Fact::Isotone | Fact::Cancellative => Ok(None),
     }
 }
 
@@ -206,13 +203,13 @@ fn denied_example(alloc: Global, part: &Tree, fact: Fact) -> Result<Option<Examp
     ensures { IfOk result (AnswersFor (Action.Deny part.entry) fact) }
 {
     match fact {
-        Fact::Total => Ok(Some(Example::At(any_value(alloc, Action::Deny(part))?))),
+        Fact::Total => Ok(Some(Example::At(any_value(alloc, Deny(part))?))),
         Fact::Dead
-        | Fact::Mono
+        | Fact::Monotone
         | Fact::Strict
-        | Fact::Iso
-        | Fact::Canc
-        | Fact::Cond
+        | Fact::Isotone
+        | Fact::Cancellative
+        | Fact::Condensed
         | Fact::Narrow => Ok(None),
     }
 }
@@ -223,33 +220,4 @@ fn any_value(alloc: Global, action: Action<'_>) -> Result<Value, NoMemory>
     ensures { IfOk result (λ v. IsSmallIn action.entry (pure_value v)) }
 {
     best(alloc, &part_carrier(alloc, action.part())?)
-}
-
-// The one of the examples that is against the fact.
-fn among(examples: Examples, fact: Fact) -> Option<Example>
-    ensures { option_map pure_example result ≡ pure_examples examples (pure_fact fact) }
-{
-    match fact {
-        Fact::Total => at(examples.outside),
-        Fact::Dead => at(examples.inside),
-        Fact::Mono => at(examples.not_mono),
-        Fact::Strict => at(examples.not_strict),
-        Fact::Iso => between(examples.not_iso),
-        Fact::Canc => between(examples.not_canc),
-        Fact::Cond => between(examples.not_cond),
-        Fact::Narrow => between(examples.not_narrow),
-    }
-}
-
-fn at(value: Option<Value>) -> Option<Example>
-    ensures { option_map pure_example result ≡ option_map pure_at value }
-{
-    Some(Example::At(value?))
-}
-
-fn between(values: Option<(Value, Value)>) -> Option<Example>
-    ensures { option_map pure_example result ≡ option_map pure_between values }
-{
-    let (u, v) = values?;
-    Some(Example::Between(u, v))
 }

@@ -8,12 +8,12 @@ ghost use Rattle.alg_model.specs.Bounds.{LabelAtMost, greatest_number};
 ghost use Rattle.alg_model.specs.Formation.{IsFormed};
 ghost use Rattle.alg_model.specs.Views.{expression_of, pure_label};
 
-use alg_classes::Profile;
-use alg_model::{Alg, Label, Tree};
+use alg_classes::{Profile, has_profile};
+use alg_model::{Alg, Label, LabelForm, Tree};
 use base_classes::base_tree_profile;
 use lex_classes::lex_profile;
 use meta_base::{List, NoMemory};
-use profile_labels::{Labelled, has_profile};
+use profile_labels::Labelled;
 use scoped_classes::{inner_profile, outer_profile};
 use std::alloc::Global;
 use table_classes::table_tree_profile;
@@ -29,43 +29,49 @@ pub fn label_profile(alg: &Alg, label: &Label) -> Profile
     part_profile(alg.tree(), label)
 }
 
-// The same of a part. What is neither an operator nor a table is one of the eleven base algebras.
+// The same of a part.
 pub(crate) fn part_profile(part: &Tree, label: &Label) -> Profile
     requires formed { IsFormed (expression_of part.now) }
     requires label { IsLabel (expression_of part.now) (pure_label label.now) }
     ensures { ProfileOf (expression_of part.now) (pure_label label.now) result }
 {
-    match part {
-        Tree::Lex(a, b) => match label {
+    match part.label_form() {
+        LabelForm::Lex(a, b) => match label {
             Label::Pair(l, m) => lex_profile(&part_profile(a, l), &part_profile(b, m)),
             _ => unreachable!(),
         },
-        Tree::Scoped(a, b) => match label {
-            Label::Outer(l, v) => outer_profile(&part_profile(a, l), &**b, v),
-            Label::Inner(m) => inner_profile(&**a, &part_profile(b, m)),
+        LabelForm::Scoped(a, b) => match label {
+            Label::Outer(l, v) => outer_profile(&part_profile(a, l), b, v),
+            Label::Inner(m) => inner_profile(a, &part_profile(b, m)),
             _ => unreachable!(),
         },
-        Tree::Union(a, b) => match label {
+        LabelForm::Union(a, b) => match label {
             Label::First(l) => union_first_profile(&part_profile(a, l)),
             Label::Second(m) => union_second_profile(&part_profile(b, m)),
             _ => unreachable!(),
         },
-        Tree::Sum(a, b) => match label {
+        LabelForm::Sum(a, b) => match label {
             Label::Both(l, m) => sum_profile(&part_profile(a, l), &part_profile(b, m)),
             _ => unreachable!(),
         },
-        Tree::Plus(a, b) => match label {
+        LabelForm::Plus(a, b) => match label {
             Label::First(l) => part_profile(a, l),
             Label::Second(m) => part_profile(b, m),
             _ => unreachable!(),
         },
-        Tree::Left(a) => match label {
-            Label::Const(v) => const_profile(&**a, v),
+        LabelForm::Left(a) => match label {
+            Label::Const(v) => const_profile(a, v),
             _ => unreachable!(),
         },
-        Tree::Right(a) => keep_profile(&**a),
-        Tree::Table(_) => table_tree_profile(part, label),
-        base => base_tree_profile(base, label),
+        LabelForm::Right(a) => keep_profile(a),
+        LabelForm::Table(_) => table_tree_profile(part, label),
+        LabelForm::Numbers(_, _)
+        | LabelForm::UpTo(_)
+        | LabelForm::Keep
+        | LabelForm::Symbol(_)
+        | LabelForm::Tag(_)
+        | LabelForm::Guard(_)
+        | LabelForm::Gate => base_tree_profile(part, label),
     }
 }
 

@@ -6,18 +6,18 @@ ghost use Rattle.alg_model.specs.Verdicts.{ExactFor, PureVerdicts};
 ghost use Rattle.profile_labels.specs.Labels.{CoversBy};
 ghost use Rattle.profile_labels.specs.declared.labelled.Labelled.{Labelled};
 ghost use Rattle.property_infer.specs.Labels.{CoversLabels};
-ghost use Rattle.property_infer.specs.Told.{AreTold};
+ghost use Rattle.property_infer.specs.Reported.{AreReported};
 
 /// What labels that cover an algebra tell is exact for all of its labels.
-#[tactic(auto, using(crate::specs::ToldLaws::told_of_all))]
+#[tactic(auto, using(crate::specs::ReportedLaws::stated_of_all))]
 pub fn verdicts_of_covering_labels_are_exact()
-    ensures { (a : PureAlg) (labels : List Labelled) (v : PureVerdicts) → CoversBy a labels → AreTold a labels v →
+    ensures { (a : PureAlg) (labels : List Labelled) (v : PureVerdicts) → CoversBy a labels → AreReported a labels v →
         ExactFor a.expression (IsLabel a.expression) v }
 {}
 
 /// What labels that cover those of a list tell is exact for these.
-#[tactic(auto, using(crate::specs::ToldLaws::told_of_labels))]
+#[tactic(auto, using(crate::specs::ReportedLaws::reported_of_labels))]
 pub fn verdicts_of_covered_labels_are_exact()
     ensures { (a : PureAlg) (all : List PureLabel) (labels : List Labelled) (v : PureVerdicts) →
-        CoversLabels a all labels → AreTold a labels v → ExactFor a.expression (Contains all) v }
+        CoversLabels a all labels → AreReported a labels v → ExactFor a.expression (Contains all) v }
 {}

@@ -7,17 +7,16 @@
 mod action;
 mod decided;
 mod example;
-mod fact;
 mod labels;
 mod laws;
 mod pairs;
 mod parts;
+mod reported;
 mod sides;
-mod told;
 mod verdict;
 
 pub use decided::{label_verdicts, verdicts};
 pub use labels::{add_label, label_profile};
 pub use laws::{verdicts_of_covered_labels_are_exact, verdicts_of_covering_labels_are_exact};
-pub use told::verdicts_of;
+pub use reported::{instance_against, verdicts_of};
 pub use verdict::{Verdict, Verdicts};

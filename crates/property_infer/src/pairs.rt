@@ -4,12 +4,12 @@ ghost use Rattle.alg_classes.specs.Pairs as rule;
 ghost use Rattle.alg_model.specs.Expressions as pure;
 ghost use Rattle.alg_model.specs.Views.{pure_value};
 ghost use Rattle.alg_model.specs.declared.edition.Edition.{Edition};
-ghost use Rattle.property_infer.specs.Asked.{pure_fact, pure_example, IsAction, MakesPair};
+ghost use Rattle.alg_classes.specs.Classes.{pure_example};
+ghost use Rattle.property_infer.specs.Asked.{IsAction, MakesPair};
 ghost use Rattle.property_infer.specs.PairAnswers.{IsAlike, IsOfWorse};
 
 use crate::action::Action;
-use crate::example::Example;
-use crate::fact::Fact;
+use alg_classes::{Example, Fact};
 use alg_model::Value;
 use meta_base::NoMemory;
 use std::alloc::Global;
@@ -37,9 +37,9 @@ pub(crate) fn asked_of_pair(x: Action<'_>, y: Action<'_>, fact: Fact) -> OfPair
     match fact {
         Fact::Total => total_asked(x, y),
         Fact::Dead => OfPair::Both(Fact::Dead, Fact::Dead),
-        Fact::Mono | Fact::Strict => worse_asked(x, y, fact),
-        Fact::Iso => iso_asked(x, y),
-        Fact::Canc | Fact::Cond | Fact::Narrow => alike_asked(x, y, fact),
+        Fact::Monotone | Fact::Strict => worse_asked(x, y, fact),
+        Fact::Isotone => isotone_asked(x, y),
+        Fact::Cancellative | Fact::Condensed | Fact::Narrow => alike_asked(x, y, fact),
     }
 }
 
@@ -57,7 +57,7 @@ fn total_asked(x: Action<'_>, y: Action<'_>) -> OfPair
 
 // Whether no image is preferred to its value, or each is worse.
 fn worse_asked(x: Action<'_>, y: Action<'_>, fact: Fact) -> OfPair
-    requires worse { IsOfWorse (pure_fact fact) }
+    requires worse { IsOfWorse fact }
     requires first { (e : Edition) × IsAction e x }
     requires second { (e : Edition) × IsAction e y }
     ensures { MakesPair x.entry y.entry fact result }
@@ -65,36 +65,36 @@ fn worse_asked(x: Action<'_>, y: Action<'_>, fact: Fact) -> OfPair
     if x.profile().mono {
         OfPair::Both(Fact::Strict, fact)
     } else {
-        OfPair::Both(Fact::Mono, Fact::Dead)
+        OfPair::Both(Fact::Monotone, Fact::Dead)
     }
 }
 
-fn iso_asked(x: Action<'_>, y: Action<'_>) -> OfPair
+fn isotone_asked(x: Action<'_>, y: Action<'_>) -> OfPair
     requires first { (e : Edition) × IsAction e x }
     requires second { (e : Edition) × IsAction e y }
-    ensures { MakesPair x.entry y.entry Fact.Iso result }
+    ensures { MakesPair x.entry y.entry Fact.Isotone result }
 {
     if !x.profile().iso {
-        return OfPair::Both(Fact::Iso, Fact::Dead);
+        return OfPair::Both(Fact::Isotone, Fact::Dead);
     }
     let second = y.profile();
     if !second.iso {
-        OfPair::Both(Fact::Dead, Fact::Iso)
+        OfPair::Both(Fact::Dead, Fact::Isotone)
     } else if !second.total {
         OfPair::Split
     } else {
-        OfPair::Both(Fact::Canc, Fact::Cond)
+        OfPair::Both(Fact::Cancellative, Fact::Condensed)
     }
 }
 
 // A fact that the pair has where both parts have it.
 fn alike_asked(x: Action<'_>, y: Action<'_>, fact: Fact) -> OfPair
-    requires alike { IsAlike (pure_fact fact) }
+    requires alike { IsAlike fact }
     requires first { (e : Edition) × IsAction e x }
     requires second { (e : Edition) × IsAction e y }
     ensures { MakesPair x.entry y.entry fact result }
 {
-    if fact.is_in(&x.profile()) {
+    if x.profile().has(fact) {
         OfPair::Both(Fact::Dead, fact)
     } else {
         OfPair::Both(fact, Fact::Dead)

@@ -3,13 +3,13 @@ ghost use Rattle.std.specs.Prelude.{◌≡◌, option_map, IfOk};
 ghost use Rattle.alg_model.specs.Expressions as pure;
 ghost use Rattle.alg_model.specs.Views.{pure_value};
 ghost use Rattle.alg_model.specs.declared.edition.Edition.{Edition};
-ghost use Rattle.property_infer.specs.Asked.{pure_fact, pure_example, IsAction, MakesSides};
+ghost use Rattle.alg_classes.specs.Classes.{pure_example};
+ghost use Rattle.property_infer.specs.Asked.{IsAction, MakesSides};
 ghost use Rattle.property_infer.specs.SideAnswers.{IsAcross, IsOfEach};
 ghost use Rattle.union_classes.specs.Sums as rule;
 
 use crate::action::Action;
-use crate::example::Example;
-use crate::fact::Fact;
+use alg_classes::{Example, Fact};
 use alg_model::Value;
 use meta_base::NoMemory;
 use std::alloc::Global;
@@ -32,22 +32,22 @@ pub(crate) fn asked_of_sides(x: Action<'_>, y: Action<'_>, fact: Fact) -> OfSide
     ensures { MakesSides x.entry y.entry fact result }
 {
     match fact {
-        Fact::Total | Fact::Dead | Fact::Mono | Fact::Strict | Fact::Canc => {
+        Fact::Total | Fact::Dead | Fact::Monotone | Fact::Strict | Fact::Cancellative => {
             asked_of_each(x, y, fact)
         }
-        Fact::Iso => asked_of_all(x, y, fact, Fact::Total),
-        Fact::Cond | Fact::Narrow => asked_of_all(x, y, fact, Fact::Dead),
+        Fact::Isotone => asked_of_all(x, y, fact, Fact::Total),
+        Fact::Condensed | Fact::Narrow => asked_of_all(x, y, fact, Fact::Dead),
     }
 }
 
 // A fact that holds of both where it holds of each.
 fn asked_of_each(x: Action<'_>, y: Action<'_>, fact: Fact) -> OfSides
-    requires each { IsOfEach (pure_fact fact) }
+    requires each { IsOfEach fact }
     requires first { (e : Edition) × IsAction e x }
     requires second { (e : Edition) × IsAction e y }
     ensures { MakesSides x.entry y.entry fact result }
 {
-    if fact.is_in(&x.profile()) {
+    if x.profile().has(fact) {
         OfSides::Second
     } else {
         OfSides::First
@@ -57,14 +57,14 @@ fn asked_of_each(x: Action<'_>, y: Action<'_>, fact: Fact) -> OfSides
 // A fact that may fail between the sides, where it holds of each: a value of the first that is an example against the
 // other fact shows it.
 fn asked_of_all(x: Action<'_>, y: Action<'_>, fact: Fact, between: Fact) -> OfSides
-    requires across { IsAcross (pure_fact fact) (pure_fact between) }
+    requires across { IsAcross fact between }
     requires first { (e : Edition) × IsAction e x }
     requires second { (e : Edition) × IsAction e y }
     ensures { MakesSides x.entry y.entry fact result }
 {
-    if !fact.is_in(&x.profile()) {
+    if !x.profile().has(fact) {
         OfSides::First
-    } else if !fact.is_in(&y.profile()) {
+    } else if !y.profile().has(fact) {
         OfSides::Second
     } else {
         OfSides::Across(between)

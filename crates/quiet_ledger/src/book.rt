@@ -1,4 +1,6 @@
 ghost use Rattle.std.specs.Prelude.{◌≡◌, ◌<◌, ◌≤◌};
+ghost use Rattle.meta_base.specs.Numbers.{max_workers};
+ghost use Rattle.quiet_ledger.specs.Numbers.{max_base, max_share};
 ghost use Rattle.quiet_ledger.specs.declared.book.TheConstants.{MAX_BASE, MAX_SHARE, MAX_WORKERS};
 
 use crate::{Sight, Totals};
@@ -14,6 +16,13 @@ pub const MAX_SHARE: u64 = 1 << 56;
 
 /// The most that a book's base may say was sent, and that was taken.
 pub const MAX_BASE: u64 = 1 << 62;
+
+/// The bounds of a book are the numbers of the specification.
+pub fn numbers_are_specified()
+    ensures workers { MAX_WORKERS ≡ max_workers }
+    ensures share { MAX_SHARE ≡ max_share }
+    ensures base { MAX_BASE ≡ max_base }
+{}
 
 /// What one worker sent and took: two exact numbers, each at most [`MAX_SHARE`].
 #[derive(Debug, Drop)]

@@ -6,5 +6,5 @@
 mod book;
 mod totals;
 
-pub use book::{Book, MAX_BASE, MAX_SHARE, MAX_WORKERS, Share};
+pub use book::{Book, MAX_BASE, MAX_SHARE, MAX_WORKERS, Share, numbers_are_specified};
 pub use totals::{Sight, Totals};

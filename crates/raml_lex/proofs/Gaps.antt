@@ -7,30 +7,30 @@ use Rattle.std.specs.List.{list_all}
 use Rattle.std.proofs.lemmas.Bool.{eqb-true}
 use Rattle.std.proofs.lemmas.Bool.Decides.{nat_tests}
 use Rattle.meta_base.specs.Bytes.{is_line_feed, is_space}
-use Rattle.raml_lex.specs.Gaps.{gap_of, behind_gap, IsGap, IsLine}
+use Rattle.raml_lex.specs.Gaps.{gap_of, after_gap, IsGap, IsLine}
 
 -- a text is its gap and what comes after it
-pub gap_split : (b : Bool) (text : List ℕ) → gap_of b text ++ behind_gap b text ≡ text
+pub gap_split : (b : Bool) (text : List ℕ) → gap_of b text ++ after_gap b text ≡ text
 gap_split true [] = refl
 gap_split false [] = refl
 gap_split true (c ∷ cs) = ap (λ x. c ∷ x) (gap_split (not (is_line_feed c)) cs)
 gap_split false (c ∷ cs) = by (c == 35) (is_space c) (gap_split true cs) (gap_split false cs)
   where
-    by : (d e : Bool) → gap_of true cs ++ behind_gap true cs ≡ cs → gap_of false cs ++ behind_gap false cs ≡ cs
-        → cond d (c ∷ gap_of true cs) (cond e (c ∷ gap_of false cs) []) ++ cond d (behind_gap true cs) (cond e (behind_gap false cs) (c ∷ cs)) ≡ c ∷ cs
+    by : (d e : Bool) → gap_of true cs ++ after_gap true cs ≡ cs → gap_of false cs ++ after_gap false cs ≡ cs
+        → cond d (c ∷ gap_of true cs) (cond e (c ∷ gap_of false cs) []) ++ cond d (after_gap true cs) (cond e (after_gap false cs) (c ∷ cs)) ≡ c ∷ cs
     by true e h k = ap (λ x. c ∷ x) h
     by false true h k = ap (λ x. c ∷ x) k
     by false false h k = refl
 
 -- it is only spaces and whole comments
-pub gap_is_gap : (b : Bool) (text : List ℕ) → IsGap b (gap_of b text) (behind_gap b text)
+pub gap_is_gap : (b : Bool) (text : List ℕ) → IsGap b (gap_of b text) (after_gap b text)
 gap_is_gap true [] = refl
 gap_is_gap false [] = tt
 gap_is_gap true (c ∷ cs) = gap_is_gap (not (is_line_feed c)) cs
 gap_is_gap false (c ∷ cs) = by (c == 35) (is_space c) refl refl (gap_is_gap true cs) (gap_is_gap false cs)
   where
-    by : (d e : Bool) → (c == 35) ≡ d → is_space c ≡ e → IsGap true (gap_of true cs) (behind_gap true cs) → IsGap false (gap_of false cs) (behind_gap false cs)
-        → IsGap false (cond d (c ∷ gap_of true cs) (cond e (c ∷ gap_of false cs) [])) (cond d (behind_gap true cs) (cond e (behind_gap false cs) (c ∷ cs)))
+    by : (d e : Bool) → (c == 35) ≡ d → is_space c ≡ e → IsGap true (gap_of true cs) (after_gap true cs) → IsGap false (gap_of false cs) (after_gap false cs)
+        → IsGap false (cond d (c ∷ gap_of true cs) (cond e (c ∷ gap_of false cs) [])) (cond d (after_gap true cs) (cond e (after_gap false cs) (c ∷ cs)))
     by true e p q h k = inl (grind (arith, nat_tests), h)
     by false true p q h k = inr (q, k)
     by false false p q h k = tt
@@ -38,7 +38,7 @@ gap_is_gap false (c ∷ cs) = by (c == 35) (is_space c) refl refl (gap_is_gap tr
 -- a gap of a text goes on from one place to another
 pub record GapOver (cs : List ℕ) (i j : ℕ) : Type 0 where
   pub gap : take j cs ++ gap_of false (drop j cs) ≡ take i cs ++ gap_of false (drop i cs)
-  pub left : behind_gap false (drop j cs) ≡ behind_gap false (drop i cs)
+  pub left : after_gap false (drop j cs) ≡ after_gap false (drop i cs)
 
 no_mark : (c : ℕ) → is_space c ≡ true → (c == 35) ≡ false
 no_mark c h = by (c == 35) refl
@@ -55,16 +55,16 @@ over_space cs i h s =
     let gap : gap_of false (drop i cs) ≡ c ∷ gap_of false (drop (i + 1) cs) = at_drop_more (gap_of false) cs i 0 h ∙ rw (mark, s) refl in
     record {
       gap = ap (λ x. x ++ gap_of false (drop (i + 1) cs)) (take_more cs i 0 h) ∙ append_assoc (take i cs) (c ∷ []) (gap_of false (drop (i + 1) cs)) ∙ ap (λ x. take i cs ++ x) (sym gap);
-      left = sym (at_drop_more (behind_gap false) cs i 0 h ∙ rw (mark, s) refl);
+      left = sym (at_drop_more (after_gap false) cs i 0 h ∙ rw (mark, s) refl);
     }
 
 -- and ends at another byte
 pub at_other : (cs : List ℕ) (i : ℕ) → i < length cs → is_space (get_or cs i 0) ≡ false → (get_or cs i 0 == 35) ≡ false
-    → (gap_of false (drop i cs) ≡ []) × (behind_gap false (drop i cs) ≡ drop i cs)
-at_other cs i h s mark = (at_drop_more (gap_of false) cs i 0 h ∙ rw (mark, s) refl, at_drop_more (behind_gap false) cs i 0 h ∙ rw (mark, s) refl ∙ sym (drop_more cs i 0 h))
+    → (gap_of false (drop i cs) ≡ []) × (after_gap false (drop i cs) ≡ drop i cs)
+at_other cs i h s mark = (at_drop_more (gap_of false) cs i 0 h ∙ rw (mark, s) refl, at_drop_more (after_gap false) cs i 0 h ∙ rw (mark, s) refl ∙ sym (drop_more cs i 0 h))
 
 -- the bytes of a line in a comment
-line_read : (cs : List ℕ) (n : ℕ) → IsLine cs n → (gap_of true cs ≡ take n cs ++ gap_of false (drop n cs)) × (behind_gap true cs ≡ behind_gap false (drop n cs))
+line_read : (cs : List ℕ) (n : ℕ) → IsLine cs n → (gap_of true cs ≡ take n cs ++ gap_of false (drop n cs)) × (after_gap true cs ≡ after_gap false (drop n cs))
 line_read [] zero l = (refl, refl)
 line_read [] (suc n) l = (refl, refl)
 line_read (c ∷ cs) zero l =
@@ -76,7 +76,7 @@ line_read (c ∷ cs) (suc n) l =
     rw inside (ap (λ x. c ∷ x) more.0, more.1)
 
 -- a comment is a mark and the rest of its line
-comment_read : (cs : List ℕ) (n : ℕ) → IsLine cs n → 0 < length cs → get_or cs 0 0 ≡ 35 → (0 < n) × (gap_of false cs ≡ take n cs ++ gap_of false (drop n cs)) × (behind_gap false cs ≡ behind_gap false (drop n cs))
+comment_read : (cs : List ℕ) (n : ℕ) → IsLine cs n → 0 < length cs → get_or cs 0 0 ≡ 35 → (0 < n) × (gap_of false cs ≡ take n cs ++ gap_of false (drop n cs)) × (after_gap false cs ≡ after_gap false (drop n cs))
 comment_read [] n l some mark = absurd (omega arith)
 comment_read (c ∷ cs) zero l some mark = absurd (let feed = l.ends some in let other : is_line_feed c ≡ false = ap is_line_feed mark in cc)
 comment_read (c ∷ cs) (suc n) l some mark =
@@ -92,7 +92,7 @@ over_comment cs i n h mark l =
       record {
         gap = ap (λ x. x ++ gap_of false (drop (i + n) cs)) (take-add i n cs) ∙ append_assoc (take i cs) (take n (drop i cs)) (gap_of false (drop (i + n) cs))
             ∙ ap (λ x. take i cs ++ x) (ap (λ x. take n (drop i cs) ++ gap_of false x) (sym (drop-drop n i cs)) ∙ sym read.1);
-        left = ap (behind_gap false) (sym (drop-drop n i cs)) ∙ sym read.2;
+        left = ap (after_gap false) (sym (drop-drop n i cs)) ∙ sym read.2;
       },
     )
 
@@ -104,12 +104,12 @@ pub over_none : (cs : List ℕ) (i : ℕ) → GapOver cs i i
 over_none cs i = record { gap = refl; left = refl }
 
 -- where the gap ends it was read
-pub gap_over : (cs : List ℕ) (i j : ℕ) → GapOver cs i j → gap_of false (drop j cs) ≡ [] → behind_gap false (drop j cs) ≡ drop j cs
-    → (take j cs ≡ take i cs ++ gap_of false (drop i cs)) × (drop j cs ≡ behind_gap false (drop i cs))
+pub gap_over : (cs : List ℕ) (i j : ℕ) → GapOver cs i j → gap_of false (drop j cs) ≡ [] → after_gap false (drop j cs) ≡ drop j cs
+    → (take j cs ≡ take i cs ++ gap_of false (drop i cs)) × (drop j cs ≡ after_gap false (drop i cs))
 gap_over cs i j g none left = (sym (append-nil (take j cs)) ∙ ap (λ x. take j cs ++ x) (sym none) ∙ g.gap, sym left ∙ g.left)
 
 -- nothing is left at the end
-pub at_end : (cs : List ℕ) (i : ℕ) → length cs ≤ i → (gap_of false (drop i cs) ≡ []) × (behind_gap false (drop i cs) ≡ drop i cs)
+pub at_end : (cs : List ℕ) (i : ℕ) → length cs ≤ i → (gap_of false (drop i cs) ≡ []) × (after_gap false (drop i cs) ≡ drop i cs)
 at_end cs i h = let e : drop i cs ≡ [] = drop_of_length-le cs h in rw e (refl, refl)
 
 -- over several spaces

@@ -6,7 +6,7 @@ use Rattle.std.proofs.lemmas.List.{drop-drop, drop_more, length-take-le, take-ap
 use Rattle.meta_base.specs.declared.ids.Place.{Place}
 use Rattle.raml_lex.specs.declared.token.Token.{Token}
 use Rattle.raml_lex.specs.declared.token.LexFault.{LexFault}
-use Rattle.raml_lex.specs.Gaps.{gap_of, behind_gap}
+use Rattle.raml_lex.specs.Gaps.{gap_of, after_gap}
 use Rattle.raml_lex.specs.Lexers.{Found, Ended}
 use Rattle.raml_lex.specs.Places.{place_after, moved_over}
 use Rattle.meta_base.specs.Bytes.{is_line_feed}
@@ -90,10 +90,10 @@ all_in_line (c ∷ cs) zero h = refl
 all_in_line (c ∷ cs) (suc n) h = rw (h 0 (omega arith)) (all_in_line cs n (λ k l. h (suc k) (omega (arith, l))))
 
 -- nothing was left after the gap
-pub Ended-at : (s : List ℕ) (a b greatest : ℕ) (fault : Option LexFault) → fault ≡ None → take b s ≡ take a s ++ gap_of false (drop a s) → drop b s ≡ behind_gap false (drop a s) → drop b s ≡ []
+pub Ended-at : (s : List ℕ) (a b greatest : ℕ) (fault : Option LexFault) → fault ≡ None → take b s ≡ take a s ++ gap_of false (drop a s) → drop b s ≡ after_gap false (drop a s) → drop b s ≡ []
     → Ended (record { before = take a s; rest = drop a s; greatest = greatest; fault = fault }) (record { before = take b s; rest = drop b s; greatest = greatest; fault = fault })
 Ended-at s a b greatest fault none t d e =
-    let empty : behind_gap false (drop a s) ≡ [] = sym d ∙ e in
+    let empty : after_gap false (drop a s) ≡ [] = sym d ∙ e in
     let all : gap_of false (drop a s) ≡ drop a s = sym (append-nil (gap_of false (drop a s))) ∙ ap (λ x. gap_of false (drop a s) ++ x) (sym empty) ∙ gap_split false (drop a s) in
     record {
       no_fault = none;
@@ -104,12 +104,12 @@ Ended-at s a b greatest fault none t d e =
     }
 
 -- a token stood after the gap
-pub Found-at : (s : List ℕ) (a b n greatest : ℕ) (fault : Option LexFault) (t : Token) → fault ≡ None → take b s ≡ take a s ++ gap_of false (drop a s) → drop b s ≡ behind_gap false (drop a s) → IsWithin n (drop b s)
+pub Found-at : (s : List ℕ) (a b n greatest : ℕ) (fault : Option LexFault) (t : Token) → fault ≡ None → take b s ≡ take a s ++ gap_of false (drop a s) → drop b s ≡ after_gap false (drop a s) → IsWithin n (drop b s)
     → t.text.now ≡ take n (drop b s) → t.place ≡ place_after (take b s) → token (tok_of t.kind (take n (drop b s))) (drop n (drop b s)) ≡ token_at greatest (drop b s)
     → Found (record { before = take a s; rest = drop a s; greatest = greatest; fault = fault }) t (record { before = take (b + n) s; rest = drop (b + n) s; greatest = greatest; fault = fault })
 Found-at s a b n greatest fault t none before d w text place step =
     let rest : take n (drop b s) ++ drop n (drop b s) ≡ drop b s = take-append-drop n (drop b s) in
-    let left : t.text.now ++ drop (b + n) s ≡ behind_gap false (drop a s) = ap (λ x. x ++ drop (b + n) s) text ∙ ap (λ x. take n (drop b s) ++ x) (sym (drop-drop n b s)) ∙ rest ∙ d in
+    let left : t.text.now ++ drop (b + n) s ≡ after_gap false (drop a s) = ap (λ x. x ++ drop (b + n) s) text ∙ ap (λ x. take n (drop b s) ++ x) (sym (drop-drop n b s)) ∙ rest ∙ d in
     record {
       no_fault = none;
       step = ap (token_at greatest) (sym d) ∙ sym step ∙ ap (λ x. token (tok_of t.kind x) (drop n (drop b s))) (sym text) ∙ ap (λ x. token (tok_of t.kind t.text.now) x) (drop-drop n b s);

@@ -11,10 +11,10 @@ gap_of true (c ∷ cs) = c ∷ gap_of (not (is_line_feed c)) cs
 gap_of false (c ∷ cs) = if c == 35 then c ∷ gap_of true cs else (if is_space c then c ∷ gap_of false cs else [])
 
 -- what comes after them
-abbrev pub behind_gap : Bool → List ℕ → List ℕ
-behind_gap in_comment [] = []
-behind_gap true (c ∷ cs) = behind_gap (not (is_line_feed c)) cs
-behind_gap false (c ∷ cs) = if c == 35 then behind_gap true cs else (if is_space c then behind_gap false cs else c ∷ cs)
+abbrev pub after_gap : Bool → List ℕ → List ℕ
+after_gap in_comment [] = []
+after_gap true (c ∷ cs) = after_gap (not (is_line_feed c)) cs
+after_gap false (c ∷ cs) = if c == 35 then after_gap true cs else (if is_space c then after_gap false cs else c ∷ cs)
 
 -- all that stands before a place, and the gap there
 abbrev pub passed_at : List ℕ → ℕ → List ℕ

@@ -1,5 +1,5 @@
 -- Where a reader of tokens stands in its source.
-use Rattle.meta_base.specs.declared.limits.TheConstants.{MAX_FILE_BYTES}
+use Rattle.meta_base.specs.Numbers.{max_file_bytes}
 use Rattle.std.specs.Prelude.{◌≡◌, ℕ, ◌+◌, ◌-◌, ◌≤◌, List, length, take}
 use Rattle.meta_base.specs.declared.ids.Place.{Place}
 use Rattle.raml_lex.specs.Places.{place_after}
@@ -7,7 +7,7 @@ use Rattle.raml_lex.specs.declared.cursor.Cursor.{Cursor}
 
 -- it stands within a source that isn't too long, and its place is right
 pub record IsSource (source : List ℕ) (at : ℕ) (here : Place) : Type 0 where
-  pub short : length source ≤ MAX_FILE_BYTES
+  pub short : length source ≤ max_file_bytes
   pub within : at ≤ length source
   pub place : here ≡ place_after (take at source)
 

@@ -2,8 +2,8 @@
 use Rattle.std.specs.Prelude.{◌≡◌, ℕ, List, [], ◌∷◌, false, ◌==◌, nat_le, if◌then◌else◌}
 use Rattle.raml_lex.specs.declared.token.LexKind.{LexKind}
 use Rattle.raml_lex.specs.declared.token.LexKind.TheVariants.{BadByte, NumberTooLarge}
-use Rattle.meta_base.specs.Bytes.{is_digit, is_letter, is_word_byte, front, behind, number_from}
-use Rattle.raml_lex.specs.Gaps.{behind_gap}
+use Rattle.meta_base.specs.Bytes.{is_digit, is_letter, is_word_byte, front, after_front, number_from}
+use Rattle.raml_lex.specs.Gaps.{after_gap}
 
 -- a token: a word with its bytes, a number with its value, or a mark
 pub data Tok : Type 0 where
@@ -56,13 +56,13 @@ mark_at c cs =
 abbrev pub token_at : ℕ → List ℕ → Step
 token_at greatest [] = end
 token_at greatest (c ∷ cs) =
-    if is_letter c then token (word (front is_word_byte (c ∷ cs))) (behind is_word_byte (c ∷ cs)) else
-    (if is_digit c then number_at greatest (front is_digit (c ∷ cs)) (behind is_digit (c ∷ cs)) else
+    if is_letter c then token (word (front is_word_byte (c ∷ cs))) (after_front is_word_byte (c ∷ cs)) else
+    (if is_digit c then number_at greatest (front is_digit (c ∷ cs)) (after_front is_digit (c ∷ cs)) else
     mark_at c cs)
 
 -- spaces and comments are skipped, and the longest token is taken
 abbrev pub step_of : ℕ → List ℕ → Step
-step_of greatest text = token_at greatest (behind_gap false text)
+step_of greatest text = token_at greatest (after_gap false text)
 
 -- these are the tokens of the text, all of it
 abbrev pub Lexes : ℕ → List Tok → List ℕ → Type 0

@@ -1,15 +1,15 @@
 // The longest fronts of one kind of bytes.
 ghost use Rattle.std.specs.Prelude.{◌≡◌, ◌+◌, ◌-◌, ◌*◌, ◌<◌, ◌≤◌, take, drop, length, nat_le, Some, None, if◌then◌else◌};
-ghost use Rattle.meta_base.specs.Bytes.{is_digit, is_word_byte, front, behind};
+ghost use Rattle.meta_base.specs.Bytes.{is_digit, is_word_byte, front, after_front};
 ghost use Rattle.raml_lex.specs.Numbers.{SpellsAtMost, at_most};
 
 use meta_base::bytes::{is_digit, is_word_byte};
 
-// How many bytes of a word stand at the front.
+/// How many bytes of a word stand at the front.
 pub fn word_len(text: &[u8]) -> usize
     ensures within { result ≤ length text.now }
     ensures front { take result text.now ≡ front is_word_byte text.now }
-    ensures behind { drop result text.now ≡ behind is_word_byte text.now }
+    ensures after_front { drop result text.now ≡ after_front is_word_byte text.now }
 {
     let mut len = 0;
     for byte in text {
@@ -34,7 +34,7 @@ fn with_digit(number: u64, digit: u8, greatest: u64) -> Option<u64>
     }
 }
 
-// The number that the digits at the front spell and how many they are, if it is at most the greatest.
+/// The number that the digits at the front spell and how many they are, if it is at most the greatest.
 pub fn number_at_front(text: &[u8], greatest: u64) -> Option<(u64, usize)>
     ensures { SpellsAtMost greatest text.now result }
 {

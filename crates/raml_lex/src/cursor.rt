@@ -5,8 +5,8 @@ ghost use Rattle.raml_lex.specs.Sources.{place_at};
 
 use meta_base::Place;
 
-// How many bytes of the source were taken, the line there, and how many bytes stand before that line. The
-// column follows from these, so no byte of a gap is counted.
+/// How many bytes of the source were taken, the line there, and how many bytes stand before that line. The
+/// column follows from these, so no byte of a gap is counted.
 #[derive(Clone, Copy, Debug)]
 pub struct Cursor {
     pub at: usize,
@@ -15,7 +15,7 @@ pub struct Cursor {
 }
 
 impl Cursor {
-    // The front of a source.
+    /// The front of a source.
     pub fn new() -> Cursor
         ensures { result ≡ record { at = 0; line = 1; line_start = 0 } }
     {
@@ -26,7 +26,7 @@ impl Cursor {
         }
     }
 
-    // The place there.
+    /// The place there.
     pub fn place(self) -> Place
         requires start { self.line_start ≤ self.at }
         requires end { FitsPlace (self.at + 1) }
@@ -38,8 +38,8 @@ impl Cursor {
         }
     }
 
-    // So many bytes on, none of which is a line feed.
-    pub fn behind(self, count: usize) -> Cursor
+    /// So many bytes on, none of which is a line feed.
+    pub fn after(self, count: usize) -> Cursor
         requires { FitsPlace (self.at + count) }
         ensures { result ≡ record self { at = self.at + count } }
     {
@@ -50,7 +50,7 @@ impl Cursor {
         }
     }
 
-    // After a line feed.
+    /// After a line feed.
     pub fn on_next_line(self) -> Cursor
         requires byte { FitsPlace (self.at + 1) }
         requires line { FitsPlace (self.line + 1) }

@@ -7,7 +7,7 @@ use crate::bytes::{number_at_front, word_len};
 use crate::{LexKind, TokenKind};
 use meta_base::bytes::{is_digit, is_letter};
 
-// What stands at the front: nothing, a fault, or a token with the number of its bytes.
+/// What stands at the front: nothing, a fault, or a token with the number of its bytes.
 #[derive(Clone, Copy, Debug)]
 pub enum Front {
     End,
@@ -15,7 +15,7 @@ pub enum Front {
     Found(TokenKind, usize),
 }
 
-// The longest token of a text that begins with no space and no comment.
+/// The longest token of a text that begins with no space and no comment.
 pub fn token_at_front(text: &[u8], greatest: u64) -> Front
     ensures step { step_for result text.now ≡ token_at greatest text.now }
     ensures fits { Fits result text.now }

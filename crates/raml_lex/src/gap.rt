@@ -2,7 +2,7 @@
 ghost use Rattle.std.specs.Prelude.{◌≡◌, ◌+◌, ◌<◌, ◌≤◌, ◌^◌, ◌++◌, false, take, drop, length, count_by, slice_index};
 ghost use Rattle.std.specs.List.{list_all};
 ghost use Rattle.meta_base.specs.Bytes.{is_space, is_line_feed};
-ghost use Rattle.raml_lex.specs.Gaps.{passed_at, gap_of, behind_gap, IsLine};
+ghost use Rattle.raml_lex.specs.Gaps.{passed_at, gap_of, after_gap, IsLine};
 ghost use Rattle.raml_lex.specs.Places.{FitsPlace};
 ghost use Rattle.raml_lex.specs.Sources.{IsCursor};
 
@@ -21,17 +21,17 @@ fn line_len(text: &[u8]) -> usize
 }
 
 // The end of the comment that begins there: the line feed of its line, or the end of the source.
-fn behind_comment(source: &[u8], here: Cursor) -> Cursor
+fn after_comment(source: &[u8], here: Cursor) -> Cursor
     requires cursor { IsCursor source.now here }
     requires within { here.at < length source.now }
     requires mark { slice_index source.now here.at ≡ 35 }
     ensures cursor { IsCursor source.now result }
     ensures further { here.at < result.at }
     ensures gap { passed_at source.now result.at ≡ passed_at source.now here.at }
-    ensures behind { behind_gap false (drop result.at source.now) ≡ behind_gap false (drop here.at source.now) }
+    ensures after { after_gap false (drop result.at source.now) ≡ after_gap false (drop here.at source.now) }
 {
     let (_, comment) = source.split_at(here.at);
-    here.behind(line_len(comment))
+    here.after(line_len(comment))
 }
 
 // How many bytes of a long run of spaces are passed together. A short run, as between most tokens, is passed
@@ -62,7 +62,7 @@ fn line_feeds(bytes: &[u8]) -> u32
 }
 
 // After these bytes, which stand there.
-fn behind_bytes(source: &[u8], here: Cursor, bytes: &[u8]) -> Cursor
+fn after_bytes(source: &[u8], here: Cursor, bytes: &[u8]) -> Cursor
     requires cursor { IsCursor source.now here }
     requires bytes { take (length bytes.now) (drop here.at source.now) ≡ bytes.now }
     requires within { length bytes.now ≤ length (drop here.at source.now) }
@@ -75,17 +75,17 @@ fn behind_bytes(source: &[u8], here: Cursor, bytes: &[u8]) -> Cursor
             line: here.line + line_feeds(bytes),
             line_start: here.at + last + 1,
         },
-        None => here.behind(bytes.len()),
+        None => here.after(bytes.len()),
     }
 }
 
 // After all whole blocks of spaces that stand from here on.
-fn behind_blocks(source: &[u8], from: Cursor) -> Cursor
+fn after_blocks(source: &[u8], from: Cursor) -> Cursor
     requires { IsCursor source.now from }
     ensures cursor { IsCursor source.now result }
     ensures further { from.at ≤ result.at }
     ensures gap { passed_at source.now result.at ≡ passed_at source.now from.at }
-    ensures behind { behind_gap false (drop result.at source.now) ≡ behind_gap false (drop from.at source.now) }
+    ensures after { after_gap false (drop result.at source.now) ≡ after_gap false (drop from.at source.now) }
 {
     let mut here = from;
     while source.len() - here.at >= BLOCK {
@@ -93,17 +93,17 @@ fn behind_blocks(source: &[u8], from: Cursor) -> Cursor
         if !are_spaces(block) {
             break;
         }
-        here = behind_bytes(source, here, block);
+        here = after_bytes(source, here, block);
     }
     here
 }
 
-// Where the spaces and comments end that stand from here on.
+/// Where the spaces and comments end that stand from here on.
 pub fn gap_end(source: &[u8], from: Cursor) -> Cursor
     requires { IsCursor source.now from }
     ensures cursor { IsCursor source.now result }
     ensures gap { take result.at source.now ≡ take from.at source.now ++ gap_of false (drop from.at source.now) }
-    ensures behind { drop result.at source.now ≡ behind_gap false (drop from.at source.now) }
+    ensures after { drop result.at source.now ≡ after_gap false (drop from.at source.now) }
 {
     let mut here = from;
     let mut run = 0;
@@ -112,15 +112,15 @@ pub fn gap_end(source: &[u8], from: Cursor) -> Cursor
         if byte == b'\n' {
             here = here.on_next_line();
         } else if is_space(byte) {
-            here = here.behind(1);
+            here = here.after(1);
         } else if byte == b'#' {
-            here = behind_comment(source, here);
+            here = after_comment(source, here);
         } else {
             break;
         }
         run += 1;
         if run == BLOCK {
-            here = behind_blocks(source, here);
+            here = after_blocks(source, here);
             run = 0;
         }
     }

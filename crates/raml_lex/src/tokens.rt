@@ -108,7 +108,7 @@ impl<'a> Tokens<'a> {
                 Some(Err(fault))
             }
             Front::Found(kind, len) => {
-                self.here = start.behind(len);
+                self.here = start.after(len);
                 let (text, _) = text.split_at(len);
                 Some(Ok(Token {
                     kind,

@@ -18,9 +18,9 @@ diverging_differ (here n) y z h = n cc
 diverging_differ (next d) y z h = diverging_differ d y z cc
 
 -- they stay so after the same marks
-pub behind : (ps : List Mark) {xs ys : List Mark} → Diverges xs ys → Diverges (ps ++ xs) (ps ++ ys)
-behind [] d = d
-behind (p ∷ ps) d = next (behind ps d)
+pub after : (ps : List Mark) {xs ys : List Mark} → Diverges xs ys → Diverges (ps ++ xs) (ps ++ ys)
+after [] d = d
+after (p ∷ ps) d = next (after ps d)
 
 -- two trees are the same, or the marks that they begin diverge
 pub data Compared (P : Type 0) (xs ys : List Mark) : Type 0 where
@@ -51,7 +51,7 @@ compared_last f a b (inr n) = apart (here n)
 -- marks on each side, and then what depends on them, in brackets to the right
 then_joined : {A P : Type 0} (f g : A → List Mark) (xs : List Mark) (a b : A) → Compared (a ≡ b) (f a ++ xs) (f b ++ g b) → Compared P xs (g a) → Compared ((a ≡ b) × P) (f a ++ xs) (f b ++ g b)
 then_joined f g xs a b (same e) (same p) = same (e, p)
-then_joined f g xs a b (same e) (apart d) = apart (subst (λ x. Diverges (f a ++ xs) (f x ++ g x)) e (behind (f a) d))
+then_joined f g xs a b (same e) (apart d) = apart (subst (λ x. Diverges (f a ++ xs) (f x ++ g x)) e (after (f a) d))
 then_joined f g xs a b (apart d) c = apart d
 
 -- marks on each side, and then what depends on them

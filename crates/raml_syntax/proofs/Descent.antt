@@ -22,45 +22,45 @@ use Rattle.raml_syntax.specs.Marks.{Mark, plain, counted_to, name_mark, last_num
 use Rattle.raml_syntax.specs.Tests.{is_same_carrier}
 use Rattle.raml_syntax.specs.Productions.{toks, Begins, Refuses, FaultAt}
 use Rattle.raml_syntax.specs.Reading.{TakesOne}
-use Rattle.raml_syntax.specs.Leaves.{TakesAt, Lacks, IsRefusal, IsTok, IsWord}
+use Rattle.raml_syntax.specs.Leaves.{TakesAt, Misses, IsRefusal, IsTok, IsWord}
 use Rattle.raml_syntax.specs.Sequences.{Nothing, One, Then, Reads, IsDetermined, IsPossible, map_ok}
 use Rattle.raml_syntax.specs.Trees.{Table, Expr}
 use Rattle.raml_syntax.specs.Definitions.{ReadAs}
 use Rattle.raml_syntax.specs.Heads.{ranged_of, counted_of, paired_of, single_of, head_word}
-use Rattle.raml_syntax.specs.Forms.{Behind, NumberBefore, Last, RangedTail, CountedTail, TableTail, Closed, PairedTail, SingleTail, Tail, Resolves}
+use Rattle.raml_syntax.specs.Forms.{After, NumberBefore, Last, RangedTail, CountedTail, TableTail, Closed, PairedTail, SingleTail, Tail, Resolves}
 use Rattle.raml_syntax.proofs.Sequences.{reads_inside, reads_then, reads_not_first, one_determined, then_possible}
-use Rattle.raml_syntax.proofs.OneToken.{one_good, one_bad, one_lacks}
+use Rattle.raml_syntax.proofs.OneToken.{one_good, one_bad, one_misses}
 use Rattle.raml_syntax.proofs.Expressions.{for_name, for_add, for_ranged, for_counted, for_gate, for_table, for_paired, for_single, heads, head_in, head_of, first_word, head_first, starts, expr_determined}
 use Rattle.raml_syntax.proofs.Expressions as form
 use Rattle.raml_syntax.proofs.TestLaws.{same_carrier, carrier_self}
-use Rattle.raml_syntax.proofs.Behind.{nothing_possible, reads_nothing, behind_determined, behind_possible}
+use Rattle.raml_syntax.proofs.After.{nothing_possible, reads_nothing, following_determined, following_possible}
 
 -- The parts of what stands after a head, and what they make.
 
-behind_is : {R : Type 0} (t : Tok) (P : R → List Mark → Type 0) (r : R) (ms : List Mark) → Behind t P r ms → (xs : List Mark) × P r xs × (ms ≡ plain t ∷ xs)
-behind_is t P r ms (u, xs, ys, p, q, e) = (ys, q, e ∙ ap (λ l. l ++ ys) p)
+following_is : {R : Type 0} (t : Tok) (P : R → List Mark → Type 0) (r : R) (ms : List Mark) → After t P r ms → (xs : List Mark) × P r xs × (ms ≡ plain t ∷ xs)
+following_is t P r ms (u, xs, ys, p, q, e) = (ys, q, e ∙ ap (λ l. l ++ ys) p)
 
-behind_at : {R : Type 0} (t : Tok) (P : R → List Mark → Type 0) (r : R) (ms : List Mark) → P r ms → Behind t P r (plain t ∷ ms)
-behind_at t P r ms p = (tt, plain t ∷ [], ms, refl, p, refl)
+following_at : {R : Type 0} (t : Tok) (P : R → List Mark → Type 0) (r : R) (ms : List Mark) → P r ms → After t P r (plain t ∷ ms)
+following_at t P r ms p = (tt, plain t ∷ [], ms, refl, p, refl)
 
 joined : (ms xs ys us vs : List Mark) → ms ≡ xs ++ ys → xs ≡ us → ys ≡ vs → ms ≡ us ++ vs
 joined ms xs ys us vs e p q = e ∙ ap₂ (λ a b. a ++ b) p q
 
 number_before_is : (t : Tok) (n : ℕ) (ms : List Mark) → NumberBefore t n ms → ms ≡ plain (number n) ∷ plain t ∷ []
 number_before_is t n ms (m, xs, ys, p, q, e) =
-    let b = behind_is t (Nothing m) n ys q in
+    let b = following_is t (Nothing m) n ys q in
     joined ms xs ys (plain (number m) ∷ []) (plain t ∷ []) e p (b.2 ∙ ap (λ l. plain t ∷ l) b.1.1) ∙ ap (λ i. plain (number i) ∷ plain t ∷ []) (sym b.1.0)
 
 number_before_at : (t : Tok) (n : ℕ) → NumberBefore t n (plain (number n) ∷ plain t ∷ [])
-number_before_at t n = (n, plain (number n) ∷ [], plain t ∷ [], refl, behind_at t (Nothing n) n [] (refl, refl), refl)
+number_before_at t n = (n, plain (number n) ∷ [], plain t ∷ [], refl, following_at t (Nothing n) n [] (refl, refl), refl)
 
 last_is : (f : ℕ → Expression) (a : Expression) (ms : List Mark) → Last f a ms → (n : ℕ) × (a ≡ f n) × (ms ≡ last_number n (f n) ∷ plain right_paren ∷ [])
 last_is f a ms (n, xs, ys, p, q, e) =
-    let b = behind_is right_paren (Nothing (f n)) a ys q in
+    let b = following_is right_paren (Nothing (f n)) a ys q in
     (n, b.1.0, joined ms xs ys (last_number n (f n) ∷ []) (plain right_paren ∷ []) e p (b.2 ∙ ap (λ l. plain right_paren ∷ l) b.1.1))
 
 last_at : (f : ℕ → Expression) (n : ℕ) → Last f (f n) (last_number n (f n) ∷ plain right_paren ∷ [])
-last_at f n = (n, last_number n (f n) ∷ [], plain right_paren ∷ [], refl, behind_at right_paren (Nothing (f n)) (f n) [] (refl, refl), refl)
+last_at f n = (n, last_number n (f n) ∷ [], plain right_paren ∷ [], refl, following_at right_paren (Nothing (f n)) (f n) [] (refl, refl), refl)
 
 closed_is : (k : Paired) (a b c : Expression) (ms : List Mark) → Closed k a b c ms → (c ≡ paired_meaning k a b) × (ms ≡ closing k a b ∷ [])
 closed_is k a b c ms (u, xs, ys, p, q, e) = (q.0, joined ms xs ys (closing k a b ∷ []) [] e p q.1)
@@ -69,7 +69,7 @@ closed_is k a b c ms (u, xs, ys, p, q, e) = (q.0, joined ms xs ys (closing k a b
 
 put_head : (ds : List Definition) (n : ℕ) (d : Head) (r : Expression) (ms : List Mark) → Tail ds (n + 1) d r ms → Expr ds n r (counted_to (n + 1) (head_word d) ∷ ms)
 put_head ds n h.Add r ms t =
-    let b = behind_is left_paren (Then (NumberBefore dots) (λ low. Last (add low))) r ms t in
+    let b = following_is left_paren (Then (NumberBefore dots) (λ low. Last (add low))) r ms t in
     let low = b.1.0 in
     let l = last_is (add low) r b.1.2 b.1.4 in
     record {
@@ -81,7 +81,7 @@ put_head ds n h.Add r ms t =
     }
 put_head ds n (h.Ranged k) r ms t =
     let f = ranged_meaning (ranged_of k) in
-    let b = behind_is left_paren (Then (NumberBefore semicolon) (λ top. Then (NumberBefore dots) (λ low. Last (f top low)))) r ms t in
+    let b = following_is left_paren (Then (NumberBefore semicolon) (λ top. Then (NumberBefore dots) (λ low. Last (f top low)))) r ms t in
     let top = b.1.0 in
     let c = b.1.4 in
     let low = c.0 in
@@ -97,7 +97,7 @@ put_head ds n (h.Ranged k) r ms t =
     }
 put_head ds n (h.Counted k) r ms t =
     let f = counted_meaning (counted_of k) in
-    let b = behind_is left_paren (Last f) r ms t in
+    let b = following_is left_paren (Last f) r ms t in
     let l = last_is f r b.0 b.1 in
     record {
       syntax = counted (counted_of k) l.0;
@@ -119,8 +119,8 @@ put_head ds n h.Table r ms t = record {
 }
 put_head ds n (h.Paired k) r ms (a, us, vs, pa, (b, us2, vs2, pb, c, e2), e) =
     let i = paired_of k in
-    let first = behind_is left_paren (Expr ds (n + 1)) a us pa in
-    let second = behind_is comma (Expr ds (n + 1 + node_count a)) b us2 pb in
+    let first = following_is left_paren (Expr ds (n + 1)) a us pa in
+    let second = following_is comma (Expr ds (n + 1 + node_count a)) b us2 pb in
     let s = first.1.syntax in
     let u = second.1.syntax in
     let last = closed_is i a b r vs2 c in
@@ -136,9 +136,9 @@ put_head ds n (h.Paired k) r ms (a, us, vs, pa, (b, us2, vs2, pb, c, e2), e) =
     }
 put_head ds n (h.Single k) r ms (a, us, vs, pa, c, e) =
     let i = single_of k in
-    let first = behind_is left_paren (Expr ds (n + 1)) a us pa in
+    let first = following_is left_paren (Expr ds (n + 1)) a us pa in
     let s = first.1.syntax in
-    let last = behind_is right_paren (Nothing (single_meaning i a)) r vs c in
+    let last = following_is right_paren (Nothing (single_meaning i a)) r vs c in
     record {
       syntax = single i s;
       is_syntax = first.1.is_syntax;
@@ -196,25 +196,25 @@ word_form (h.Paired k) = head_first (some_of (h.Paired k)) (some_is (h.Paired k)
 word_form (h.Single k) = head_first (some_of (h.Single k)) (some_is (h.Single k))
 
 -- what stands after the head of a tree of this form
-abbrev BehindHead : List Definition → ℕ → Head → Syntax → Type 0
-BehindHead ds n d s = (xs : List Mark) × Tail ds (n + 1) d (meaning ds s) xs × (marks ds n s ≡ counted_to (n + 1) (head_word d) ∷ xs)
+abbrev FollowingHead : List Definition → ℕ → Head → Syntax → Type 0
+FollowingHead ds n d s = (xs : List Mark) × Tail ds (n + 1) d (meaning ds s) xs × (marks ds n s ≡ counted_to (n + 1) (head_word d) ∷ xs)
 
-add_parts : (ds : List Definition) (n low high : ℕ) → BehindHead ds n h.Add (add_syntax low high)
+add_parts : (ds : List Definition) (n low high : ℕ) → FollowingHead ds n h.Add (add_syntax low high)
 add_parts ds n low high =
-    (_, behind_at left_paren (Then (NumberBefore dots) (λ l. Last (add l))) (add low high) _ (low, _, _, number_before_at dots low, last_at (add low) high, refl), refl)
+    (_, following_at left_paren (Then (NumberBefore dots) (λ l. Last (add l))) (add low high) _ (low, _, _, number_before_at dots low, last_at (add low) high, refl), refl)
 
 ranged_parts : (ds : List Definition) (n : ℕ) (k : Ranged) (top low high : ℕ)
     → (xs : List Mark) × RangedTail k (ranged_meaning k top low high) xs × (marks ds n (ranged k top low high) ≡ counted_to (n + 1) (first_word (ranged k top low high)) ∷ xs)
 ranged_parts ds n k top low high = (
   _,
-  behind_at left_paren (Then (NumberBefore semicolon) (λ t. Then (NumberBefore dots) (λ l. Last (ranged_meaning k t l)))) (ranged_meaning k top low high) _
+  following_at left_paren (Then (NumberBefore semicolon) (λ t. Then (NumberBefore dots) (λ l. Last (ranged_meaning k t l)))) (ranged_meaning k top low high) _
       (top, _, _, number_before_at semicolon top, (low, _, _, number_before_at dots low, last_at (ranged_meaning k top low) high, refl), refl),
   refl,
 )
 
 counted_parts : (ds : List Definition) (n : ℕ) (k : Counted) (count : ℕ)
     → (xs : List Mark) × CountedTail k (counted_meaning k count) xs × (marks ds n (counted k count) ≡ counted_to (n + 1) (first_word (counted k count)) ∷ xs)
-counted_parts ds n k count = (_, behind_at left_paren (Last (counted_meaning k)) (counted_meaning k count) _ (last_at (counted_meaning k) count), refl)
+counted_parts ds n k count = (_, following_at left_paren (Last (counted_meaning k)) (counted_meaning k count) _ (last_at (counted_meaning k) count), refl)
 
 whole : (ds : List Definition) (n : ℕ) (s : Syntax) → IsSyntax s → Expr ds n (meaning ds s) (marks ds n s)
 whole ds n s p = record { syntax = s; is_syntax = p; means = refl; marks = refl }
@@ -229,12 +229,12 @@ paired_parts ds n k s u p q =
         a,
         plain left_paren ∷ marks ds (n + 1) s,
         plain comma ∷ (marks ds (n + 1 + node_count a) u ++ closing k a b ∷ []),
-        behind_at left_paren (Expr ds (n + 1)) a (marks ds (n + 1) s) (whole ds (n + 1) s p),
+        following_at left_paren (Expr ds (n + 1)) a (marks ds (n + 1) s) (whole ds (n + 1) s p),
         (
           b,
           plain comma ∷ marks ds (n + 1 + node_count a) u,
           closing k a b ∷ [],
-          behind_at comma (Expr ds (n + 1 + node_count a)) b (marks ds (n + 1 + node_count a) u) (whole ds (n + 1 + node_count a) u q),
+          following_at comma (Expr ds (n + 1 + node_count a)) b (marks ds (n + 1 + node_count a) u) (whole ds (n + 1 + node_count a) u q),
           (tt, closing k a b ∷ [], [], refl, (refl, refl), refl),
           refl,
         ),
@@ -252,14 +252,14 @@ single_parts ds n k s p =
         a,
         plain left_paren ∷ marks ds (n + 1) s,
         plain right_paren ∷ [],
-        behind_at left_paren (Expr ds (n + 1)) a (marks ds (n + 1) s) (whole ds (n + 1) s p),
-        behind_at right_paren (Nothing (single_meaning k a)) (single_meaning k a) [] (refl, refl),
+        following_at left_paren (Expr ds (n + 1)) a (marks ds (n + 1) s) (whole ds (n + 1) s p),
+        following_at right_paren (Nothing (single_meaning k a)) (single_meaning k a) [] (refl, refl),
         refl,
       ),
       refl,
     )
 
-tail_parts : (ds : List Definition) (n : ℕ) (d : Head) (s : Syntax) → IsSyntax s → head_of s ≡ form_of d → BehindHead ds n d s
+tail_parts : (ds : List Definition) (n : ℕ) (d : Head) (s : Syntax) → IsSyntax s → head_of s ≡ form_of d → FollowingHead ds n d s
 tail_parts ds n h.Add (add_syntax low high) p e = add_parts ds n low high
 tail_parts ds n (h.Ranged k) (ranged j top low high) p e =
     let same : j ≡ ranged_of k = cc in
@@ -279,7 +279,7 @@ tail_parts ds n (h.Single k) (single j s) p e =
 tail_parts ds n _ _ p e = absurd (cc)
 
 -- a tree whose marks begin with a head's word is of the head's form
-head_parts : (ds : List Definition) (n : ℕ) (d : Head) (s : Syntax) → IsSyntax s → (y z : List Tok) → toks (marks ds n s) ++ y ≡ word (head_word d) ∷ z → BehindHead ds n d s
+head_parts : (ds : List Definition) (n : ℕ) (d : Head) (s : Syntax) → IsSyntax s → (y z : List Tok) → toks (marks ds n s) ++ y ≡ word (head_word d) ∷ z → FollowingHead ds n d s
 head_parts ds n d s p y z h =
     let b = starts ds n s in
     let e : toks (b.0 ∷ b.1) ++ y ≡ word (head_word d) ∷ z = ap (λ l. toks l ++ y) (sym b.2) ∙ h in
@@ -297,28 +297,28 @@ pub expr_possible : (ds : List Definition) (n : ℕ) → IsPossible (Expr ds n)
 expr_possible ds n = (gate, counted_to (n + 1) (codes "gate") ∷ [], whole ds n gate_syntax tt)
 
 expr_refuses : (ds : List Definition) (n : ℕ) (t : Tok) → (IsWord t → ⊥) → Refuses (Expr ds n) [] t
-expr_refuses ds n t lacks r ms y z p h =
+expr_refuses ds n t misses r ms y z p h =
     let s = starts ds n p.syntax in
     let e : toks (s.0 ∷ s.1) ++ y ≡ t ∷ z = ap (λ l. toks l ++ y) (sym (p.marks ∙ s.2)) ∙ h in
     let same : s.0.tok ≡ t = cc in
-    lacks (first_word p.syntax, sym same ∙ s.3)
+    misses (first_word p.syntax, sym same ∙ s.3)
 
-expr_lacking : (ds : List Definition) (n : ℕ) (s : Step) (k : ExprKind) → Lacks IsWord s k → FaultAt (Expr ds n) [] s k
-expr_lacking ds n end k l = (l, expr_begins ds n)
-expr_lacking ds n (bad lex.BadByte) k l = (l, expr_begins ds n)
-expr_lacking ds n (bad lex.NumberTooLarge) k l = inr (l, expr_begins ds n, λ m. expr_refuses ds n (number m) (λ w. let e = w.1 in cc))
-expr_lacking ds n (token t rest) k l = inr (l.0, expr_begins ds n, expr_refuses ds n t l.1)
+expr_missing : (ds : List Definition) (n : ℕ) (s : Step) (k : ExprKind) → Misses IsWord s k → FaultAt (Expr ds n) [] s k
+expr_missing ds n end k l = (l, expr_begins ds n)
+expr_missing ds n (bad lex.BadByte) k l = (l, expr_begins ds n)
+expr_missing ds n (bad lex.NumberTooLarge) k l = inr (l, expr_begins ds n, λ m. expr_refuses ds n (number m) (λ w. let e = w.1 in cc))
+expr_missing ds n (token t rest) k l = inr (l.0, expr_begins ds n, expr_refuses ds n t l.1)
 
 -- no word stands there
-pub expr_lacks : (ds : List Definition) (n : ℕ) (old new : Lexer) (e : AlgError) → IsRefusal (Lacks IsWord) old e → Reads (Expr ds n) old (Err e) new
-expr_lacks ds n old new (Bad f) l = record {
+pub expr_misses : (ds : List Definition) (n : ℕ) (old new : Lexer) (e : AlgError) → IsRefusal (Misses IsWord) old e → Reads (Expr ds n) old (Err e) new
+expr_misses ds n old new (Bad f) l = record {
   front = [];
   at = old;
   taken = refl;
   place = l.0;
-  shows = expr_lacking ds n (step_of old.greatest old.rest) f.kind l.1;
+  shows = expr_missing ds n (step_of old.greatest old.rest) f.kind l.1;
 }
-expr_lacks ds n old new NoMemory l = absurd l
+expr_misses ds n old new NoMemory l = absurd l
 
 -- a fault stands at the word
 expr_bad : (ds : List Definition) (n : ℕ) (w : List ℕ) (k : ExprKind) (p : Place) (old mid new : Lexer) (r : Expression) (more : List Mark)
@@ -387,10 +387,10 @@ closing_tok plus_head a b = refl
 pub closed_possible : (k : Paired) (a b : Expression) → IsPossible (Closed k a b)
 closed_possible k a b = (paired_meaning k a b, closing k a b ∷ [], (tt, closing k a b ∷ [], [], refl, (refl, refl), refl))
 
-pub closed_lacks : (k : Paired) (a b : Expression) (old new : Lexer) (e : AlgError) → IsRefusal (Lacks (IsTok right_paren)) old e → Reads (Closed k a b) old (Err e) new
-closed_lacks k a b old new e l =
+pub closed_misses : (k : Paired) (a b : Expression) (old new : Lexer) (e : AlgError) → IsRefusal (Misses (IsTok right_paren)) old e → Reads (Closed k a b) old (Err e) new
+closed_misses k a b old new e l =
     reads_not_first (One (λ (u : Unit {0}). closing k a b)) (λ (u : Unit {0}). Nothing (paired_meaning k a b)) old new e (λ u. nothing_possible (paired_meaning k a b))
-    (one_lacks (λ (u : Unit {0}). closing k a b) tt (IsTok right_paren) e old new (λ u. closing_tok k a b) (λ n f. cc) l)
+    (one_misses (λ (u : Unit {0}). closing k a b) tt (IsTok right_paren) e old new (λ u. closing_tok k a b) (λ n f. cc) l)
 
 pub closed_differs : (k : Paired) (a b : Expression) (p : Place) (old mid new : Lexer) → (closing k a b).fault ≡ Some CarriersDiffer → TakesAt right_paren p old mid
     → Reads (Closed k a b) old (Err (Bad (record { kind = CarriersDiffer; place = p }))) new
@@ -425,43 +425,43 @@ plus_test b a c h = ap (λ v. if v then None else Some CarriersDiffer) (same_tes
 
 -- what stands after the first of two parts
 abbrev Second : List Definition → ℕ → Paired → Expression → Expression → List Mark → Type 0
-Second ds n k a = Then (Behind comma (Expr ds (n + node_count a))) (Closed k a)
+Second ds n k a = Then (After comma (Expr ds (n + node_count a))) (Closed k a)
 
-part_determined : (ds : List Definition) (n : ℕ) (t : Tok) → IsDetermined (Behind t (Expr ds n))
-part_determined ds n t = behind_determined t (Expr ds n) (expr_determined ds n)
+part_determined : (ds : List Definition) (n : ℕ) (t : Tok) → IsDetermined (After t (Expr ds n))
+part_determined ds n t = following_determined t (Expr ds n) (expr_determined ds n)
 
 second_possible : (ds : List Definition) (n : ℕ) (k : Paired) (a : Expression) → IsPossible (Second ds n k a)
 second_possible ds n k a =
-    then_possible (Behind comma (Expr ds (n + node_count a))) (Closed k a) (behind_possible comma (Expr ds (n + node_count a)) (expr_possible ds (n + node_count a))) (closed_possible k a)
+    then_possible (After comma (Expr ds (n + node_count a))) (Closed k a) (following_possible comma (Expr ds (n + node_count a)) (expr_possible ds (n + node_count a))) (closed_possible k a)
 
-pub paired_not_first : (ds : List Definition) (n : ℕ) (k : Paired) (old new : Lexer) (e : AlgError) → Reads (Behind left_paren (Expr ds n)) old (Err e) new → Reads (PairedTail ds n k) old (Err e) new
-paired_not_first ds n k old new e x = reads_not_first (Behind left_paren (Expr ds n)) (Second ds n k) old new e (second_possible ds n k) x
+pub paired_not_first : (ds : List Definition) (n : ℕ) (k : Paired) (old new : Lexer) (e : AlgError) → Reads (After left_paren (Expr ds n)) old (Err e) new → Reads (PairedTail ds n k) old (Err e) new
+paired_not_first ds n k old new e x = reads_not_first (After left_paren (Expr ds n)) (Second ds n k) old new e (second_possible ds n k) x
 
-paired_then : (ds : List Definition) (n : ℕ) (k : Paired) (a : Expression) (old mid new : Lexer) (result : Result Expression AlgError) → Reads (Behind left_paren (Expr ds n)) old (Ok a) mid → Reads (Second ds n k a) mid result new
+paired_then : (ds : List Definition) (n : ℕ) (k : Paired) (a : Expression) (old mid new : Lexer) (result : Result Expression AlgError) → Reads (After left_paren (Expr ds n)) old (Ok a) mid → Reads (Second ds n k a) mid result new
     → Reads (PairedTail ds n k) old result new
-paired_then ds n k a old mid new result x y = reads_then (Behind left_paren (Expr ds n)) (Second ds n k) old mid new a result (part_determined ds n left_paren) x y
+paired_then ds n k a old mid new result x y = reads_then (After left_paren (Expr ds n)) (Second ds n k) old mid new a result (part_determined ds n left_paren) x y
 
-pub paired_not_second : (ds : List Definition) (n m : ℕ) (k : Paired) (a : Expression) (old mid new : Lexer) (e : AlgError) → Reads (Behind left_paren (Expr ds n)) old (Ok a) mid → m ≡ n + node_count a
-    → Reads (Behind comma (Expr ds m)) mid (Err e) new → Reads (PairedTail ds n k) old (Err e) new
+pub paired_not_second : (ds : List Definition) (n m : ℕ) (k : Paired) (a : Expression) (old mid new : Lexer) (e : AlgError) → Reads (After left_paren (Expr ds n)) old (Ok a) mid → m ≡ n + node_count a
+    → Reads (After comma (Expr ds m)) mid (Err e) new → Reads (PairedTail ds n k) old (Err e) new
 paired_not_second ds n m k a old mid new e x nodes y =
     paired_then ds n k a old mid new (Err e) x
-    (reads_not_first (Behind comma (Expr ds (n + node_count a))) (Closed k a) mid new e (closed_possible k a) (subst (λ i. Reads (Behind comma (Expr ds i)) mid (Err e) new) nodes y))
+    (reads_not_first (After comma (Expr ds (n + node_count a))) (Closed k a) mid new e (closed_possible k a) (subst (λ i. Reads (After comma (Expr ds i)) mid (Err e) new) nodes y))
 
-pub paired_reads : (ds : List Definition) (n m : ℕ) (k : Paired) (a b : Expression) (old mid last new : Lexer) (result : Result Expression AlgError) → Reads (Behind left_paren (Expr ds n)) old (Ok a) mid → m ≡ n + node_count a
-    → Reads (Behind comma (Expr ds m)) mid (Ok b) last → Reads (Closed k a b) last result new → Reads (PairedTail ds n k) old result new
+pub paired_reads : (ds : List Definition) (n m : ℕ) (k : Paired) (a b : Expression) (old mid last new : Lexer) (result : Result Expression AlgError) → Reads (After left_paren (Expr ds n)) old (Ok a) mid → m ≡ n + node_count a
+    → Reads (After comma (Expr ds m)) mid (Ok b) last → Reads (Closed k a b) last result new → Reads (PairedTail ds n k) old result new
 paired_reads ds n m k a b old mid last new result x nodes y z =
     paired_then ds n k a old mid new result x
-    (reads_then (Behind comma (Expr ds (n + node_count a))) (Closed k a) mid last new b result (part_determined ds (n + node_count a) comma)
-    (subst (λ i. Reads (Behind comma (Expr ds i)) mid (Ok b) last) nodes y) z)
+    (reads_then (After comma (Expr ds (n + node_count a))) (Closed k a) mid last new b result (part_determined ds (n + node_count a) comma)
+    (subst (λ i. Reads (After comma (Expr ds i)) mid (Ok b) last) nodes y) z)
 
-pub single_not_part : (ds : List Definition) (n : ℕ) (k : Single) (old new : Lexer) (e : AlgError) → Reads (Behind left_paren (Expr ds n)) old (Err e) new → Reads (SingleTail ds n k) old (Err e) new
+pub single_not_part : (ds : List Definition) (n : ℕ) (k : Single) (old new : Lexer) (e : AlgError) → Reads (After left_paren (Expr ds n)) old (Err e) new → Reads (SingleTail ds n k) old (Err e) new
 single_not_part ds n k old new e x =
-    reads_not_first (Behind left_paren (Expr ds n)) (λ a. Behind right_paren (Nothing (single_meaning k a))) old new e (λ a. behind_possible right_paren (Nothing (single_meaning k a)) (nothing_possible (single_meaning k a))) x
+    reads_not_first (After left_paren (Expr ds n)) (λ a. After right_paren (Nothing (single_meaning k a))) old new e (λ a. following_possible right_paren (Nothing (single_meaning k a)) (nothing_possible (single_meaning k a))) x
 
-pub single_reads : (ds : List Definition) (n : ℕ) (k : Single) (a : Expression) (old mid new : Lexer) (result : Result Expression AlgError) → Reads (Behind left_paren (Expr ds n)) old (Ok a) mid
-    → Reads (Behind right_paren (Nothing (single_meaning k a))) mid result new → Reads (SingleTail ds n k) old result new
+pub single_reads : (ds : List Definition) (n : ℕ) (k : Single) (a : Expression) (old mid new : Lexer) (result : Result Expression AlgError) → Reads (After left_paren (Expr ds n)) old (Ok a) mid
+    → Reads (After right_paren (Nothing (single_meaning k a))) mid result new → Reads (SingleTail ds n k) old result new
 single_reads ds n k a old mid new result x y =
-    reads_then (Behind left_paren (Expr ds n)) (λ a. Behind right_paren (Nothing (single_meaning k a))) old mid new a result (part_determined ds n left_paren) x y
+    reads_then (After left_paren (Expr ds n)) (λ a. After right_paren (Nothing (single_meaning k a))) old mid new a result (part_determined ds n left_paren) x y
 
 -- What was read came to this.
 

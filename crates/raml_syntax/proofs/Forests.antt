@@ -25,15 +25,15 @@ extends_on a b c x y = record {
 }
 
 -- one tree more
-pub extends_behind : (ts : List Expression) (a : Expression) → Extends ts (ts ++ a ∷ [])
-extends_behind ts a = record {
+pub extends_following : (ts : List Expression) (a : Expression) → Extends ts (ts ++ a ∷ [])
+extends_following ts a = record {
   longer = let e = length-append ts (a ∷ []) in omega (arith, e);
   same = λ id h. get_or_append_left ts (a ∷ []) gate id.number h;
 }
 
 -- a tree was added, or there was no memory
 pub extends_planted : {R E : Type 0} (r : Result R E) (old new : List Expression) (a : Expression) → OnOk r (new ≡ old ++ a ∷ []) → OnErr r (new ≡ old) → Extends old new
-extends_planted (Ok id) old new a h g = subst (Extends old) (sym h) (extends_behind old a)
+extends_planted (Ok id) old new a h g = subst (Extends old) (sym h) (extends_following old a)
 extends_planted (Err e) old new a h g = subst (Extends old) (sym g) (extends_self old)
 
 -- the trees before entries are there after them
@@ -41,7 +41,7 @@ extends_from : (ts : List Expression) (es : List Entry) → Extends ts (trees_fr
 extends_from ts [] = extends_self ts
 extends_from ts (e ∷ es) =
     let more = ts ++ node_meaning ts e.node ∷ [] in
-    extends_on ts more (trees_from more es) (extends_behind ts (node_meaning ts e.node)) (extends_from more es)
+    extends_on ts more (trees_from more es) (extends_following ts (node_meaning ts e.node)) (extends_from more es)
 
 pub length_from : (ts : List Expression) (es : List Entry) → length (trees_from ts es) ≡ length ts + length es
 length_from ts [] = omega arith

@@ -5,10 +5,10 @@ use Rattle.std.proofs.lemmas.Bool.{and_parts, and_from, or_from, or_left, or_rig
 use Rattle.std.proofs.lemmas.List.{length-map}
 use Rattle.std.proofs.lemmas.List.Folds.{list_any-append}
 use Rattle.meta_base.specs.declared.limits.TheConstants.{MAX_NUMBER}
-use Rattle.meta_base.specs.Bytes.{is_word, is_word_byte, is_letter, is_digit, front, behind, number_from}
+use Rattle.meta_base.specs.Bytes.{is_word, is_word_byte, is_letter, is_digit, front, after_front, number_from}
 use Rattle.raml_lex.specs.declared.token.LexKind.TheVariants as lex
 use Rattle.raml_lex.specs.Tokens.{Tok, word, number, left_paren, right_paren, left_brace, right_brace, comma, semicolon, colon, dots, equals, less, arrow, Step, bad, token, number_at, pair_at, mark_at, token_at, step_of}
-use Rattle.raml_lex.specs.Gaps.{behind_gap}
+use Rattle.raml_lex.specs.Gaps.{after_gap}
 use Rattle.alg_model.specs.declared.alg.TheConstants.{MAX_TREE_NODES, MAX_TABLE_NAMES}
 use Rattle.alg_model.specs.Expressions.{PureAlg, Expression, add, cap, worst, width, pref, orig, seq, simseq, tags, guard, gate, table}
 use Rattle.alg_model.specs.Carriers.{carrier_of}
@@ -25,7 +25,7 @@ use Rattle.raml_syntax.specs.Meaning.{Definition, lookup, known, ranged_meaning,
 use Rattle.raml_syntax.specs.Marks.{Mark, plain, header_marks, tested, name_mark, own_name, values_marks, maps_marks, rows_marks, table_marks, closing, marks, rest_marks}
 use Rattle.raml_syntax.specs.Tests.{is_in_range, is_same_carrier}
 use Rattle.raml_syntax.specs.Productions.{clean, toks}
-use Rattle.raml_syntax.specs.ExprText.{greatest_behind, BeginsWith, ExprText}
+use Rattle.raml_syntax.specs.ExprText.{greatest_following, BeginsWith, ExprText}
 use Rattle.raml_syntax.specs.Statements.{keyword_word}
 use Rattle.raml_syntax.proofs.Beginnings.{IsSettled, settled_more}
 use Rattle.raml_syntax.proofs.Headers.{keyword_settled, tokens_of}
@@ -309,11 +309,11 @@ module _ (greatest : ℕ) where
       let first = marks ds (nodes + 1) a in
       let second = marks ds (nodes + 1 + node_count (meaning ds a)) b in
       let close = closing k (meaning ds a) (meaning ds b) in
-      let behind = (clean_back first (plain comma ∷ (second ++ close ∷ [])) h.1.1).1 in
+      let after_front = (clean_back first (plain comma ∷ (second ++ close ∷ [])) h.1.1).1 in
       paired_meets nodes k (meaning ds a) (meaning ds b)
       (meets ds (nodes + 1) a f (clean_front first (plain comma ∷ (second ++ close ∷ [])) h.1.1))
-      (meets ds (nodes + 1 + node_count (meaning ds a)) b f (clean_front second (close ∷ []) behind))
-      (clean_back second (close ∷ []) behind).0.0
+      (meets ds (nodes + 1 + node_count (meaning ds a)) b f (clean_front second (close ∷ []) after_front))
+      (clean_back second (close ∷ []) after_front).0.0
   meets ds nodes (single k a) f h = single_meets nodes k (meaning ds a) (meets ds (nodes + 1) a f (clean_front (marks ds (nodes + 1) a) (plain right_paren ∷ []) h.1.1))
 
   -- what meets the rules after no nodes is formed
@@ -374,14 +374,14 @@ module _ (greatest : ℕ) where
   token_is_text : (text : List ℕ) → IsTextStep greatest (token_at greatest text)
   token_is_text [] = tt
   token_is_text (c ∷ cs) =
-      cond_both (is_letter c) (token (word (front is_word_byte (c ∷ cs))) (behind is_word_byte (c ∷ cs))) _ (IsTextStep greatest) (λ e. word_front c cs e) (λ e.
-      cond_both (is_digit c) (number_at greatest (front is_digit (c ∷ cs)) (behind is_digit (c ∷ cs))) (mark_at c cs) (IsTextStep greatest) (λ e. number_is_text (number_from 0 (front is_digit (c ∷ cs))) (behind is_digit (c ∷ cs))) (λ e. mark_is_text c cs))
+      cond_both (is_letter c) (token (word (front is_word_byte (c ∷ cs))) (after_front is_word_byte (c ∷ cs))) _ (IsTextStep greatest) (λ e. word_front c cs e) (λ e.
+      cond_both (is_digit c) (number_at greatest (front is_digit (c ∷ cs)) (after_front is_digit (c ∷ cs))) (mark_at c cs) (IsTextStep greatest) (λ e. number_is_text (number_from 0 (front is_digit (c ∷ cs))) (after_front is_digit (c ∷ cs))) (λ e. mark_is_text c cs))
 
 -- so the tokens are that a text begins with, where the greatest number stays the same
-begun_are_text : (greatest : ℕ) (before ts : List Tok) (text rest : List ℕ) → IsSettled before → greatest_behind before ≡ greatest → BeginsWith before ts text rest → AllByRecursion (IsTextTok greatest) ts
+begun_are_text : (greatest : ℕ) (before ts : List Tok) (text rest : List ℕ) → IsSettled before → greatest_following before ≡ greatest → BeginsWith before ts text rest → AllByRecursion (IsTextTok greatest) ts
 begun_are_text greatest before [] text rest s e h = tt
 begun_are_text greatest before (t ∷ ts) text rest s e h = (
-  subst (IsTextStep greatest) (ap (λ g. step_of g text) (sym e) ∙ h.1) (token_is_text greatest (behind_gap false text)),
+  subst (IsTextStep greatest) (ap (λ g. step_of g text) (sym e) ∙ h.1) (token_is_text greatest (after_gap false text)),
   begun_are_text greatest (before ++ t ∷ []) ts h.0 rest (settled_more before t s) (s (t ∷ []) ∙ e) h.2,
 )
 
@@ -395,7 +395,7 @@ opened_are_text : (ls : List LetSyntax) (main : Syntax) (ts : List Tok) (text re
 opened_are_text ls main [] text rest e h = tt
 opened_are_text ls main (t ∷ ts) text rest e h =
     let w = opened_word ls main t ts e in (
-      subst (IsTextStep MAX_NUMBER) h.1 (token_is_text MAX_NUMBER (behind_gap false text)),
+      subst (IsTextStep MAX_NUMBER) h.1 (token_is_text MAX_NUMBER (after_gap false text)),
       begun_are_text MAX_NUMBER (t ∷ []) ts h.0 rest (subst (λ u. IsSettled (u ∷ [])) (sym w.1) (keyword_settled w.0)) refl h.2,
     )
 
@@ -411,13 +411,13 @@ statements_are_formed (Some n) ls main ts text rest e h =
     let header = word (codes "raml") ∷ number n ∷ semicolon ∷ [] in
     let (a, p, (b, q, (c, r, more))) : BeginsWith [] (header ++ toks statements) text rest = subst (λ l. BeginsWith [] l text rest) all h in
     let faultless : clean (toks (header_marks (Some n) ++ statements)) ≡ header_marks (Some n) ++ statements = ap clean (sym all) ∙ e in
-    let same : clean (toks statements) ≡ statements = ap behind_three faultless in
+    let same : clean (toks statements) ≡ statements = ap following_three faultless in
     clean_rest_is_formed greatest [] ls main tt
     (subst (AreClean greatest) same (clean_are_clean greatest (toks statements) (begun_are_text greatest header (toks statements) c rest (λ z. refl) refl more)))
   where
-    behind_three : List Mark → List Mark
-    behind_three (x ∷ y ∷ z ∷ ms) = ms
-    behind_three _ = []
+    following_three : List Mark → List Mark
+    following_three (x ∷ y ∷ z ∷ ms) = ms
+    following_three _ = []
 
 -- what a text means meets the formation rules, and its numbers are those of its edition
 pub text_is_alg : (text : List ℕ) (a : PureAlg) → ExprText text a → IsAlg a

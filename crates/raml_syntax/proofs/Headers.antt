@@ -24,17 +24,17 @@ use Rattle.raml_syntax.specs.Meaning.{edition_of}
 use Rattle.raml_syntax.specs.Marks.{Mark, plain, plain_word, header_number, header_marks, is_profile, rest_marks}
 use Rattle.raml_syntax.specs.Productions.{clean, toks, FaultAt}
 use Rattle.raml_syntax.specs.Reading.{TakesOne, Takes}
-use Rattle.raml_syntax.specs.Leaves.{TakesAt, LacksNumber, IsRefusal}
+use Rattle.raml_syntax.specs.Leaves.{TakesAt, MissesNumber, IsRefusal}
 use Rattle.raml_syntax.specs.Sequences.{Nothing, One, Then, Reads, IsDetermined, IsPossible, map_ok}
-use Rattle.raml_syntax.specs.Forms.{Behind}
+use Rattle.raml_syntax.specs.Forms.{After}
 use Rattle.raml_syntax.specs.Trees.{Rest, File}
-use Rattle.raml_syntax.specs.ExprText.{header_from, greatest_behind, BeginsWith, IsExprFault}
+use Rattle.raml_syntax.specs.ExprText.{header_from, greatest_following, BeginsWith, IsExprFault}
 use Rattle.raml_syntax.specs.Statements.{keyword_word, start, Opens, Statement, IsAlgError}
 use Rattle.raml_syntax.specs.Headers.{is_opening, opening_word, Starts, Profile, InEdition, Opened, HasTaken, ReadsText, alg_in, LeadsText}
 use Rattle.raml_syntax.proofs.Sequences.{clean-append, toks-clean, takes-append, fault_first, fault_second, fault_inside, reads_not_first, reads_then, one_determined, nothing_determined, then_determined, then_possible}
 use Rattle.raml_syntax.proofs.Compare.{words_apart}
-use Rattle.raml_syntax.proofs.OneToken.{one_good, one_bad, one_lacks_number}
-use Rattle.raml_syntax.proofs.Behind.{behind_determined, behind_possible, nothing_possible}
+use Rattle.raml_syntax.proofs.OneToken.{one_good, one_bad, one_misses_number}
+use Rattle.raml_syntax.proofs.After.{following_determined, following_possible, nothing_possible}
 use Rattle.raml_syntax.proofs.Beginnings.{IsSettled, settled_more, begins_append}
 use Rattle.raml_syntax.proofs.Statements.{begun_determined, statement_possible, rest_possible, rest_read, rest_from, rest_to}
 
@@ -63,10 +63,10 @@ starts_determined = one_determined (λ x. plain_word (opening_word x)) opening_s
 
 -- what follows the number
 abbrev pub Ended : ℕ → Edition → List Mark → Type 0
-Ended n = Behind semicolon (Nothing (edition_of (Some n)))
+Ended n = After semicolon (Nothing (edition_of (Some n)))
 
 pub ended_possible : (n : ℕ) → IsPossible (Ended n)
-ended_possible n = behind_possible semicolon (Nothing (edition_of (Some n))) (nothing_possible (edition_of (Some n)))
+ended_possible n = following_possible semicolon (Nothing (edition_of (Some n))) (nothing_possible (edition_of (Some n)))
 
 number_determined : IsDetermined (One header_number)
 number_determined = one_determined header_number (λ m n h. cc)
@@ -74,7 +74,7 @@ number_determined = one_determined header_number (λ m n h. cc)
 profile_determined : IsDetermined Profile
 profile_determined =
     then_determined (One header_number) Ended number_determined
-    (λ n. behind_determined semicolon (Nothing (edition_of (Some n))) (nothing_determined (edition_of (Some n))))
+    (λ n. following_determined semicolon (Nothing (edition_of (Some n))) (nothing_determined (edition_of (Some n))))
 
 profile_possible : IsPossible Profile
 profile_possible = then_possible (One header_number) Ended (1, header_number 1 ∷ [], refl) ended_possible
@@ -88,8 +88,8 @@ profile_from : (n : ℕ) → Profile (edition_of (Some n)) (header_number n ∷ 
 profile_from n = (n, header_number n ∷ [], plain semicolon ∷ [], refl, (tt, plain semicolon ∷ [], [], refl, (refl, refl), refl), refl)
 
 -- no number stands after the word
-pub profile_lacks : (old new : Lexer) (e : AlgError) → IsRefusal LacksNumber old e → Reads Profile old (Err e) new
-profile_lacks old new e l = reads_not_first (One header_number) Ended old new e ended_possible (one_lacks_number header_number 0 0 e old new refl (λ n. (n, refl)) l)
+pub profile_misses : (old new : Lexer) (e : AlgError) → IsRefusal MissesNumber old e → Reads Profile old (Err e) new
+profile_misses old new e l = reads_not_first (One header_number) Ended old new e ended_possible (one_misses_number header_number 0 0 e old new refl (λ n. (n, refl)) l)
 
 -- no profile has the number
 pub profile_unknown : (n : ℕ) (p : Place) (old mid new : Lexer) → is_profile n ≡ false → TakesAt (number n) p old mid → Reads Profile old (Err (Bad (record { kind = UnknownProfile; place = p }))) new
@@ -197,7 +197,7 @@ takes_greatest : (ts : List Tok) (old new : Lexer) → Takes ts old new → new.
 takes_greatest [] old new p = ap (λ (x : Lexer). x.greatest) (sym p)
 takes_greatest (t ∷ ts) old new p = takes_greatest ts p.0 new p.2 ∙ p.1.greatest
 
-takes_begin : (before ts : List Tok) (old new : Lexer) → IsSettled before → old.greatest ≡ greatest_behind before → Takes ts old new → BeginsWith before ts old.rest new.rest
+takes_begin : (before ts : List Tok) (old new : Lexer) → IsSettled before → old.greatest ≡ greatest_following before → Takes ts old new → BeginsWith before ts old.rest new.rest
 takes_begin before [] old new s e p = ap (λ (x : Lexer). x.rest) p
 takes_begin before (t ∷ ts) old new s e p = (
   p.0.rest,
@@ -230,7 +230,7 @@ header_begins (t ∷ u ∷ v ∷ []) old new few e (a, p, (b, q, (c, r, z))) = (
 )
 header_begins (t ∷ u ∷ v ∷ w ∷ ts) old new few e p = absurd (omega arith)
 
-two_greatest : (ts : List Tok) → length ts ≤ 2 → greatest_behind ts ≡ MAX_NUMBER
+two_greatest : (ts : List Tok) → length ts ≤ 2 → greatest_following ts ≡ MAX_NUMBER
 two_greatest [] few = refl
 two_greatest (t ∷ []) few = refl
 two_greatest (t ∷ u ∷ []) few = refl
@@ -285,13 +285,13 @@ profile_long edition ms p = ap length (profile_marks edition ms p).2
 -- what was read makes the text
 
 -- no file begins here
-pub opening_lacks : (text : List ℕ) (e : AlgError) (old new : Lexer) → old ≡ start text → Reads Starts old (Err e) new → IsAlgError text e
-opening_lacks text (Bad f) old new s x =
+pub opening_misses : (text : List ℕ) (e : AlgError) (old new : Lexer) → old ≡ start text → Reads Starts old (Err e) new → IsAlgError text e
+opening_misses text (Bad f) old new s x =
     let step = step_of x.at.greatest x.at.rest in
     let few = front_shorter Starts 1 x.front step f.kind starts_long x.shows in
     fault_taken text x.front x.at f (header_taken text x.front old x.at s (omega arith) x.taken) x.place
     (fault_in_file x.front step f.kind (fault_first Starts Opened x.front step f.kind opened_possible x.shows))
-opening_lacks text NoMemory old new s x = tt
+opening_misses text NoMemory old new s x = tt
 
 -- the header is at fault
 pub header_broken : (text : List ℕ) (e : AlgError) (old mid new : Lexer) → old ≡ start text → Reads Starts old (Ok o.Header) mid → Reads Profile mid (Err e) new → IsAlgError text e
@@ -358,7 +358,7 @@ headed_taken text edition old mid now ts us s x p y q =
       record {
         split = ap (λ (x : Lexer). x.before ++ x.rest) (sym s) ∙ takes_split (ts ++ us) old now all;
         lexed = subst (λ x. BeginsWith [] (ts ++ us) x now.rest) (ap (λ (x : Lexer). x.rest) s) (header_begins (ts ++ us) old now (omega arith) (ap (λ (x : Lexer). x.greatest) s) all);
-        greatest = ap greatest_number n.1 ∙ sym (ap greatest_behind is);
+        greatest = ap greatest_number n.1 ∙ sym (ap greatest_following is);
       },
       subst IsSettled (sym is) (λ z. refl),
     )
@@ -381,9 +381,9 @@ headed_reads text edition old mid now new result s x y z =
     z
 
 -- no statement begins after the header
-pub headed_lacks : (text : List ℕ) (edition : Edition) (e : AlgError) (old mid now new : Lexer) → old ≡ start text → Reads Starts old (Ok o.Header) mid → Reads Profile mid (Ok edition) now
+pub headed_misses : (text : List ℕ) (edition : Edition) (e : AlgError) (old mid now new : Lexer) → old ≡ start text → Reads Starts old (Ok o.Header) mid → Reads Profile mid (Ok edition) now
     → Reads Opens (record now { greatest = greatest_number edition }) (Err e) new → IsAlgError text e
-headed_lacks text edition e old mid now new s x y z =
+headed_misses text edition e old mid now new s x y z =
     headed_reads text edition old mid now new (Err e) s x y
     (rest_read [] (record now { greatest = greatest_number edition }) new (Err e) (reads_not_first Opens (Statement []) (record now { greatest = greatest_number edition }) new e (statement_possible []) z))
 

@@ -5,7 +5,7 @@ pub mod TestLaws
 pub mod Compare
 pub mod Tables
 pub mod Expressions
-pub mod Behind
+pub mod After
 pub mod NodeCounts
 pub mod Forests
 pub mod Descent

@@ -15,12 +15,12 @@ use Rattle.raml_syntax.specs.Syntax.{MapSyntax, is_among, is_none}
 use Rattle.raml_syntax.specs.Marks.{Mark, plain, more_map_marks}
 use Rattle.raml_syntax.specs.Productions.{toks}
 use Rattle.raml_syntax.specs.Reading.{TakesOne}
-use Rattle.raml_syntax.specs.Leaves.{TakesAt, Lacks, IsRefusal, IsTok, IsWord}
-use Rattle.raml_syntax.specs.Tested.{ReadsBehind}
+use Rattle.raml_syntax.specs.Leaves.{TakesAt, Misses, IsRefusal, IsTok, IsWord}
+use Rattle.raml_syntax.specs.Tested.{ReadsFollowing}
 use Rattle.raml_syntax.specs.Sequences.{Nothing, One, Then, Reads, IsDetermined, IsPossible}
-use Rattle.raml_syntax.specs.Maps.{after_row, after_map, arrow_mark, sources, source_mark, target_mark, first_mark, Target, MoreMaps, NoMaps, FirstMap, BehindFirst, Maps}
+use Rattle.raml_syntax.specs.Maps.{after_row, after_map, arrow_mark, sources, source_mark, target_mark, first_mark, Target, MoreMaps, NoMaps, FirstMap, FollowingFirst, Maps}
 use Rattle.raml_syntax.proofs.Sequences.{reads_then, reads_not_first, one_determined, nothing_determined, then_determined, then_possible}
-use Rattle.raml_syntax.proofs.Tested.{reads_same, reads_nothing, reads_tested, behind_then, behind_not_first, same_kind, words_determined, one_no_word, one_mark, one_no_mark, Leads}
+use Rattle.raml_syntax.proofs.Tested.{reads_same, reads_nothing, reads_tested, following_then, following_not_first, same_kind, words_determined, one_no_word, one_mark, one_no_mark, Leads}
 use Rattle.raml_syntax.proofs.OneToken.{one_good}
 
 pub row_no_number : (a : AfterRow) (n : ℕ) → (after_row a).tok ≡ number n → ⊥
@@ -33,11 +33,11 @@ row_no_other k text f g End e = g (same_kind right_brace k text e)
 
 pub map_no_number : (a : AfterMap) (n : ℕ) → (after_map a).tok ≡ number n → ⊥
 map_no_number after.Map n e = absurd (cc)
-map_no_number (after.Behind a) n e = row_no_number a n e
+map_no_number (after.After a) n e = row_no_number a n e
 
 pub map_no_other : (k : TokenKind) (text : List ℕ) → (k ≡ kind.Comma → ⊥) → (k ≡ kind.Semicolon → ⊥) → (k ≡ kind.RightBrace → ⊥) → (a : AfterMap) → (after_map a).tok ≡ tok_of k text → ⊥
 map_no_other k text f g h after.Map e = f (same_kind comma k text e)
-map_no_other k text f g h (after.Behind a) e = row_no_other k text g h a e
+map_no_other k text f g h (after.After a) e = row_no_other k text g h a e
 
 row_same : (a b : AfterRow) → (after_row a).tok ≡ (after_row b).tok → a ≡ b
 row_same Row Row e = refl
@@ -51,9 +51,9 @@ row_no_comma End e = absurd (cc)
 
 map_same : (a b : AfterMap) → (after_map a).tok ≡ (after_map b).tok → a ≡ b
 map_same after.Map after.Map e = refl
-map_same after.Map (after.Behind b) e = absurd (row_no_comma b (sym e))
-map_same (after.Behind a) after.Map e = absurd (row_no_comma a e)
-map_same (after.Behind a) (after.Behind b) e = ap after.Behind (row_same a b e)
+map_same after.Map (after.After b) e = absurd (row_no_comma b (sym e))
+map_same (after.After a) after.Map e = absurd (row_no_comma a e)
+map_same (after.After a) (after.After b) e = ap after.After (row_same a b e)
 
 pub row_determined : IsDetermined (One after_row)
 row_determined = one_determined after_row row_same
@@ -143,24 +143,24 @@ first_map_determined names source = then_determined (Target names source) _ (tar
 pub first_map_possible : (names : List (List ℕ)) (source : List ℕ) → IsPossible (FirstMap names source)
 first_map_possible names source = then_possible (Target names source) _ (target_possible names source) (λ m. more_possible names (m ∷ []))
 
-behind_first_determined : (names : List (List ℕ)) (w : List ℕ) (b : Bool) → IsDetermined (BehindFirst names w b)
-behind_first_determined names w true = no_maps_determined
-behind_first_determined names w false = first_map_determined names w
+following_first_determined : (names : List (List ℕ)) (w : List ℕ) (b : Bool) → IsDetermined (FollowingFirst names w b)
+following_first_determined names w true = no_maps_determined
+following_first_determined names w false = first_map_determined names w
 
-pub behind_first_possible : (names : List (List ℕ)) (w : List ℕ) (b : Bool) → IsPossible (BehindFirst names w b)
-behind_first_possible names w true = no_maps_possible
-behind_first_possible names w false = first_map_possible names w
+pub following_first_possible : (names : List (List ℕ)) (w : List ℕ) (b : Bool) → IsPossible (FollowingFirst names w b)
+following_first_possible names w true = no_maps_possible
+following_first_possible names w false = first_map_possible names w
 
 pub maps_determined : (names : List (List ℕ)) → IsDetermined (Maps names)
-maps_determined names = then_determined (One (first_mark names)) _ (first_determined names) (λ w. behind_first_determined names w (is_none w))
+maps_determined names = then_determined (One (first_mark names)) _ (first_determined names) (λ w. following_first_determined names w (is_none w))
 
 pub maps_possible : (names : List (List ℕ)) → IsPossible (Maps names)
-maps_possible names = then_possible (One (first_mark names)) _ ([], first_mark names [] ∷ [], refl) (λ w. behind_first_possible names w (is_none w))
+maps_possible names = then_possible (One (first_mark names)) _ ([], first_mark names [] ∷ [], refl) (λ w. following_first_possible names w (is_none w))
 
 -- what follows a mark after a map
-abbrev pub BehindMap : List (List ℕ) → List MapSyntax → AfterMap → List MapSyntax × AfterRow → List Mark → Type 0
-BehindMap names done after.Map = Then (One (source_mark names (sources done))) (λ w. Then (Target names w) (λ m. MoreMaps names (done ++ m ∷ [])))
-BehindMap names done (after.Behind a) = Nothing (done, a)
+abbrev pub FollowingMap : List (List ℕ) → List MapSyntax → AfterMap → List MapSyntax × AfterRow → List Mark → Type 0
+FollowingMap names done after.Map = Then (One (source_mark names (sources done))) (λ w. Then (Target names w) (λ m. MoreMaps names (done ++ m ∷ [])))
+FollowingMap names done (after.After a) = Nothing (done, a)
 
 sources-append : (ms ns : List MapSyntax) → sources (ms ++ ns) ≡ sources ms ++ sources ns
 sources-append [] ns = refl
@@ -174,19 +174,19 @@ target_is names w m ms (u, a, b, pa, (target, c, d, pc, (pm, pd), e), f) =
 pub target_from : (names : List (List ℕ)) (m : MapSyntax) → Target names m.source m (plain arrow ∷ target_mark names m.target ∷ [])
 target_from names m = (tt, plain arrow ∷ [], target_mark names m.target ∷ [], refl, (m.target, target_mark names m.target ∷ [], [], refl, (refl, refl), refl), refl)
 
-more_put : (names : List (List ℕ)) (done : List MapSyntax) (r : List MapSyntax × AfterRow) (ms : List Mark) → Then (One after_map) (BehindMap names done) r ms → MoreMaps names done r ms
+more_put : (names : List (List ℕ)) (done : List MapSyntax) (r : List MapSyntax × AfterRow) (ms : List Mark) → Then (One after_map) (FollowingMap names done) r ms → MoreMaps names done r ms
 more_put names done r ms (after.Map, xs, ys, p, (w, us, vs, pw, (m, ts, zs, tm, (more, means, marks), e), f), g) =
     let t = target_is names w m ts tm in (
       m ∷ more,
       means ∙ append_assoc done (m ∷ []) more,
       rw (g, p, f, pw, e, t.1, marks, sources-append done (m ∷ []), t.0) refl,
     )
-more_put names done r ms (after.Behind a, xs, ys, p, q, g) =
+more_put names done r ms (after.After a, xs, ys, p, q, g) =
     ([], ap (λ (x : List MapSyntax × AfterRow). x.0) q.0 ∙ sym (append-nil done), rw (g, p, q.1, q.0) refl)
 
-more_back : (names : List (List ℕ)) (done : List MapSyntax) (r : List MapSyntax × AfterRow) (ms : List Mark) → MoreMaps names done r ms → Then (One after_map) (BehindMap names done) r ms
+more_back : (names : List (List ℕ)) (done : List MapSyntax) (r : List MapSyntax × AfterRow) (ms : List Mark) → MoreMaps names done r ms → Then (One after_map) (FollowingMap names done) r ms
 more_back names done r ms ([], means, marks) =
-    (after.Behind r.1, after_row r.1 ∷ [], [], refl, (pair_same r (done, r.1) (means ∙ append-nil done) refl, refl), marks)
+    (after.After r.1, after_row r.1 ∷ [], [], refl, (pair_same r (done, r.1) (means ∙ append-nil done) refl, refl), marks)
 more_back names done r ms (m ∷ more, means, marks) =
     let rest = more_map_marks names (sources done ++ m.source ∷ []) more ++ after_row r.1 ∷ [] in
     let target = plain arrow ∷ target_mark names m.target ∷ [] in
@@ -206,36 +206,36 @@ more_back names done r ms (m ∷ more, means, marks) =
       marks,
     )
 
-behind_possible : (names : List (List ℕ)) (done : List MapSyntax) (a : AfterMap) → IsPossible (BehindMap names done a)
-behind_possible names done after.Map =
+following_possible : (names : List (List ℕ)) (done : List MapSyntax) (a : AfterMap) → IsPossible (FollowingMap names done a)
+following_possible names done after.Map =
     then_possible (One (source_mark names (sources done))) _ ([], source_mark names (sources done) [] ∷ [], refl)
     (λ w. then_possible (Target names w) _ (target_possible names w) (λ m. more_possible names (done ++ m ∷ [])))
-behind_possible names done (after.Behind a) = ((done, a), [], (refl, refl))
+following_possible names done (after.After a) = ((done, a), [], (refl, refl))
 
 -- no mark stands after a map
 pub more_no_mark : (names : List (List ℕ)) (done : List MapSyntax) (old new : Lexer) (e : AlgError) → Reads (One after_map) old (Err e) new → Reads (MoreMaps names done) old (Err e) new
 more_no_mark names done old new e x =
-    reads_same _ (MoreMaps names done) old new (Err e) (more_put names done) (more_back names done) (reads_not_first (One after_map) (BehindMap names done) old new e (behind_possible names done) x)
+    reads_same _ (MoreMaps names done) old new (Err e) (more_put names done) (more_back names done) (reads_not_first (One after_map) (FollowingMap names done) old new e (following_possible names done) x)
 
-pub more_behind : (names : List (List ℕ)) (done : List MapSyntax) (old mid new : Lexer) (a : AfterMap) (result : Result (List MapSyntax × AfterRow) AlgError)
-    → Reads (One after_map) old (Ok a) mid → Reads (BehindMap names done a) mid result new → Reads (MoreMaps names done) old result new
-more_behind names done old mid new a result x y =
-    reads_same _ (MoreMaps names done) old new result (more_put names done) (more_back names done) (reads_then (One after_map) (BehindMap names done) old mid new a result map_determined x y)
+pub more_following : (names : List (List ℕ)) (done : List MapSyntax) (old mid new : Lexer) (a : AfterMap) (result : Result (List MapSyntax × AfterRow) AlgError)
+    → Reads (One after_map) old (Ok a) mid → Reads (FollowingMap names done a) mid result new → Reads (MoreMaps names done) old result new
+more_following names done old mid new a result x y =
+    reads_same _ (MoreMaps names done) old new result (more_put names done) (more_back names done) (reads_then (One after_map) (FollowingMap names done) old mid new a result map_determined x y)
 
 -- the maps are over
-pub more_end : (names : List (List ℕ)) (done : List MapSyntax) (old new : Lexer) (a : AfterRow) → Reads (One after_map) old (Ok (after.Behind a)) new → Reads (MoreMaps names done) old (Ok (done, a)) new
-more_end names done old new a x = more_behind names done old new new (after.Behind a) (Ok (done, a)) x (reads_nothing (done, a) new)
+pub more_end : (names : List (List ℕ)) (done : List MapSyntax) (old new : Lexer) (a : AfterRow) → Reads (One after_map) old (Ok (after.After a)) new → Reads (MoreMaps names done) old (Ok (done, a)) new
+more_end names done old new a x = more_following names done old new new (after.After a) (Ok (done, a)) x (reads_nothing (done, a) new)
 
-pub maps_no_word : (names : List (List ℕ)) (old new : Lexer) (e : AlgError) → IsRefusal (Lacks IsWord) old e → Reads (Maps names) old (Err e) new
+pub maps_no_word : (names : List (List ℕ)) (old new : Lexer) (e : AlgError) → IsRefusal (Misses IsWord) old e → Reads (Maps names) old (Err e) new
 maps_no_word names old new e x =
-    reads_not_first (One (first_mark names)) _ old new e (λ w. behind_first_possible names w (is_none w)) (one_no_word (first_mark names) e old new (first_word names) x)
+    reads_not_first (One (first_mark names)) _ old new e (λ w. following_first_possible names w (is_none w)) (one_no_word (first_mark names) e old new (first_word names) x)
 
-maps_behind_none : (names : List (List ℕ)) (w : List ℕ) (old mid new : Lexer) (result : Result (List MapSyntax × AfterRow) AlgError)
+maps_following_none : (names : List (List ℕ)) (w : List ℕ) (old mid new : Lexer) (result : Result (List MapSyntax × AfterRow) AlgError)
     → is_none w ≡ true → TakesOne (word w) old mid → Reads NoMaps mid result new → Reads (Maps names) old result new
-maps_behind_none names w old mid new result e takes x =
+maps_following_none names w old mid new result e takes x =
     let none : (first_mark names w).fault ≡ None = rw e refl in
     reads_then (One (first_mark names)) _ old mid new w result (first_determined names) (one_good (first_mark names) w (word w) old mid (first_word names w) none takes)
-    (subst (λ b. Reads (BehindFirst names w b) mid result new) (sym e) x)
+    (subst (λ b. Reads (FollowingFirst names w b) mid result new) (sym e) x)
 
 -- what no maps mean
 abbrev pub NothingThen : AfterRow → List MapSyntax × AfterRow → List Mark → Type 0
@@ -245,75 +245,75 @@ NothingThen a = Nothing ([], a)
 pub maps_none : (names : List (List ℕ)) (w : List ℕ) (old mid new : Lexer) (a : AfterRow)
     → is_none w ≡ true → TakesOne (word w) old mid → Reads (One after_row) mid (Ok a) new → Reads (Maps names) old (Ok ([], a)) new
 maps_none names w old mid new a e takes x =
-    maps_behind_none names w old mid new (Ok ([], a)) e takes
+    maps_following_none names w old mid new (Ok ([], a)) e takes
     (reads_then (One after_row) NothingThen mid new new a (Ok ([], a)) row_determined x ([], (refl, refl), refl))
 
 -- and no mark after the row
 pub maps_none_bad : (names : List (List ℕ)) (w : List ℕ) (old mid new : Lexer) (e : AlgError)
     → is_none w ≡ true → TakesOne (word w) old mid → Reads (One after_row) mid (Err e) new → Reads (Maps names) old (Err e) new
 maps_none_bad names w old mid new e none takes x =
-    maps_behind_none names w old mid new (Err e) none takes (reads_not_first (One after_row) NothingThen mid new e (λ a. (([], a), [], (refl, refl))) x)
+    maps_following_none names w old mid new (Err e) none takes (reads_not_first (One after_row) NothingThen mid new e (λ a. (([], a), [], (refl, refl))) x)
 
-maps_behind : (names : List (List ℕ)) (w : List ℕ) (p : Place) (old mid new : Lexer) (result : Result (List MapSyntax × AfterRow) AlgError)
-    → is_none w ≡ false → TakesAt (word w) p old mid → ReadsBehind (is_among names w && not (is_among [] w)) p (FirstMap names w) mid result new → Reads (Maps names) old result new
-maps_behind names w p old mid new result e takes x =
-    reads_tested (first_mark names) (λ w. BehindFirst names w (is_none w)) w (word w) (is_among names w && not (is_among [] w)) p old mid new result
-    (first_determined names) (λ w. behind_first_possible names w (is_none w)) (rw e refl) takes
-    (subst (λ b. ReadsBehind (is_among names w && not (is_among [] w)) p (BehindFirst names w b) mid result new) (sym e) x)
+maps_following : (names : List (List ℕ)) (w : List ℕ) (p : Place) (old mid new : Lexer) (result : Result (List MapSyntax × AfterRow) AlgError)
+    → is_none w ≡ false → TakesAt (word w) p old mid → ReadsFollowing (is_among names w && not (is_among [] w)) p (FirstMap names w) mid result new → Reads (Maps names) old result new
+maps_following names w p old mid new result e takes x =
+    reads_tested (first_mark names) (λ w. FollowingFirst names w (is_none w)) w (word w) (is_among names w && not (is_among [] w)) p old mid new result
+    (first_determined names) (λ w. following_first_possible names w (is_none w)) (rw e refl) takes
+    (subst (λ b. ReadsFollowing (is_among names w && not (is_among [] w)) p (FollowingFirst names w b) mid result new) (sym e) x)
 
 -- a first map was read
 pub maps_first : (names : List (List ℕ)) (w : List ℕ) (p : Place) (old mid next : Lexer) (m : MapSyntax)
-    → is_none w ≡ false → TakesAt (word w) p old mid → ReadsBehind (is_among names w && not (is_among [] w)) p (Target names w) mid (Ok m) next
+    → is_none w ≡ false → TakesAt (word w) p old mid → ReadsFollowing (is_among names w && not (is_among [] w)) p (Target names w) mid (Ok m) next
     → Leads (Maps names) old (MoreMaps names (m ∷ [])) next
 maps_first names w p old mid next m e takes x result new y =
-    maps_behind names w p old mid new result e takes
-    (behind_then (Target names w) _ (is_among names w && not (is_among [] w)) p mid next new m result (target_determined names w) x y)
+    maps_following names w p old mid new result e takes
+    (following_then (Target names w) _ (is_among names w && not (is_among [] w)) p mid next new m result (target_determined names w) x y)
 
 -- a first map is at fault
 pub maps_first_bad : (names : List (List ℕ)) (w : List ℕ) (p : Place) (old mid new : Lexer) (e : AlgError)
-    → is_none w ≡ false → TakesAt (word w) p old mid → ReadsBehind (is_among names w && not (is_among [] w)) p (Target names w) mid (Err e) new
+    → is_none w ≡ false → TakesAt (word w) p old mid → ReadsFollowing (is_among names w && not (is_among [] w)) p (Target names w) mid (Err e) new
     → Reads (Maps names) old (Err e) new
 maps_first_bad names w p old mid new e none takes x =
-    maps_behind names w p old mid new (Err e) none takes
-    (behind_not_first (Target names w) _ (is_among names w && not (is_among [] w)) p mid new e (λ m. more_possible names (m ∷ [])) x)
+    maps_following names w p old mid new (Err e) none takes
+    (following_not_first (Target names w) _ (is_among names w && not (is_among [] w)) p mid new e (λ m. more_possible names (m ∷ [])) x)
 
 source_possible : (names : List (List ℕ)) (done : List MapSyntax) (w : List ℕ) → IsPossible (Then (Target names w) (λ m. MoreMaps names (done ++ m ∷ [])))
 source_possible names done w = then_possible (Target names w) _ (target_possible names w) (λ m. more_possible names (done ++ m ∷ []))
 
 -- no word stands after a comma
 pub more_no_source : (names : List (List ℕ)) (done : List MapSyntax) (old mid new : Lexer) (e : AlgError)
-    → Reads (One after_map) old (Ok after.Map) mid → IsRefusal (Lacks IsWord) mid e → Reads (MoreMaps names done) old (Err e) new
+    → Reads (One after_map) old (Ok after.Map) mid → IsRefusal (Misses IsWord) mid e → Reads (MoreMaps names done) old (Err e) new
 more_no_source names done old mid new e x y =
-    more_behind names done old mid new after.Map (Err e) x
+    more_following names done old mid new after.Map (Err e) x
     (reads_not_first (One (source_mark names (sources done))) _ mid new e (source_possible names done)
     (one_no_word (source_mark names (sources done)) e mid new (λ w. refl) y))
 
-more_behind_source : (names : List (List ℕ)) (done : List MapSyntax) (w : List ℕ) (p : Place) (old mid next new : Lexer) (result : Result (List MapSyntax × AfterRow) AlgError)
+more_following_source : (names : List (List ℕ)) (done : List MapSyntax) (w : List ℕ) (p : Place) (old mid next new : Lexer) (result : Result (List MapSyntax × AfterRow) AlgError)
     → Reads (One after_map) old (Ok after.Map) mid → TakesAt (word w) p mid next
-    → ReadsBehind (is_among names w && not (is_among (sources done) w)) p (Then (Target names w) (λ m. MoreMaps names (done ++ m ∷ []))) next result new
+    → ReadsFollowing (is_among names w && not (is_among (sources done) w)) p (Then (Target names w) (λ m. MoreMaps names (done ++ m ∷ []))) next result new
     → Reads (MoreMaps names done) old result new
-more_behind_source names done w p old mid next new result x takes y =
-    more_behind names done old mid new after.Map result x
+more_following_source names done w p old mid next new result x takes y =
+    more_following names done old mid new after.Map result x
     (reads_tested (source_mark names (sources done)) _ w (word w) (is_among names w && not (is_among (sources done) w)) p mid next new result
     (source_determined names (sources done)) (source_possible names done) refl takes y)
 
 -- one map more was read
 pub more_next : (names : List (List ℕ)) (done : List MapSyntax) (w : List ℕ) (p : Place) (old mid next last : Lexer) (m : MapSyntax)
     → Reads (One after_map) old (Ok after.Map) mid → TakesAt (word w) p mid next
-    → ReadsBehind (is_among names w && not (is_among (sources done) w)) p (Target names w) next (Ok m) last
+    → ReadsFollowing (is_among names w && not (is_among (sources done) w)) p (Target names w) next (Ok m) last
     → Leads (MoreMaps names done) old (MoreMaps names (done ++ m ∷ [])) last
 more_next names done w p old mid next last m x takes y result new z =
-    more_behind_source names done w p old mid next new result x takes
-    (behind_then (Target names w) _ (is_among names w && not (is_among (sources done) w)) p next last new m result (target_determined names w) y z)
+    more_following_source names done w p old mid next new result x takes
+    (following_then (Target names w) _ (is_among names w && not (is_among (sources done) w)) p next last new m result (target_determined names w) y z)
 
 -- one map more is at fault
 pub more_bad : (names : List (List ℕ)) (done : List MapSyntax) (w : List ℕ) (p : Place) (old mid next new : Lexer) (e : AlgError)
     → Reads (One after_map) old (Ok after.Map) mid → TakesAt (word w) p mid next
-    → ReadsBehind (is_among names w && not (is_among (sources done) w)) p (Target names w) next (Err e) new
+    → ReadsFollowing (is_among names w && not (is_among (sources done) w)) p (Target names w) next (Err e) new
     → Reads (MoreMaps names done) old (Err e) new
 more_bad names done w p old mid next new e x takes y =
-    more_behind_source names done w p old mid next new (Err e) x takes
-    (behind_not_first (Target names w) _ (is_among names w && not (is_among (sources done) w)) p next new e (λ m. more_possible names (done ++ m ∷ [])) y)
+    more_following_source names done w p old mid next new (Err e) x takes
+    (following_not_first (Target names w) _ (is_among names w && not (is_among (sources done) w)) p next new e (λ m. more_possible names (done ++ m ∷ [])) y)
 
 -- what the target of a map means
 abbrev pub MapTo : List ℕ → List ℕ → MapSyntax → List Mark → Type 0
@@ -326,7 +326,7 @@ map_possible : (source target : List ℕ) → IsPossible (MapTo source target)
 map_possible source target = (record { source = source; target = target }, [], (refl, refl))
 
 -- no arrow stands after a source
-pub target_no_arrow : (names : List (List ℕ)) (source : List ℕ) (old new : Lexer) (e : AlgError) → IsRefusal (Lacks (IsTok arrow)) old e → Reads (Target names source) old (Err e) new
+pub target_no_arrow : (names : List (List ℕ)) (source : List ℕ) (old new : Lexer) (e : AlgError) → IsRefusal (Misses (IsTok arrow)) old e → Reads (Target names source) old (Err e) new
 target_no_arrow names source old new e x =
     reads_not_first (One arrow_mark) (λ _. TargetName names source) old new e
     (λ _. then_possible (One (target_mark names)) (MapTo source) ([], target_mark names [] ∷ [], refl) (map_possible source))
@@ -352,8 +352,8 @@ target_good names source target old mid new takes x =
 
 -- what reading a map after these ones says
 abbrev pub IsRead : List (List ℕ) → List ℕ → Place → Lexer → Result MapSyntax AlgError → Lexer → List MapSyntax → Type 0
-IsRead names w p old result new ms = ReadsBehind (is_among names w && not (is_among (sources ms) w)) p (Target names w) old result new
+IsRead names w p old result new ms = ReadsFollowing (is_among names w && not (is_among (sources ms) w)) p (Target names w) old result new
 
-pub read_behind : (names : List (List ℕ)) (w : List ℕ) (p : Place) (old new : Lexer) (result : Result MapSyntax AlgError) (ms ns : List MapSyntax)
+pub read_following : (names : List (List ℕ)) (w : List ℕ) (p : Place) (old new : Lexer) (result : Result MapSyntax AlgError) (ms ns : List MapSyntax)
     → ms ≡ ns → IsRead names w p old result new ms → IsRead names w p old result new ns
-read_behind names w p old new result ms ns e x = subst (IsRead names w p old result new) e x
+read_following names w p old new result ms ns e x = subst (IsRead names w p old result new) e x

@@ -37,9 +37,9 @@ same_back v w = by (bytes_eq v w) (bytes_eq w v) refl refl
     by false true p q = absurd (true≢false (sym ((bytes_eq-Decides v w).1 (sym ((bytes_eq-Decides w v).0 q))) ∙ p))
 
 -- the definitions after those of the entries
-apart_behind : (ts : List Expression) (es : List Entry) (ds : List Definition) → AreApart (latest_first ts es ds) → AreApart ds
-apart_behind ts [] ds h = h
-apart_behind ts (e ∷ es) ds h = (apart_behind ts es (record { name = e.0.now; expression = tree_at ts e.1 } ∷ ds) h).1
+apart_following : (ts : List Expression) (es : List Entry) (ds : List Definition) → AreApart (latest_first ts es ds) → AreApart ds
+apart_following ts [] ds h = h
+apart_following ts (e ∷ es) ds h = (apart_following ts es (record { name = e.0.now; expression = tree_at ts e.1 } ∷ ds) h).1
 
 -- a name that is defined after the entries is none of theirs
 not_found : (ts : List Expression) (es : List Entry) (ds : List Definition) (w : List ℕ) → AreApart (latest_first ts es ds) → is_among (names_of ds) w ≡ true → found ts es w ≡ None
@@ -54,7 +54,7 @@ not_found ts (e ∷ es) ds w h m =
     by f false p = f
     by f true p =
         let same : w ≡ e.0.now = (bytes_eq-Decides w e.0.now).0 p in
-        absurd (true≢false (sym m ∙ ap (is_among (names_of ds)) same ∙ (apart_behind ts es more h).0))
+        absurd (true≢false (sym m ∙ ap (is_among (names_of ds)) same ∙ (apart_following ts es more h).0))
 
 -- what a name stands for, with the entries in front of other definitions
 lookup_latest : (ts : List Expression) (es : List Entry) (ds : List Definition) (w : List ℕ) → AreApart (latest_first ts es ds) → lookup (latest_first ts es ds) w ≡ first_of (found ts es w) (lookup ds w)

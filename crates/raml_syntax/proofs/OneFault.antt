@@ -11,7 +11,7 @@ use Rattle.raml_syntax.specs.declared.faults.ExprKind.TheVariants.{BadByte, Unex
 use Rattle.raml_syntax.specs.Marks.{Mark, plain, file_marks}
 use Rattle.raml_syntax.specs.Productions.{clean, toks, Begins, TakesNumber, Refuses}
 use Rattle.raml_syntax.specs.Trees.{File}
-use Rattle.raml_syntax.specs.ExprText.{greatest_behind, ExprText, Stands, IsExprFault}
+use Rattle.raml_syntax.specs.ExprText.{greatest_following, ExprText, Stands, IsExprFault}
 use Rattle.raml_syntax.proofs.Sequences.{toks-append, clean-append, toks-clean}
 use Rattle.raml_syntax.proofs.Compare.{Diverges, here, next, Compared, same, apart}
 use Rattle.raml_syntax.proofs.Beginnings.{GoesBeyond, two_begin}
@@ -49,8 +49,8 @@ files_agree a b front x y more others p q h = by (compare_files p.syntax q.synta
     by (apart d) = agree d front x y more others (sym p.marks) (sym q.marks) h
 
 -- the tokens of marks after a front
-toks_behind : (front : List Tok) (m : Mark) (more : List Mark) → toks (clean front ++ m ∷ more) ++ [] ≡ front ++ m.tok ∷ toks more
-toks_behind front m more = append-nil (toks (clean front ++ m ∷ more)) ∙ toks-append (clean front) (m ∷ more) ∙ ap (λ l. l ++ m.tok ∷ toks more) (toks-clean front)
+toks_following : (front : List Tok) (m : Mark) (more : List Mark) → toks (clean front ++ m ∷ more) ++ [] ≡ front ++ m.tok ∷ toks more
+toks_following front m more = append-nil (toks (clean front ++ m ∷ more)) ∙ toks-append (clean front) (m ∷ more) ∙ ap (λ l. l ++ m.tok ∷ toks more) (toks-clean front)
 
 -- after a whole file nothing goes on
 whole_ends : (front : List Tok) (a b : PureAlg) (m : Mark) (more : List Mark) → File a (clean front) → File b (clean front ++ m ∷ more) → ⊥
@@ -61,7 +61,7 @@ whole_ends front a b m more p q =
 
 -- what is refused is in no file
 refused : (front : List Tok) (t : Tok) (a : PureAlg) (m : Mark) (more : List Mark) → Refuses File front t → m.tok ≡ t → File a (clean front ++ m ∷ more) → ⊥
-refused front t a m more refuses e p = refuses a (clean front ++ m ∷ more) [] (toks more) p (toks_behind front m more ∙ ap (λ u. front ++ u ∷ toks more) e)
+refused front t a m more refuses e p = refuses a (clean front ++ m ∷ more) [] (toks more) p (toks_following front m more ∙ ap (λ u. front ++ u ∷ toks more) e)
 
 -- no fault of meaning stands where a file has none
 no_fault : (front : List Tok) (t : Tok) (rest : List ℕ) (k : ExprKind) (a : PureAlg) (more : List Mark) → File a (clean front ++ plain t ∷ more) → Stands front (token t rest) k → ⊥
@@ -147,9 +147,9 @@ one_fault text f g p q = by (two_begin [] p.front q.front text p.rest q.rest p.l
     by (inl e) =
         let passed : p.passed ≡ q.passed = cancel_end p.passed q.passed q.rest (ap (λ l. p.passed ++ l) (sym e.1) ∙ sym p.split ∙ q.split) in
         let place : f.place ≡ g.place = p.place ∙ ap₂ (λ x y. place_after (x ++ gap_of false y)) passed e.1 ∙ sym q.place in
-        let shows : Stands p.front (step_of (greatest_behind p.front) p.rest) g.kind =
-        subst (λ l. Stands l (step_of (greatest_behind l) p.rest) g.kind) (sym e.0) (subst (λ x. Stands q.front (step_of (greatest_behind q.front) x) g.kind) (sym e.1) q.shows) in
-        let kind : f.kind ≡ g.kind = same_kind p.front (step_of (greatest_behind p.front) p.rest) f.kind g.kind p.shows shows in
+        let shows : Stands p.front (step_of (greatest_following p.front) p.rest) g.kind =
+        subst (λ l. Stands l (step_of (greatest_following l) p.rest) g.kind) (sym e.0) (subst (λ x. Stands q.front (step_of (greatest_following q.front) x) g.kind) (sym e.1) q.shows) in
+        let kind : f.kind ≡ g.kind = same_kind p.front (step_of (greatest_following p.front) p.rest) f.kind g.kind p.shows shows in
         λ i. record { place = place i; kind = kind i }
     by (inr (inl k)) = absurd (no_fault_within p.front q.front k.2 k.0 k.1 f.kind k.3 (fault_goes q.front _ g.kind q.shows) (subst (λ x. Stands p.front x f.kind) k.4 p.shows))
     by (inr (inr k)) = absurd (no_fault_within q.front p.front k.2 k.0 k.1 g.kind k.3 (fault_goes p.front _ f.kind p.shows) (subst (λ x. Stands q.front x g.kind) k.4 q.shows))
@@ -164,7 +164,7 @@ no_text_fault text a f p q = by (two_begin [] p.tokens q.front text p.rest q.res
 
     by : ((p.tokens ≡ q.front) × (p.rest ≡ q.rest)) ⊎ (GoesBeyond [] p.tokens p.rest q.front ⊎ GoesBeyond [] q.front q.rest p.tokens) → ⊥
     by (inl e) =
-        let none : step_of (greatest_behind q.front) q.rest ≡ end = subst (λ l. step_of (greatest_behind l) q.rest ≡ end) e.0 (subst (λ x. step_of (greatest_behind p.tokens) x ≡ end) e.1 p.ended) in
+        let none : step_of (greatest_following q.front) q.rest ≡ end = subst (λ l. step_of (greatest_following l) q.rest ≡ end) e.0 (subst (λ x. step_of (greatest_following p.tokens) x ≡ end) e.1 p.ended) in
         ended f.kind (subst (λ ts. File a (clean ts)) e.0 p.file) (subst (λ x. Stands q.front x f.kind) none q.shows)
     by (inr (inl g)) = let k : end ≡ token g.0 g.1 = sym p.ended ∙ g.4 in absurd (cc)
     by (inr (inr g)) =

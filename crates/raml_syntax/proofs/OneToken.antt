@@ -10,7 +10,7 @@ use Rattle.raml_syntax.specs.declared.faults.AlgError.TheVariants.{Bad, NoMemory
 use Rattle.raml_syntax.specs.Marks.{Mark}
 use Rattle.raml_syntax.specs.Productions.{toks, Begins, Refuses, FaultAt}
 use Rattle.raml_syntax.specs.Reading.{TakesOne}
-use Rattle.raml_syntax.specs.Leaves.{TakesAt, Lacks, LacksNumber, IsRefusal}
+use Rattle.raml_syntax.specs.Leaves.{TakesAt, Misses, MissesNumber, IsRefusal}
 use Rattle.raml_syntax.specs.Sequences.{One, Reads}
 
 -- a mark is its token and its fault
@@ -38,43 +38,43 @@ one_begins f r = (r, f r, [], refl)
 
 -- what no mark has is refused
 one_refuses : {R : Type 0} (f : R → Mark) (W : Tok → Type 0) (t : Tok) → ((r : R) → W (f r).tok) → (W t → ⊥) → Refuses (One f) [] t
-one_refuses f W t all lacks r ms y z p h =
+one_refuses f W t all misses r ms y z p h =
     let e : toks (f r ∷ []) ++ y ≡ t ∷ z = ap (λ l. toks l ++ y) (sym p) ∙ h in
     let same : (f r).tok ≡ t = cc in
-    lacks (subst W same (all r))
+    misses (subst W same (all r))
 
-lacking : {R : Type 0} (f : R → Mark) (r : R) (W : Tok → Type 0) (s : Step) (k : ExprKind) → ((r : R) → W (f r).tok) → ((n : ℕ) → W (number n) → ⊥) → Lacks W s k → FaultAt (One f) [] s k
-lacking f r W end k all no_number l = (l, one_begins f r)
-lacking f r W (bad lex.BadByte) k all no_number l = (l, one_begins f r)
-lacking f r W (bad lex.NumberTooLarge) k all no_number l = inr (l, one_begins f r, λ n. one_refuses f W (number n) all (no_number n))
-lacking f r W (token t rest) k all no_number l = inr (l.0, one_begins f r, one_refuses f W t all l.1)
+missing : {R : Type 0} (f : R → Mark) (r : R) (W : Tok → Type 0) (s : Step) (k : ExprKind) → ((r : R) → W (f r).tok) → ((n : ℕ) → W (number n) → ⊥) → Misses W s k → FaultAt (One f) [] s k
+missing f r W end k all no_number l = (l, one_begins f r)
+missing f r W (bad lex.BadByte) k all no_number l = (l, one_begins f r)
+missing f r W (bad lex.NumberTooLarge) k all no_number l = inr (l, one_begins f r, λ n. one_refuses f W (number n) all (no_number n))
+missing f r W (token t rest) k all no_number l = inr (l.0, one_begins f r, one_refuses f W t all l.1)
 
 -- what stands next is no token that a mark may have
-pub one_lacks : {R : Type 0} (f : R → Mark) (r : R) (W : Tok → Type 0) (e : AlgError) (old new : Lexer) → ((r : R) → W (f r).tok) → ((n : ℕ) → W (number n) → ⊥)
-    → IsRefusal (Lacks W) old e → Reads (One f) old (Err e) new
-one_lacks f r W (Bad fault) old new all no_number l = record {
+pub one_misses : {R : Type 0} (f : R → Mark) (r : R) (W : Tok → Type 0) (e : AlgError) (old new : Lexer) → ((r : R) → W (f r).tok) → ((n : ℕ) → W (number n) → ⊥)
+    → IsRefusal (Misses W) old e → Reads (One f) old (Err e) new
+one_misses f r W (Bad fault) old new all no_number l = record {
   front = [];
   at = old;
   taken = refl;
   place = l.0;
-  shows = lacking f r W (step_of old.greatest old.rest) fault.kind all no_number l.1;
+  shows = missing f r W (step_of old.greatest old.rest) fault.kind all no_number l.1;
 }
-one_lacks f r W NoMemory old new all no_number l = absurd l
+one_misses f r W NoMemory old new all no_number l = absurd l
 
-lacking_number : {R : Type 0} (f : R → Mark) (r : R) (n : ℕ) (s : Step) (k : ExprKind) → (f r).tok ≡ number n → ((r : R) → (n : ℕ) × ((f r).tok ≡ number n)) → LacksNumber s k → FaultAt (One f) [] s k
-lacking_number f r n end k e all l = (l, one_begins f r)
-lacking_number f r n (bad lex.BadByte) k e all l = (l, one_begins f r)
-lacking_number f r n (bad lex.NumberTooLarge) k e all l = inl (l, (r, n, f r, [], e, refl))
-lacking_number f r n (token t rest) k e all l = inr (l.0, one_begins f r, one_refuses f (λ t. (n : ℕ) × (t ≡ number n)) t all (λ x. l.1 x.0 x.1))
+missing_number : {R : Type 0} (f : R → Mark) (r : R) (n : ℕ) (s : Step) (k : ExprKind) → (f r).tok ≡ number n → ((r : R) → (n : ℕ) × ((f r).tok ≡ number n)) → MissesNumber s k → FaultAt (One f) [] s k
+missing_number f r n end k e all l = (l, one_begins f r)
+missing_number f r n (bad lex.BadByte) k e all l = (l, one_begins f r)
+missing_number f r n (bad lex.NumberTooLarge) k e all l = inl (l, (r, n, f r, [], e, refl))
+missing_number f r n (token t rest) k e all l = inr (l.0, one_begins f r, one_refuses f (λ t. (n : ℕ) × (t ≡ number n)) t all (λ x. l.1 x.0 x.1))
 
 -- what stands next is no number
-pub one_lacks_number : {R : Type 0} (f : R → Mark) (r : R) (n : ℕ) (e : AlgError) (old new : Lexer) → (f r).tok ≡ number n → ((r : R) → (n : ℕ) × ((f r).tok ≡ number n))
-    → IsRefusal LacksNumber old e → Reads (One f) old (Err e) new
-one_lacks_number f r n (Bad fault) old new is all l = record {
+pub one_misses_number : {R : Type 0} (f : R → Mark) (r : R) (n : ℕ) (e : AlgError) (old new : Lexer) → (f r).tok ≡ number n → ((r : R) → (n : ℕ) × ((f r).tok ≡ number n))
+    → IsRefusal MissesNumber old e → Reads (One f) old (Err e) new
+one_misses_number f r n (Bad fault) old new is all l = record {
   front = [];
   at = old;
   taken = refl;
   place = l.0;
-  shows = lacking_number f r n (step_of old.greatest old.rest) fault.kind is all l.1;
+  shows = missing_number f r n (step_of old.greatest old.rest) fault.kind is all l.1;
 }
-one_lacks_number f r n NoMemory old new is all l = absurd l
+one_misses_number f r n NoMemory old new is all l = absurd l

@@ -178,8 +178,8 @@ printed_table greatest (n ∷ ns) (r ∷ rs) (row ∷ rows) f =
     let end = rows_text (n ∷ ns) (row ∷ rows) ++ codes "}" in
     let values = printed_values greatest (n ∷ []) r ns rs (fresh_more [] n ns apart.0 (λ w h. refl)) apart.1 p.1 (omega arith) in
     let all_rows = printed_rows greatest (n ∷ ns) [] (row ∷ rows) f.are_names f.names_differ f.over (λ w h. refl) f.rows_differ f.are_row_names (omega arith) in
-    let behind = printed_then all_rows refl (mark_next (plain right_brace) (codes "}") refl (λ z. refl) printed_none) in
-    let rest = printed_then values (stops_rows (n ∷ ns) (row ∷ rows)) behind in
+    let after = printed_then all_rows refl (mark_next (plain right_brace) (codes "}") refl (λ z. refl) printed_none) in
+    let rest = printed_then values (stops_rows (n ∷ ns) (row ∷ rows)) after in
     let whole = mark_next (plain left_brace) (codes "{") refl (λ z. refl)
     (word_next (own_name [] n) n (own_clear [] n p.0 refl (omega arith)) refl (name_word n p.0) (stops_values r ns rs row rows) rest) in
     let marks : List (List ℕ) → List Mark = λ all.

@@ -45,7 +45,7 @@ pub fresh_less : (before : List (List ℕ)) (n : List ℕ) (ns : List (List ℕ)
 fresh_less before n ns f w h = f w (or_right (bytes_eq n w) (is_among ns w) h)
 
 pub fresh_more : (before : List (List ℕ)) (n : List ℕ) (ns : List (List ℕ)) → is_among ns n ≡ false → Fresh before (n ∷ ns) → Fresh (before ++ n ∷ []) ns
-fresh_more before n ns lacks f w h = not_pushed before n w (fresh_less before n ns f w h) (other_apart n w ns lacks h)
+fresh_more before n ns misses f w h = not_pushed before n w (fresh_less before n ns f w h) (other_apart n w ns misses h)
 
 -- the names at places
 pub at_among : (ns : List (List ℕ)) (k : ℕ) → k < length ns → is_among ns (get_or ns k []) ≡ true

@@ -24,7 +24,7 @@ use Rattle.raml_syntax.specs.Productions.{clean, toks}
 use Rattle.raml_syntax.specs.Tests.{is_in_range, is_same_carrier}
 use Rattle.raml_syntax.specs.Printed.{ranged_text, counted_text, paired_text, single_text, expression_text, header_text, alg_text}
 use Rattle.raml_syntax.specs.declared.file.Keyword.TheVariants as k
-use Rattle.raml_syntax.specs.ExprText.{greatest_behind, BeginsWith, ExprText}
+use Rattle.raml_syntax.specs.ExprText.{greatest_following, BeginsWith, ExprText}
 use Rattle.raml_syntax.proofs.Beginnings.{IsSettled, lexes_begin}
 use Rattle.raml_syntax.proofs.Headers.{keyword_settled}
 use Rattle.raml_syntax.proofs.TestLaws.{carrier_self, IsBase, meets_in_range}
@@ -267,7 +267,7 @@ header_in Two = Some 2
 -- the tokens of the text of an algebra of this edition
 text_begins : (edition : Edition) (s : Syntax) (text : List ℕ) → Lexes (greatest_number edition) (toks (rest_marks [] [] s)) text
     → (rest : List ℕ) × BeginsWith [] (toks (header_marks (header_in edition) ++ rest_marks [] [] s)) (header_text edition ++ text) rest
-    × (step_of (greatest_behind (toks (header_marks (header_in edition) ++ rest_marks [] [] s))) rest ≡ end)
+    × (step_of (greatest_following (toks (header_marks (header_in edition) ++ rest_marks [] [] s))) rest ≡ end)
 text_begins One s text l =
     let main = word (codes "main") in
     let others = toks (marks [] 0 s ++ plain semicolon ∷ []) in

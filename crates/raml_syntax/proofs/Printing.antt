@@ -8,9 +8,9 @@ use Rattle.std.proofs.lemmas.List.{map-append}
 use Rattle.std.proofs.lemmas.Fmt.{decimal_is_IsNumeral}
 use Rattle.std.proofs.lemmas.Str.{digit_value_digit}
 use Rattle.std.proofs.lemmas.Str.Parse.{digit_from_value}
-use Rattle.meta_base.specs.Bytes.{is_space, is_digit, is_letter, is_word_byte, is_word, front, behind, number_from}
+use Rattle.meta_base.specs.Bytes.{is_space, is_digit, is_letter, is_word_byte, is_word, front, after_front, number_from}
 use Rattle.raml_lex.specs.declared.token.LexKind.TheVariants.{NumberTooLarge}
-use Rattle.raml_lex.specs.Gaps.{behind_gap}
+use Rattle.raml_lex.specs.Gaps.{after_gap}
 use Rattle.raml_lex.specs.Tokens.{Tok, word, number, bad, token, number_at, token_at, step_of, Lexes}
 use Rattle.alg_model.specs.declared.edition.TheConstants.{MAX_LABEL_NUMBER}
 use Rattle.raml_syntax.specs.Marks.{Mark, plain}
@@ -46,12 +46,12 @@ front_all p (c ∷ w) z h e =
     let q = and_parts (p c) (list_all p w) h in
     cond-true (p c) (c ∷ front p (w ++ z)) [] q.0 ∙ ap (λ x. c ∷ x) (front_all p w z q.1 e)
 
-behind_all : (p : ℕ → Bool) (w z : List ℕ) → list_all p w ≡ true → ends p z ≡ true → behind p (w ++ z) ≡ z
-behind_all p [] [] h e = refl
-behind_all p [] (c ∷ z) h e = cond-false (p c) (behind p z) (c ∷ z) (off (p c) e)
-behind_all p (c ∷ w) z h e =
+after_all : (p : ℕ → Bool) (w z : List ℕ) → list_all p w ≡ true → ends p z ≡ true → after_front p (w ++ z) ≡ z
+after_all p [] [] h e = refl
+after_all p [] (c ∷ z) h e = cond-false (p c) (after_front p z) (c ∷ z) (off (p c) e)
+after_all p (c ∷ w) z h e =
     let q = and_parts (p c) (list_all p w) h in
-    cond-true (p c) (behind p (w ++ z)) (c ∷ (w ++ z)) q.0 ∙ behind_all p w z q.1 e
+    cond-true (p c) (after_front p (w ++ z)) (c ∷ (w ++ z)) q.0 ∙ after_all p w z q.1 e
 
 -- a word or a number begins with no gap
 no_hash : (c : ℕ) → is_word_byte c ≡ true → (c == 35) ≡ false
@@ -60,7 +60,7 @@ no_hash c h = grind (arith, nat_tests)
 no_space : (c : ℕ) → is_word_byte c ≡ true → is_space c ≡ false
 no_space c h = grind (arith, nat_tests)
 
-no_gap : (c : ℕ) (cs : List ℕ) → is_word_byte c ≡ true → behind_gap false (c ∷ cs) ≡ c ∷ cs
+no_gap : (c : ℕ) (cs : List ℕ) → is_word_byte c ≡ true → after_gap false (c ∷ cs) ≡ c ∷ cs
 no_gap c cs h = cond-false (c == 35) _ _ (no_hash c h) ∙ cond-false (is_space c) _ _ (no_space c h)
 
 word_step : (greatest : ℕ) (w z : List ℕ) → is_word w ≡ true → stops z ≡ true → step_of greatest (w ++ z) ≡ token (word w) z
@@ -71,7 +71,7 @@ word_step greatest (c ∷ w) z h e =
     let all = and_from (is_word_byte c) (list_all is_word_byte w) byte p.1 in
     ap (token_at greatest) (no_gap c (w ++ z) byte)
     ∙ cond-true (is_letter c) _ _ p.0
-    ∙ ap₂ (λ x y. token (word x) y) (front_all is_word_byte (c ∷ w) z all e) (behind_all is_word_byte (c ∷ w) z all e)
+    ∙ ap₂ (λ x y. token (word x) y) (front_all is_word_byte (c ∷ w) z all e) (after_all is_word_byte (c ∷ w) z all e)
 
 -- a digit is no letter
 no_letter : (c : ℕ) → is_digit c ≡ true → is_letter c ≡ false
@@ -104,7 +104,7 @@ digits_step greatest (c ∷ ds) z n some all value small e =
     ap (token_at greatest) (no_gap c (ds ++ z) (or_right (is_letter c) (is_digit c) p.0))
     ∙ cond-false (is_letter c) _ _ (no_letter c p.0)
     ∙ cond-true (is_digit c) _ _ p.0
-    ∙ ap₂ (number_at greatest) (front_all is_digit (c ∷ ds) z all (ends_number z e)) (behind_all is_digit (c ∷ ds) z all (ends_number z e))
+    ∙ ap₂ (number_at greatest) (front_all is_digit (c ∷ ds) z all (ends_number z e)) (after_all is_digit (c ∷ ds) z all (ends_number z e))
     ∙ ap (λ m. cond (nat_le m greatest) (token (number m) z) (bad NumberTooLarge)) value
     ∙ cond-true (nat_le n greatest) _ _ (le-leb n greatest small)
 

@@ -13,9 +13,9 @@ use Rattle.raml_syntax.specs.Meaning.{all_maps, image_place, row_meaning}
 use Rattle.raml_syntax.specs.Marks.{Mark, plain, plain_word, own_name, more_map_marks, maps_marks, rows_marks}
 use Rattle.raml_syntax.specs.Productions.{toks}
 use Rattle.raml_syntax.specs.Reading.{TakesOne}
-use Rattle.raml_syntax.specs.Leaves.{Lacks, IsRefusal, IsTok}
+use Rattle.raml_syntax.specs.Leaves.{Misses, IsRefusal, IsTok}
 use Rattle.raml_syntax.specs.Sequences.{Nothing, One, Then, Reads, IsDetermined, IsPossible}
-use Rattle.raml_syntax.specs.Maps.{after_row, source_mark, target_mark, first_mark, BehindFirst, Maps}
+use Rattle.raml_syntax.specs.Maps.{after_row, source_mark, target_mark, first_mark, FollowingFirst, Maps}
 use Rattle.raml_syntax.specs.Rows.{row_names, colon_mark, row_of, OneRow, MoreRows}
 use Rattle.raml_syntax.proofs.Sequences.{reads_then, reads_not_first, one_determined, nothing_determined, then_determined, then_possible}
 use Rattle.raml_syntax.proofs.Tested.{Leads, reads_at, reads_same, one_mark, one_no_mark}
@@ -26,57 +26,57 @@ use Rattle.raml_syntax.proofs.MapReading.{pair_same, target_is, target_from, map
 abbrev pub NamedRow : List (List ℕ) → List ℕ → List MapSyntax × AfterRow → TableRow × AfterRow → List Mark → Type 0
 NamedRow names name r = Nothing (row_of names name r.0, r.1)
 
-abbrev pub BehindColon : List (List ℕ) → List ℕ → TableRow × AfterRow → List Mark → Type 0
-BehindColon names name = Then (Maps names) (NamedRow names name)
+abbrev pub FollowingColon : List (List ℕ) → List ℕ → TableRow × AfterRow → List Mark → Type 0
+FollowingColon names name = Then (Maps names) (NamedRow names name)
 
-abbrev pub BehindName : List (List ℕ) → List ℕ → TableRow × AfterRow → List Mark → Type 0
-BehindName names name = Then (One colon_mark) (λ _. BehindColon names name)
+abbrev pub FollowingName : List (List ℕ) → List ℕ → TableRow × AfterRow → List Mark → Type 0
+FollowingName names name = Then (One colon_mark) (λ _. FollowingColon names name)
 
 named_possible : (names : List (List ℕ)) (name : List ℕ) (r : List MapSyntax × AfterRow) → IsPossible (NamedRow names name r)
 named_possible names name r = ((row_of names name r.0, r.1), [], (refl, refl))
 
-colon_possible : (names : List (List ℕ)) (name : List ℕ) → IsPossible (BehindColon names name)
+colon_possible : (names : List (List ℕ)) (name : List ℕ) → IsPossible (FollowingColon names name)
 colon_possible names name = then_possible (Maps names) (NamedRow names name) (maps_possible names) (named_possible names name)
 
-name_possible : (names : List (List ℕ)) (name : List ℕ) → IsPossible (BehindName names name)
-name_possible names name = then_possible (One colon_mark) (λ _. BehindColon names name) (tt, colon_mark tt ∷ [], refl) (λ _. colon_possible names name)
+name_possible : (names : List (List ℕ)) (name : List ℕ) → IsPossible (FollowingName names name)
+name_possible names name = then_possible (One colon_mark) (λ _. FollowingColon names name) (tt, colon_mark tt ∷ [], refl) (λ _. colon_possible names name)
 
 colon_determined : IsDetermined (One colon_mark)
 colon_determined = one_determined colon_mark (λ r s e. refl)
 
 row_determined : (names before : List (List ℕ)) → IsDetermined (OneRow names before)
 row_determined names before =
-    then_determined (One (own_name before)) (BehindName names) (name_determined before)
-    (λ name. then_determined (One colon_mark) (λ _. BehindColon names name) colon_determined
+    then_determined (One (own_name before)) (FollowingName names) (name_determined before)
+    (λ name. then_determined (One colon_mark) (λ _. FollowingColon names name) colon_determined
     (λ _. then_determined (Maps names) (NamedRow names name) (maps_determined names) (λ r. nothing_determined (row_of names name r.0, r.1))))
 
 -- no name stands first
 pub row_no_name : (names before : List (List ℕ)) (old new : Lexer) (e : AlgError) → Reads (One (own_name before)) old (Err e) new → Reads (OneRow names before) old (Err e) new
-row_no_name names before old new e x = reads_not_first (One (own_name before)) (BehindName names) old new e (name_possible names) x
+row_no_name names before old new e x = reads_not_first (One (own_name before)) (FollowingName names) old new e (name_possible names) x
 
 row_named : (names before : List (List ℕ)) (old mid new : Lexer) (name : List ℕ) (result : Result (TableRow × AfterRow) AlgError)
-    → Reads (One (own_name before)) old (Ok name) mid → Reads (BehindName names name) mid result new → Reads (OneRow names before) old result new
-row_named names before old mid new name result x y = reads_then (One (own_name before)) (BehindName names) old mid new name result (name_determined before) x y
+    → Reads (One (own_name before)) old (Ok name) mid → Reads (FollowingName names name) mid result new → Reads (OneRow names before) old result new
+row_named names before old mid new name result x y = reads_then (One (own_name before)) (FollowingName names) old mid new name result (name_determined before) x y
 
 -- and no colon
 pub row_no_colon : (names before : List (List ℕ)) (old mid new : Lexer) (name : List ℕ) (e : AlgError)
-    → Reads (One (own_name before)) old (Ok name) mid → IsRefusal (Lacks (IsTok colon)) mid e → Reads (OneRow names before) old (Err e) new
+    → Reads (One (own_name before)) old (Ok name) mid → IsRefusal (Misses (IsTok colon)) mid e → Reads (OneRow names before) old (Err e) new
 row_no_colon names before old mid new name e x y =
     row_named names before old mid new name (Err e) x
-    (reads_not_first (One colon_mark) (λ _. BehindColon names name) mid new e (λ _. colon_possible names name)
+    (reads_not_first (One colon_mark) (λ _. FollowingColon names name) mid new e (λ _. colon_possible names name)
     (one_no_mark colon_mark colon e mid new (λ u. refl) (λ n (k : colon ≡ number n). absurd (cc)) y))
 
-row_behind : (names before : List (List ℕ)) (old mid next new : Lexer) (name : List ℕ) (result : Result (TableRow × AfterRow) AlgError)
-    → Reads (One (own_name before)) old (Ok name) mid → TakesOne colon mid next → Reads (BehindColon names name) next result new → Reads (OneRow names before) old result new
-row_behind names before old mid next new name result x takes y =
+row_following : (names before : List (List ℕ)) (old mid next new : Lexer) (name : List ℕ) (result : Result (TableRow × AfterRow) AlgError)
+    → Reads (One (own_name before)) old (Ok name) mid → TakesOne colon mid next → Reads (FollowingColon names name) next result new → Reads (OneRow names before) old result new
+row_following names before old mid next new name result x takes y =
     row_named names before old mid new name result x
-    (reads_then (One colon_mark) (λ _. BehindColon names name) mid next new tt result colon_determined (one_mark colon_mark colon mid next (λ u. refl) takes) y)
+    (reads_then (One colon_mark) (λ _. FollowingColon names name) mid next new tt result colon_determined (one_mark colon_mark colon mid next (λ u. refl) takes) y)
 
 -- and no maps
 pub row_no_maps : (names before : List (List ℕ)) (old mid next new : Lexer) (name : List ℕ) (e : AlgError)
     → Reads (One (own_name before)) old (Ok name) mid → TakesOne colon mid next → Reads (Maps names) next (Err e) new → Reads (OneRow names before) old (Err e) new
 row_no_maps names before old mid next new name e x takes y =
-    row_behind names before old mid next new name (Err e) x takes (reads_not_first (Maps names) (NamedRow names name) next new e (named_possible names name) y)
+    row_following names before old mid next new name (Err e) x takes (reads_not_first (Maps names) (NamedRow names name) next new e (named_possible names name) y)
 
 -- the row was read
 pub row_read : (names before : List (List ℕ)) (old mid next new : Lexer) (name : List ℕ) (ms : List MapSyntax) (after : AfterRow) (images : List (Option ℕ))
@@ -84,7 +84,7 @@ pub row_read : (names before : List (List ℕ)) (old mid next new : Lexer) (name
     → Reads (OneRow names before) old (Ok (record { name = name; images = images }, after)) new
 row_read names before old mid next new name ms after images e x takes y =
     subst (λ l. Reads (OneRow names before) old (Ok (record { name = name; images = l }, after)) new) (sym e)
-    (row_behind names before old mid next new name (Ok (row_of names name ms, after)) x takes
+    (row_following names before old mid next new name (Ok (row_of names name ms, after)) x takes
     (reads_then (Maps names) (NamedRow names name) next new new (ms, after) (Ok (row_of names name ms, after)) (maps_determined names) y ([], (refl, refl), refl)))
 
 -- the same, by what stands in the text
@@ -97,7 +97,7 @@ none_is w e = (bytes_eq-Decides w (codes "none")).0 e
 maps_are : (names : List (List ℕ)) (r : List MapSyntax × AfterRow) (ms : List Mark) → Maps names r ms → MapsAre names r ms
 maps_are names r ms (w, xs, ys, p, q, e) = by (is_none w) refl q
   where
-    by : (b : Bool) → is_none w ≡ b → BehindFirst names w b r ys → MapsAre names r ms
+    by : (b : Bool) → is_none w ≡ b → FollowingFirst names w b r ys → MapsAre names r ms
     by true k (a, us, vs, pu, (pr, pv), f) =
         let plainly : first_mark names w ≡ plain_word w = rw k refl in
         let first : first_mark names w ≡ plain_word (codes "none") = plainly ∙ ap plain_word (none_is w k) in
@@ -118,7 +118,7 @@ maps_from names r ms (maps m more, are, means, marks) =
       source_mark names [] m.source ∷ [],
       target ++ rest,
       ap (λ x. x ∷ []) (sym first),
-      subst (λ b. BehindFirst names m.source b r (target ++ rest)) (sym are) (m, target, rest, target_from names m, (more, means, refl), refl),
+      subst (λ b. FollowingFirst names m.source b r (target ++ rest)) (sym are) (m, target, rest, target_from names m, (more, means, refl), refl),
       marks,
     )
 
@@ -163,9 +163,9 @@ row_from names before r ms (s, is_row, means, marks) =
     )
 
 -- what follows a row and a mark after it
-abbrev pub BehindRow : List (List ℕ) → List TableRow → TableRow → AfterRow → List TableRow → List Mark → Type 0
-BehindRow names done row Row = MoreRows names (done ++ row ∷ [])
-BehindRow names done row End = Nothing (done ++ row ∷ [])
+abbrev pub FollowingRow : List (List ℕ) → List TableRow → TableRow → AfterRow → List TableRow → List Mark → Type 0
+FollowingRow names done row Row = MoreRows names (done ++ row ∷ [])
+FollowingRow names done row End = Nothing (done ++ row ∷ [])
 
 marks_next : (o c : Mark) (inner rows tail xs ys ms : List Mark) (a : AfterRow)
     → xs ≡ o ∷ c ∷ (inner ++ after_row a ∷ []) → a ≡ Row → plain semicolon ∷ ys ≡ rows ++ tail → ms ≡ xs ++ ys → plain semicolon ∷ ms ≡ plain semicolon ∷ o ∷ c ∷ ((inner ++ rows) ++ tail)
@@ -181,10 +181,10 @@ marks_last o c inner xs ys ms a p k m e =
 names_more : (names : List (List ℕ)) (done : List TableRow) (row : TableRow) (s : RowSyntax) → row ≡ row_meaning names s → row_names (done ++ row ∷ []) ≡ row_names done ++ s.name ∷ []
 names_more names done row s e = map-append (λ (row : TableRow). row.name) done (row ∷ []) ∙ ap (λ (r : TableRow). row_names done ++ r.name ∷ []) e
 
-rows_put : (names : List (List ℕ)) (done r : List TableRow) (ms : List Mark) → Then (OneRow names (row_names done)) (λ x. BehindRow names done x.0 x.1) r ms → MoreRows names done r ms
+rows_put : (names : List (List ℕ)) (done r : List TableRow) (ms : List Mark) → Then (OneRow names (row_names done)) (λ x. FollowingRow names done x.0 x.1) r ms → MoreRows names done r ms
 rows_put names done r ms (x, xs, ys, p, q, e) = by x.1 refl q
   where
-    by : (a : AfterRow) → x.1 ≡ a → BehindRow names done x.0 a r ys → MoreRows names done r ms
+    by : (a : AfterRow) → x.1 ≡ a → FollowingRow names done x.0 a r ys → MoreRows names done r ms
     by Row k (more, all, means, marks) =
         let i = row_is names (row_names done) x xs p in
         let s = i.0 in (
@@ -206,7 +206,7 @@ rows_put names done r ms (x, xs, ys, p, q, e) = by x.1 refl q
 tail_same : (a b : Mark) (xs ys : List Mark) → a ∷ xs ≡ b ∷ ys → xs ≡ ys
 tail_same a b xs ys e = cc
 
-rows_back : (names : List (List ℕ)) (done r : List TableRow) (ms : List Mark) → MoreRows names done r ms → Then (OneRow names (row_names done)) (λ x. BehindRow names done x.0 x.1) r ms
+rows_back : (names : List (List ℕ)) (done r : List TableRow) (ms : List Mark) → MoreRows names done r ms → Then (OneRow names (row_names done)) (λ x. FollowingRow names done x.0 x.1) r ms
 rows_back names done r ms ([], all, means, marks) = absurd (let k : semicolon ∷ toks ms ≡ right_brace ∷ [] = ap toks marks in cc)
 rows_back names done r ms (s ∷ [], all, means, marks) =
     let inner = maps_marks names s.images in
@@ -241,35 +241,35 @@ rows_possible names done =
     let s : RowSyntax = record { name = []; images = no_maps } in
     (done ++ row_meaning names s ∷ [], own_name (row_names done) [] ∷ plain colon ∷ ((maps_marks names no_maps ++ []) ++ plain right_brace ∷ []), (s ∷ [], (tt, tt), refl, refl))
 
-behind_possible : (names : List (List ℕ)) (done : List TableRow) (row : TableRow) (a : AfterRow) → IsPossible (BehindRow names done row a)
-behind_possible names done row Row = rows_possible names (done ++ row ∷ [])
-behind_possible names done row End = (done ++ row ∷ [], [], (refl, refl))
+following_possible : (names : List (List ℕ)) (done : List TableRow) (row : TableRow) (a : AfterRow) → IsPossible (FollowingRow names done row a)
+following_possible names done row Row = rows_possible names (done ++ row ∷ [])
+following_possible names done row End = (done ++ row ∷ [], [], (refl, refl))
 
 -- no row was read
 pub rows_no_row : (names : List (List ℕ)) (done : List TableRow) (before : List TableRow) (old new : Lexer) (e : AlgError)
     → before ≡ done → Reads (OneRow names (row_names before)) old (Err e) new → Reads (MoreRows names done) old (Err e) new
 rows_no_row names done before old new e same x =
     reads_same _ (MoreRows names done) old new (Err e) (rows_put names done) (rows_back names done)
-    (reads_not_first (OneRow names (row_names done)) (λ r. BehindRow names done r.0 r.1) old new e (λ r. behind_possible names done r.0 r.1)
+    (reads_not_first (OneRow names (row_names done)) (λ r. FollowingRow names done r.0 r.1) old new e (λ r. following_possible names done r.0 r.1)
     (reads_at (λ b. OneRow names (row_names b)) before done old new (Err e) same x))
 
-rows_behind : (names : List (List ℕ)) (done before : List TableRow) (old mid new : Lexer) (row : TableRow) (a : AfterRow) (result : Result (List TableRow) AlgError)
-    → before ≡ done → Reads (OneRow names (row_names before)) old (Ok (row, a)) mid → Reads (BehindRow names done row a) mid result new → Reads (MoreRows names done) old result new
-rows_behind names done before old mid new row a result same x y =
+rows_after : (names : List (List ℕ)) (done before : List TableRow) (old mid new : Lexer) (row : TableRow) (a : AfterRow) (result : Result (List TableRow) AlgError)
+    → before ≡ done → Reads (OneRow names (row_names before)) old (Ok (row, a)) mid → Reads (FollowingRow names done row a) mid result new → Reads (MoreRows names done) old result new
+rows_after names done before old mid new row a result same x y =
     reads_same _ (MoreRows names done) old new result (rows_put names done) (rows_back names done)
-    (reads_then (OneRow names (row_names done)) (λ r. BehindRow names done r.0 r.1) old mid new (row, a) result (row_determined names (row_names done))
+    (reads_then (OneRow names (row_names done)) (λ r. FollowingRow names done r.0 r.1) old mid new (row, a) result (row_determined names (row_names done))
     (reads_at (λ b. OneRow names (row_names b)) before done old mid (Ok (row, a)) same x) y)
 
 -- the last row was read
 pub rows_end : (names : List (List ℕ)) (done before rows : List TableRow) (old new : Lexer) (row : TableRow) (a : AfterRow)
     → before ≡ done → rows ≡ done ++ row ∷ [] → a ≡ End → Reads (OneRow names (row_names before)) old (Ok (row, a)) new → Reads (MoreRows names done) old (Ok rows) new
 rows_end names done before rows old new row a same e last x =
-    rows_behind names done before old new new row a (Ok rows) same x
-    (subst (λ b. Reads (BehindRow names done row b) new (Ok rows) new) (sym last) ([], (e, refl), refl))
+    rows_after names done before old new new row a (Ok rows) same x
+    (subst (λ b. Reads (FollowingRow names done row b) new (Ok rows) new) (sym last) ([], (e, refl), refl))
 
 -- a row was read, and more follow
 pub rows_next : (names : List (List ℕ)) (done before rows : List TableRow) (old mid : Lexer) (row : TableRow) (a : AfterRow)
     → before ≡ done → rows ≡ done ++ row ∷ [] → a ≡ Row → Reads (OneRow names (row_names before)) old (Ok (row, a)) mid → Leads (MoreRows names done) old (MoreRows names rows) mid
 rows_next names done before rows old mid row a same e next x result new z =
-    rows_behind names done before old mid new row a result same x
-    (subst (λ b. Reads (BehindRow names done row b) mid result new) (sym next) (reads_at (MoreRows names) rows (done ++ row ∷ []) mid new result e z))
+    rows_after names done before old mid new row a result same x
+    (subst (λ b. Reads (FollowingRow names done row b) mid result new) (sym next) (reads_at (MoreRows names) rows (done ++ row ∷ []) mid new result e z))

@@ -73,14 +73,14 @@ fault_first P Q front (token t rest) k possible f =
     f
 
 -- what follows a first part follows its tokens
-behind_first : {R S : Type 0} (P : R → List Mark → Type 0) (Q : R → S → List Mark → Type 0) (r : R) (ts front : List Tok) (s : S) (ms : List Mark)
+after_first : {R S : Type 0} (P : R → List Mark → Type 0) (Q : R → S → List Mark → Type 0) (r : R) (ts front : List Tok) (s : S) (ms : List Mark)
     → P r (clean ts) → Q r s (clean front ++ ms) → Then P Q s (clean (ts ++ front) ++ ms)
-behind_first P Q r ts front s ms p q =
+after_first P Q r ts front s ms p q =
     (r, clean ts, clean front ++ ms, p, q, ap (λ l. l ++ ms) (clean-append ts front) ∙ append_assoc (clean ts) (clean front) ms)
 
 second_begins : {R S : Type 0} (P : R → List Mark → Type 0) (Q : R → S → List Mark → Type 0) (r : R) (ts front : List Tok)
     → P r (clean ts) → Begins (Q r) front → Begins (Then P Q) (ts ++ front)
-second_begins P Q r ts front p b = (b.0, b.1, b.2, behind_first P Q r ts front b.0 (b.1 ∷ b.2) p b.3)
+second_begins P Q r ts front p b = (b.0, b.1, b.2, after_first P Q r ts front b.0 (b.1 ∷ b.2) p b.3)
 
 second_refuses : {R S : Type 0} (P : R → List Mark → Type 0) (Q : R → S → List Mark → Type 0) (r : R) (ts front : List Tok) (t : Tok)
     → IsDetermined P → P r (clean ts) → Refuses (Q r) front t → Refuses (Then P Q) (ts ++ front) t
@@ -93,7 +93,7 @@ second_refuses P Q r ts front t determined p refuses s ms y z (q, xs, ys, px, qy
 
 second_takes_number : {R S : Type 0} (P : R → List Mark → Type 0) (Q : R → S → List Mark → Type 0) (r : R) (ts front : List Tok)
     → P r (clean ts) → TakesNumber (Q r) front → TakesNumber (Then P Q) (ts ++ front)
-second_takes_number P Q r ts front p (s, n, m, more, e, q) = (s, n, m, more, e, behind_first P Q r ts front s (m ∷ more) p q)
+second_takes_number P Q r ts front p (s, n, m, more, e, q) = (s, n, m, more, e, after_first P Q r ts front s (m ∷ more) p q)
 
 -- a fault in place of the second part
 pub fault_second : {R S : Type 0} (P : R → List Mark → Type 0) (Q : R → S → List Mark → Type 0) (r : R) (ts front : List Tok) (next : Step) (k : ExprKind)
@@ -107,7 +107,7 @@ fault_second P Q r ts front (bad lex.NumberTooLarge) k determined p f =
     f
 fault_second P Q r ts front (token t rest) k determined p f =
     ⊎_elim
-    (λ g. inl (g.0, g.1, behind_first P Q r ts front g.0 (record { tok = t; fault = Some k } ∷ g.1) p g.2))
+    (λ g. inl (g.0, g.1, after_first P Q r ts front g.0 (record { tok = t; fault = Some k } ∷ g.1) p g.2))
     (λ g. inr (g.0, second_begins P Q r ts front p g.1, second_refuses P Q r ts front t determined p g.2))
     f
 

@@ -1,14 +1,14 @@
 -- What is left of a text is shorter after each token.
 use Rattle.std.proofs.Common.{◌≡◌, ℕ, ◌<◌, ◌≤◌, ◌==◌, Bool, true, false, not, ◌||◌, cond, nat_le, List, [], ◌∷◌, length, Ok, arith, refl, ap, sym, subst}
-use Rattle.meta_base.specs.Bytes.{is_line_feed, is_space, is_digit, is_letter, is_word_byte, front, behind, number_from}
+use Rattle.meta_base.specs.Bytes.{is_line_feed, is_space, is_digit, is_letter, is_word_byte, front, after_front, number_from}
 use Rattle.meta_base.specs.declared.ids.Place.{Place}
-use Rattle.raml_lex.specs.Gaps.{behind_gap}
+use Rattle.raml_lex.specs.Gaps.{after_gap}
 use Rattle.raml_lex.specs.Lexers.{Lexer}
 use Rattle.raml_lex.specs.Tokens.{Tok, word, Step, end, bad, token, number_at, pair_at, mark_at, token_at}
 use Rattle.raml_syntax.specs.Marks.{Mark}
 use Rattle.raml_syntax.specs.Reading.{TakesOne, Takes}
 use Rattle.raml_syntax.specs.Sequences.{Reads}
-use Rattle.raml_syntax.specs.Tested.{ReadsBehind}
+use Rattle.raml_syntax.specs.Tested.{ReadsFollowing}
 
 -- what is left after the token, if there is one, has at most so many bytes
 abbrev pub LeavesAtMost : ℕ → Step → Type 0
@@ -20,21 +20,21 @@ either : (n : ℕ) (b : Bool) (s t : Step) → LeavesAtMost n s → LeavesAtMost
 either n true s t x y = x
 either n false s t x y = y
 
-behind_le : (p : ℕ → Bool) (cs : List ℕ) → length (behind p cs) ≤ length cs
-behind_le p [] = omega arith
-behind_le p (c ∷ cs) = by (p c) (behind_le p cs)
+following_le : (p : ℕ → Bool) (cs : List ℕ) → length (after_front p cs) ≤ length cs
+following_le p [] = omega arith
+following_le p (c ∷ cs) = by (p c) (following_le p cs)
   where
-    by : (b : Bool) → length (behind p cs) ≤ length cs → length (cond b (behind p cs) (c ∷ cs)) ≤ length (c ∷ cs)
+    by : (b : Bool) → length (after_front p cs) ≤ length cs → length (cond b (after_front p cs) (c ∷ cs)) ≤ length (c ∷ cs)
     by true h = omega arith
     by false h = omega arith
 
-gap_le : (in_comment : Bool) (cs : List ℕ) → length (behind_gap in_comment cs) ≤ length cs
+gap_le : (in_comment : Bool) (cs : List ℕ) → length (after_gap in_comment cs) ≤ length cs
 gap_le in_comment [] = omega arith
 gap_le true (c ∷ cs) = let h = gap_le (not (is_line_feed c)) cs in omega arith
 gap_le false (c ∷ cs) = by (c == 35) (is_space c) (gap_le true cs) (gap_le false cs)
   where
-    by : (a b : Bool) → length (behind_gap true cs) ≤ length cs → length (behind_gap false cs) ≤ length cs
-        → length (cond a (behind_gap true cs) (cond b (behind_gap false cs) (c ∷ cs))) ≤ length (c ∷ cs)
+    by : (a b : Bool) → length (after_gap true cs) ≤ length cs → length (after_gap false cs) ≤ length cs
+        → length (cond a (after_gap true cs) (cond b (after_gap false cs) (c ∷ cs))) ≤ length (c ∷ cs)
     by true b g h = omega arith
     by false true g h = omega arith
     by false false g h = omega arith
@@ -51,16 +51,16 @@ mark_leaves c cs =
     (either _ (c == 46) _ _ (pair_leaves 46 _ cs) (either _ (c == 45) _ _ (pair_leaves 62 _ cs) tt))))))))))
 
 -- a byte that passes is no part of what is left
-behind_less : (p : ℕ → Bool) (c : ℕ) (cs : List ℕ) → p c ≡ true → length (behind p (c ∷ cs)) ≤ length cs
-behind_less p c cs e = subst (λ b. length (cond b (behind p cs) (c ∷ cs)) ≤ length cs) (sym e) (behind_le p cs)
+following_less : (p : ℕ → Bool) (c : ℕ) (cs : List ℕ) → p c ≡ true → length (after_front p (c ∷ cs)) ≤ length cs
+following_less p c cs e = subst (λ b. length (cond b (after_front p cs) (c ∷ cs)) ≤ length cs) (sym e) (following_le p cs)
 
 token_leaves : (greatest c : ℕ) (cs : List ℕ) → LeavesAtMost (length cs) (token_at greatest (c ∷ cs))
 token_leaves greatest c cs = by (is_letter c) refl (is_digit c) refl
   where
     by : (a : Bool) → is_letter c ≡ a → (b : Bool) → is_digit c ≡ b
-        → LeavesAtMost (length cs) (cond a (token (word (front is_word_byte (c ∷ cs))) (behind is_word_byte (c ∷ cs))) (cond b (number_at greatest (front is_digit (c ∷ cs)) (behind is_digit (c ∷ cs))) (mark_at c cs)))
-    by true e b f = behind_less is_word_byte c cs (ap (λ a. a || is_digit c) e)
-    by false e true f = either _ (nat_le (number_from 0 (front is_digit (c ∷ cs))) greatest) _ _ (behind_less is_digit c cs f) tt
+        → LeavesAtMost (length cs) (cond a (token (word (front is_word_byte (c ∷ cs))) (after_front is_word_byte (c ∷ cs))) (cond b (number_at greatest (front is_digit (c ∷ cs)) (after_front is_digit (c ∷ cs))) (mark_at c cs)))
+    by true e b f = following_less is_word_byte c cs (ap (λ a. a || is_digit c) e)
+    by false e true f = either _ (nat_le (number_from 0 (front is_digit (c ∷ cs))) greatest) _ _ (following_less is_digit c cs f) tt
     by false e false f = mark_leaves c cs
 
 token_shorter : (greatest : ℕ) (text : List ℕ) (t : Tok) (rest : List ℕ) → token_at greatest text ≡ token t rest → length rest < length text
@@ -69,7 +69,7 @@ token_shorter greatest (c ∷ cs) t rest e = let h : length rest ≤ length cs =
 
 pub takes_shorter : (t : Tok) (old new : Lexer) → TakesOne t old new → length new.rest < length old.rest
 takes_shorter t old new x =
-    let h = token_shorter old.greatest (behind_gap false old.rest) t new.rest x.step in
+    let h = token_shorter old.greatest (after_gap false old.rest) t new.rest x.step in
     let g = gap_le false old.rest in
     omega arith
 
@@ -80,6 +80,6 @@ takes_no_longer (t ∷ ts) old new x = let h = takes_shorter t old x.0 x.1 in le
 pub reads_no_longer : {R : Type 0} (P : R → List Mark → Type 0) (r : R) (old new : Lexer) → Reads P old (Ok r) new → length new.rest ≤ length old.rest
 reads_no_longer P r old new x = takes_no_longer x.0 old new x.2
 
-pub behind_no_longer : {R : Type 0} (P : R → List Mark → Type 0) (test : Bool) (p : Place) (r : R) (old new : Lexer) → ReadsBehind test p P old (Ok r) new → length new.rest ≤ length old.rest
-behind_no_longer P true p r old new x = reads_no_longer P r old new x
-behind_no_longer P false p r old new x = absurd (cc)
+pub following_no_longer : {R : Type 0} (P : R → List Mark → Type 0) (test : Bool) (p : Place) (r : R) (old new : Lexer) → ReadsFollowing test p P old (Ok r) new → length new.rest ≤ length old.rest
+following_no_longer P true p r old new x = reads_no_longer P r old new x
+following_no_longer P false p r old new x = absurd (cc)

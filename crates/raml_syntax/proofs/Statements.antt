@@ -22,14 +22,14 @@ use Rattle.raml_syntax.specs.Meaning.{Definition, meaning, with_let, with_lets}
 use Rattle.raml_syntax.specs.Marks.{Mark, plain, plain_word, marks, let_name, rest_marks}
 use Rattle.raml_syntax.specs.Productions.{clean}
 use Rattle.raml_syntax.specs.Reading.{Takes}
-use Rattle.raml_syntax.specs.Leaves.{TakesAt, Lacks}
+use Rattle.raml_syntax.specs.Leaves.{TakesAt, Misses}
 use Rattle.raml_syntax.specs.Sequences.{Nothing, One, Then, Reads, IsDetermined, IsPossible}
-use Rattle.raml_syntax.specs.Forms.{Behind}
+use Rattle.raml_syntax.specs.Forms.{After}
 use Rattle.raml_syntax.specs.Trees.{Expr, Rest}
 use Rattle.raml_syntax.specs.Statements.{is_keyword, is_reserved, keyword_word, Opens, Body, Let, Statement, Leads}
 use Rattle.raml_syntax.proofs.Sequences.{fault_inside, reads_not_first, reads_then, one_determined, nothing_determined, then_determined, then_possible}
-use Rattle.raml_syntax.proofs.OneToken.{one_lacks}
-use Rattle.raml_syntax.proofs.Behind.{behind_determined, behind_possible, nothing_possible}
+use Rattle.raml_syntax.proofs.OneToken.{one_misses}
+use Rattle.raml_syntax.proofs.After.{following_determined, following_possible, nothing_possible}
 use Rattle.raml_syntax.proofs.Shorter.{takes_shorter, takes_no_longer}
 use Rattle.raml_syntax.proofs.Expressions.{expr_determined}
 use Rattle.raml_syntax.proofs.Files.{AreLets}
@@ -53,16 +53,16 @@ pub one_other : {R : Type 0} (f : R → Mark) (r : R) (t : Tok) (p : Place) (old
     → Reads (One f) old (Err (Bad (record { kind = Unexpected; place = p }))) new
 one_other {R} f r t p old mid new no_number other takes =
     let W : Tok → Type 0 = λ u. (r : R) × ((f r).tok ≡ u) in
-    one_lacks f r W (Bad (record { kind = Unexpected; place = p })) old new (λ r. (r, refl)) (λ n w. no_number w.0 n (sym w.1))
-    (takes.place, subst (λ s. Lacks W s Unexpected) (sym takes.takes.step) (refl, λ w. other w.0 w.1))
+    one_misses f r W (Bad (record { kind = Unexpected; place = p })) old new (λ r. (r, refl)) (λ n w. no_number w.0 n (sym w.1))
+    (takes.place, subst (λ s. Misses W s Unexpected) (sym takes.takes.step) (refl, λ w. other w.0 w.1))
 
 -- an expression and its semicolon
 
-pub ended_possible : (a : Expression) → IsPossible (Behind semicolon (Nothing a))
-ended_possible a = behind_possible semicolon (Nothing a) (nothing_possible a)
+pub ended_possible : (a : Expression) → IsPossible (After semicolon (Nothing a))
+ended_possible a = following_possible semicolon (Nothing a) (nothing_possible a)
 
 pub body_determined : (ds : List Definition) → IsDetermined (Body ds)
-body_determined ds = then_determined (Expr ds 0) (λ a. Behind semicolon (Nothing a)) (expr_determined ds 0) (λ a. behind_determined semicolon (Nothing a) (nothing_determined a))
+body_determined ds = then_determined (Expr ds 0) (λ a. After semicolon (Nothing a)) (expr_determined ds 0) (λ a. following_determined semicolon (Nothing a) (nothing_determined a))
 
 body_from : (ds : List Definition) (s : Syntax) → IsSyntax s → Body ds (meaning ds s) (marks ds 0 s ++ plain semicolon ∷ [])
 body_from ds s i =
@@ -93,8 +93,8 @@ defined_possible ds name = then_possible (Body ds) (λ a. Nothing (defined ds na
 
 pub let_determined : (ds : List Definition) → IsDetermined (Let ds)
 let_determined ds =
-    then_determined (One (let_name ds)) (λ name. Behind equals (Defined ds name)) (name_determined ds)
-    (λ name. behind_determined equals (Defined ds name) (then_determined (Body ds) (λ a. Nothing (defined ds name a)) (body_determined ds) (λ a. nothing_determined (defined ds name a))))
+    then_determined (One (let_name ds)) (λ name. After equals (Defined ds name)) (name_determined ds)
+    (λ name. following_determined equals (Defined ds name) (then_determined (Body ds) (λ a. Nothing (defined ds name a)) (body_determined ds) (λ a. nothing_determined (defined ds name a))))
 
 let_from : (ds : List Definition) (l : LetSyntax) → IsSyntax l.body → Let ds (with_let ds l) (let_name ds l.name ∷ plain equals ∷ (marks ds 0 l.body ++ plain semicolon ∷ []))
 let_from ds l i =
@@ -237,9 +237,9 @@ leads_on first key old now mid new ds es leads x y result last z =
     leads result last (reads_then (Let ds) Rest now mid last es result (let_determined ds) x (rest_read es mid last result (reads_then Opens (Statement es) mid new last key result begun_determined y z)))
 
 -- a `let` was read, and no statement begins after it
-pub leads_lacking : (first : Keyword) (old now mid new : Lexer) (ds es : List Definition) (e : AlgError)
+pub leads_missing : (first : Keyword) (old now mid new : Lexer) (ds es : List Definition) (e : AlgError)
     → Leads first old ds k.Let now → Reads (Let ds) now (Ok es) mid → Reads Opens mid (Err e) new → Reads (Statement [] first) old (Err e) new
-leads_lacking first old now mid new ds es e leads x y =
+leads_missing first old now mid new ds es e leads x y =
     leads (Err e) new (reads_then (Let ds) Rest now mid new es (Err e) (let_determined ds) x (rest_read es mid new (Err e) (reads_not_first Opens (Statement es) mid new e (statement_possible es) y)))
 
 -- a `let` was not read

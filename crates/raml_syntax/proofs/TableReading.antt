@@ -12,7 +12,7 @@ use Rattle.raml_syntax.specs.Marks.{Mark, plain, own_name, values_marks, maps_ma
 use Rattle.raml_syntax.specs.Productions.{toks}
 use Rattle.raml_syntax.specs.Trees.{Table}
 use Rattle.raml_syntax.specs.Reading.{TakesOne}
-use Rattle.raml_syntax.specs.Leaves.{Lacks, IsRefusal, IsTok}
+use Rattle.raml_syntax.specs.Leaves.{Misses, IsRefusal, IsTok}
 use Rattle.raml_syntax.specs.Sequences.{One, Then, Reads, IsDetermined, IsPossible, map_ok}
 use Rattle.raml_syntax.specs.Values.{Values}
 use Rattle.raml_syntax.specs.Rows.{MoreRows}
@@ -35,8 +35,8 @@ table_of v rows = record { names = v.names; ranks = v.ranks; rows = rows }
 abbrev pub TableOf : ValueList → TableSpec → List Mark → Type 0
 TableOf v t ms = (rows : List TableRow) × (t ≡ table_of v rows) × MoreRows v.names [] rows ms
 
-abbrev pub BehindBrace : TableSpec → List Mark → Type 0
-BehindBrace = Then Values TableOf
+abbrev pub FollowingBrace : TableSpec → List Mark → Type 0
+FollowingBrace = Then Values TableOf
 
 marks_of : (o : Mark) (values rows tail us vs xs ys ms bs : List Mark)
     → us ≡ o ∷ [] → vs ≡ values ++ plain semicolon ∷ [] → xs ≡ us ++ vs → plain semicolon ∷ bs ≡ rows ++ tail → ys ≡ xs ++ bs → ms ≡ plain left_brace ∷ ys
@@ -44,7 +44,7 @@ marks_of : (o : Mark) (values rows tail us vs xs ys ms bs : List Mark)
 marks_of o values rows tail us vs xs ys ms bs p q e m f g =
     rw (g, f, e, p, q) (ap (λ l. plain left_brace ∷ o ∷ l) (append_assoc values (plain semicolon ∷ []) bs ∙ ap (λ l. values ++ l) m))
 
-table_put : (t : TableSpec) (ms : List Mark) → Then (One brace_mark) (λ _. BehindBrace) t ms → Table t ms
+table_put : (t : TableSpec) (ms : List Mark) → Then (One brace_mark) (λ _. FollowingBrace) t ms → Table t ms
 table_put t ms (u, xs, ys, p, (v, ws, bs, (first, us, vs, pf, (others, vm, vmarks), g), (rows, means, more), e), f) = by more
   where
     by : MoreRows v.names [] rows bs → Table t ms
@@ -63,7 +63,7 @@ table_put t ms (u, xs, ys, p, (v, ws, bs, (first, us, vs, pf, (others, vm, vmark
               pf vmarks g (marks ∙ ap (λ l. rows_marks l [] (row ∷ rest) ++ plain right_brace ∷ []) names) e (f ∙ ap (λ l. l ++ ys) p);
         }
 
-table_back : (t : TableSpec) (ms : List Mark) → Table t ms → Then (One brace_mark) (λ _. BehindBrace) t ms
+table_back : (t : TableSpec) (ms : List Mark) → Table t ms → Then (One brace_mark) (λ _. FollowingBrace) t ms
 table_back t ms x =
     let s = x.syntax in
     let names = value_names s in
@@ -90,19 +90,19 @@ table_back t ms x =
 of_possible : (v : ValueList) → IsPossible (TableOf v)
 of_possible v = let p = rows_possible v.names [] in (table_of v p.0, p.1, (p.0, refl, p.2))
 
-brace_possible : IsPossible BehindBrace
+brace_possible : IsPossible FollowingBrace
 brace_possible = then_possible Values TableOf values_possible of_possible
 
-table_then : (old mid new : Lexer) (result : Result TableSpec AlgError) → TakesOne left_brace old mid → Reads BehindBrace mid result new → Reads Table old result new
+table_then : (old mid new : Lexer) (result : Result TableSpec AlgError) → TakesOne left_brace old mid → Reads FollowingBrace mid result new → Reads Table old result new
 table_then old mid new result takes x =
     reads_same _ Table old new result table_put table_back
-    (reads_then (One brace_mark) (λ _. BehindBrace) old mid new tt result brace_determined (one_mark brace_mark left_brace old mid (λ u. refl) takes) x)
+    (reads_then (One brace_mark) (λ _. FollowingBrace) old mid new tt result brace_determined (one_mark brace_mark left_brace old mid (λ u. refl) takes) x)
 
 -- no brace stands first
-pub table_no_brace : (old new : Lexer) (e : AlgError) → IsRefusal (Lacks (IsTok left_brace)) old e → Reads Table old (Err e) new
+pub table_no_brace : (old new : Lexer) (e : AlgError) → IsRefusal (Misses (IsTok left_brace)) old e → Reads Table old (Err e) new
 table_no_brace old new e x =
     reads_same _ Table old new (Err e) table_put table_back
-    (reads_not_first (One brace_mark) (λ _. BehindBrace) old new e (λ _. brace_possible)
+    (reads_not_first (One brace_mark) (λ _. FollowingBrace) old new e (λ _. brace_possible)
     (one_no_mark brace_mark left_brace e old new (λ u. refl) (λ n (k : left_brace ≡ number n). absurd (cc)) x))
 
 -- the values can't be read

@@ -44,9 +44,9 @@ ends_before : (xs ys : List Mark) → EndsMaps xs → Diverges xs (plain comma �
 ends_before [] ys e = absurd e
 ends_before (x ∷ xs) ys e = here e
 
-ends_behind : (xs ys : List Mark) → EndsMaps ys → Diverges (plain comma ∷ xs) ys
-ends_behind xs [] e = absurd e
-ends_behind xs (y ∷ ys) e = here (λ h. e (sym h))
+ends_following : (xs ys : List Mark) → EndsMaps ys → Diverges (plain comma ∷ xs) ys
+ends_following xs [] e = absurd e
+ends_following xs (y ∷ ys) e = here (λ h. e (sym h))
 
 -- the marks of a map's two names
 abbrev source_mark : List (List ℕ) → List (List ℕ) → List ℕ → Mark
@@ -59,7 +59,7 @@ target_mark names t = tested (word t) BadTable (is_none t || is_among names t)
 compare_more : (names before : List (List ℕ)) (ms qs : List MapSyntax) (xs ys : List Mark) → EndsMaps xs → EndsMaps ys → Compared (ms ≡ qs) (more_map_marks names before ms ++ xs) (more_map_marks names before qs ++ ys)
 compare_more names before [] [] xs ys p r = same refl
 compare_more names before [] (q ∷ qs) xs ys p r = apart (ends_before xs _ p)
-compare_more names before (m ∷ ms) [] xs ys p r = apart (ends_behind _ ys r)
+compare_more names before (m ∷ ms) [] xs ys p r = apart (ends_following _ ys r)
 compare_more names before (m ∷ ms) (q ∷ qs) xs ys p r =
     compared_map (λ e. ap₂ (λ x l. x ∷ l) (ap₂ (λ s t. record { source = s; target = t }) e.0 e.1.0) e.1.1)
     (compared_next

@@ -14,11 +14,11 @@ use Rattle.raml_syntax.specs.declared.faults.AlgError.{AlgError}
 use Rattle.raml_syntax.specs.declared.faults.AlgError.TheVariants.{Bad, NoMemory}
 use Rattle.raml_syntax.specs.Marks.{Mark, plain, tested}
 use Rattle.raml_syntax.specs.Reading.{TakesOne}
-use Rattle.raml_syntax.specs.Leaves.{TakesAt, EndsWith, Lacks, IsRefusal, IsTok, IsWord}
+use Rattle.raml_syntax.specs.Leaves.{TakesAt, EndsWith, Misses, IsRefusal, IsTok, IsWord}
 use Rattle.raml_syntax.specs.Sequences.{Nothing, One, Then, Reads, IsDetermined, IsPossible, map_ok}
-use Rattle.raml_syntax.specs.Tested.{Tested, ReadsBehind}
+use Rattle.raml_syntax.specs.Tested.{Tested, ReadsFollowing}
 use Rattle.raml_syntax.proofs.Sequences.{reads_inside, reads_then, reads_not_first}
-use Rattle.raml_syntax.proofs.OneToken.{one_good, one_bad, one_lacks}
+use Rattle.raml_syntax.proofs.OneToken.{one_good, one_bad, one_misses}
 
 map_ok_same : {R E : Type 0} (result : Result R E) → map_ok (λ r. r) result ≡ result
 map_ok_same (Ok r) = refl
@@ -52,57 +52,57 @@ one_tested f r t false p old new (Err (Bad g)) e takes x =
 
 -- a name was read and tested, and then what follows it
 pub reads_tested : {R S : Type 0} (f : R → Mark) (Q : R → S → List Mark → Type 0) (r : R) (t : Tok) (test : Bool) (p : Place) (old mid new : Lexer) (result : Result S AlgError)
-    → IsDetermined (One f) → ((r : R) → IsPossible (Q r)) → f r ≡ tested t BadTable test → TakesAt t p old mid → ReadsBehind test p (Q r) mid result new → Reads (Then (One f) Q) old result new
+    → IsDetermined (One f) → ((r : R) → IsPossible (Q r)) → f r ≡ tested t BadTable test → TakesAt t p old mid → ReadsFollowing test p (Q r) mid result new → Reads (Then (One f) Q) old result new
 reads_tested f Q r t true p old mid new result determined possible e takes x =
     reads_then (One f) Q old mid new r result determined (one_good f r t old mid (ap (λ (m : Mark). m.tok) e) (ap (λ (m : Mark). m.fault) e) takes.takes) x
 reads_tested f Q r t false p old mid new result determined possible e takes x =
     subst (λ q. Reads (Then (One f) Q) old q new) (sym x)
     (reads_not_first (One f) Q old new (Bad (record { kind = BadTable; place = p })) possible (one_bad f r t BadTable p old mid new (ap (λ (m : Mark). m.tok) e) (ap (λ (m : Mark). m.fault) e) takes))
 
-pub behind_then : {R S : Type 0} (P : R → List Mark → Type 0) (Q : R → S → List Mark → Type 0) (test : Bool) (p : Place) (old mid new : Lexer) (r : R) (result : Result S AlgError)
-    → IsDetermined P → ReadsBehind test p P old (Ok r) mid → Reads (Q r) mid result new → ReadsBehind test p (Then P Q) old result new
-behind_then P Q true p old mid new r result determined x y = reads_then P Q old mid new r result determined x y
-behind_then P Q false p old mid new r result determined x y = absurd (cc)
+pub following_then : {R S : Type 0} (P : R → List Mark → Type 0) (Q : R → S → List Mark → Type 0) (test : Bool) (p : Place) (old mid new : Lexer) (r : R) (result : Result S AlgError)
+    → IsDetermined P → ReadsFollowing test p P old (Ok r) mid → Reads (Q r) mid result new → ReadsFollowing test p (Then P Q) old result new
+following_then P Q true p old mid new r result determined x y = reads_then P Q old mid new r result determined x y
+following_then P Q false p old mid new r result determined x y = absurd (cc)
 
-pub behind_not_first : {R S : Type 0} (P : R → List Mark → Type 0) (Q : R → S → List Mark → Type 0) (test : Bool) (p : Place) (old new : Lexer) (e : AlgError)
-    → ((r : R) → IsPossible (Q r)) → ReadsBehind test p P old (Err e) new → ReadsBehind test p (Then P Q) old (Err e) new
-behind_not_first P Q true p old new e possible x = reads_not_first P Q old new e possible x
-behind_not_first P Q false p old new e possible x = let same : e ≡ Bad (record { kind = BadTable; place = p }) = cc in ap Err same
+pub following_not_first : {R S : Type 0} (P : R → List Mark → Type 0) (Q : R → S → List Mark → Type 0) (test : Bool) (p : Place) (old new : Lexer) (e : AlgError)
+    → ((r : R) → IsPossible (Q r)) → ReadsFollowing test p P old (Err e) new → ReadsFollowing test p (Then P Q) old (Err e) new
+following_not_first P Q true p old new e possible x = reads_not_first P Q old new e possible x
+following_not_first P Q false p old new e possible x = let same : e ≡ Bad (record { kind = BadTable; place = p }) = cc in ap Err same
 
 -- want of memory is no fault
-pub behind_no_memory : {R : Type 0} (P : R → List Mark → Type 0) (p : Place) (old new : Lexer) (e : AlgError) → e ≡ NoMemory → Reads P old (Err e) new
-behind_no_memory P p old new e same = subst (λ x. Reads P old (Err x) new) (sym same) tt
+pub following_no_memory : {R : Type 0} (P : R → List Mark → Type 0) (p : Place) (old new : Lexer) (e : AlgError) → e ≡ NoMemory → Reads P old (Err e) new
+following_no_memory P p old new e same = subst (λ x. Reads P old (Err x) new) (sym same) tt
 
 -- what isn't a word has no name
-pub one_no_word : (f : List ℕ → Mark) (e : AlgError) (old new : Lexer) → ((w : List ℕ) → (f w).tok ≡ word w) → IsRefusal (Lacks IsWord) old e → Reads (One f) old (Err e) new
-one_no_word f e old new words x = one_lacks f [] IsWord e old new (λ w. (w, words w)) (λ n w. absurd (let k : number n ≡ word w.0 = w.1 in cc)) x
+pub one_no_word : (f : List ℕ → Mark) (e : AlgError) (old new : Lexer) → ((w : List ℕ) → (f w).tok ≡ word w) → IsRefusal (Misses IsWord) old e → Reads (One f) old (Err e) new
+one_no_word f e old new words x = one_misses f [] IsWord e old new (λ w. (w, words w)) (λ n w. absurd (let k : number n ≡ word w.0 = w.1 in cc)) x
 
 pub words_determined : (f : List ℕ → Mark) → ((w : List ℕ) → (f w).tok ≡ word w) → (v w : List ℕ) → (f v).tok ≡ (f w).tok → v ≡ w
 words_determined f words v w e = let k : word v ≡ word w = sym (words v) ∙ e ∙ words w in cc
 
-ends_lacks : (W : Tok → Type 0) (s : Step) (k : ExprKind) → EndsWith s k → Lacks W s k
-ends_lacks W end k e = e
-ends_lacks W (bad lex.BadByte) k e = e
-ends_lacks W (bad lex.NumberTooLarge) k e = e
-ends_lacks W (token t rest) k e = absurd e
+ends_misses : (W : Tok → Type 0) (s : Step) (k : ExprKind) → EndsWith s k → Misses W s k
+ends_misses W end k e = e
+ends_misses W (bad lex.BadByte) k e = e
+ends_misses W (bad lex.NumberTooLarge) k e = e
+ends_misses W (token t rest) k e = absurd e
 
-ends_refused : (W : Tok → Type 0) (old : Lexer) (e : AlgError) → IsRefusal EndsWith old e → IsRefusal (Lacks W) old e
-ends_refused W old (Bad f) x = (x.0, ends_lacks W (step_of old.greatest old.rest) f.kind x.1)
+ends_refused : (W : Tok → Type 0) (old : Lexer) (e : AlgError) → IsRefusal EndsWith old e → IsRefusal (Misses W) old e
+ends_refused W old (Bad f) x = (x.0, ends_misses W (step_of old.greatest old.rest) f.kind x.1)
 ends_refused W old NoMemory x = absurd x
 
 -- nothing stands where one of several marks is wanted
 pub one_ends : {R : Type 0} (f : R → Mark) (r : R) (e : AlgError) (old new : Lexer) → ((r : R) (n : ℕ) → (f r).tok ≡ number n → ⊥) → IsRefusal EndsWith old e → Reads (One f) old (Err e) new
 one_ends {R} f r e old new no_number x =
     let W : Tok → Type 0 = λ t. (r : R) × ((f r).tok ≡ t) in
-    one_lacks f r W e old new (λ r. (r, refl)) (λ n w. no_number w.0 n w.1) (ends_refused W old e x)
+    one_misses f r W e old new (λ r. (r, refl)) (λ n w. no_number w.0 n w.1) (ends_refused W old e x)
 
 -- another token stands there
 pub one_other : {R : Type 0} (f : R → Mark) (r : R) (t : Tok) (p : Place) (old mid new : Lexer) → ((r : R) (n : ℕ) → (f r).tok ≡ number n → ⊥) → ((r : R) → (f r).tok ≡ t → ⊥) → TakesAt t p old mid
     → Reads (One f) old (Err (Bad (record { kind = Unexpected; place = p }))) new
 one_other {R} f r t p old mid new no_number other takes =
     let W : Tok → Type 0 = λ t. (r : R) × ((f r).tok ≡ t) in
-    let lacks : Lacks W (step_of old.greatest old.rest) Unexpected = subst (λ s. Lacks W s Unexpected) (sym takes.takes.step) (refl, λ w. other w.0 w.1) in
-    one_lacks f r W (Bad (record { kind = Unexpected; place = p })) old new (λ r. (r, refl)) (λ n w. no_number w.0 n w.1) (takes.place, lacks)
+    let misses : Misses W (step_of old.greatest old.rest) Unexpected = subst (λ s. Misses W s Unexpected) (sym takes.takes.step) (refl, λ w. other w.0 w.1) in
+    one_misses f r W (Bad (record { kind = Unexpected; place = p })) old new (λ r. (r, refl)) (λ n w. no_number w.0 n w.1) (takes.place, misses)
 
 -- the mark of a kind stands there
 pub one_kind : {R : Type 0} (f : R → Mark) (r : R) (k wanted : TokenKind) (text : List ℕ) (p : Place) (old new : Lexer) → f r ≡ plain (tok_of wanted text) → k ≡ wanted → TakesAt (tok_of k text) p old new
@@ -138,8 +138,8 @@ same_kind t k text e = sym (kind_same k text) ∙ ap kind_of (sym e)
 pub one_mark : (f : Unit {0} → Mark) (t : Tok) (old new : Lexer) → ((u : Unit {0}) → f u ≡ plain t) → TakesOne t old new → Reads (One f) old (Ok tt) new
 one_mark f t old new is takes = one_good f tt t old new (ap (λ (m : Mark). m.tok) (is tt)) (ap (λ (m : Mark). m.fault) (is tt)) takes
 
-pub one_no_mark : (f : Unit {0} → Mark) (t : Tok) (e : AlgError) (old new : Lexer) → ((u : Unit {0}) → f u ≡ plain t) → ((n : ℕ) → t ≡ number n → ⊥) → IsRefusal (Lacks (IsTok t)) old e → Reads (One f) old (Err e) new
-one_no_mark f t e old new is no_number x = one_lacks f tt (IsTok t) e old new (λ u. ap (λ (m : Mark). m.tok) (is u)) (λ n k. no_number n (sym k)) x
+pub one_no_mark : (f : Unit {0} → Mark) (t : Tok) (e : AlgError) (old new : Lexer) → ((u : Unit {0}) → f u ≡ plain t) → ((n : ℕ) → t ≡ number n → ⊥) → IsRefusal (Misses (IsTok t)) old e → Reads (One f) old (Err e) new
+one_no_mark f t e old new is no_number x = one_misses f tt (IsTok t) e old new (λ u. ap (λ (m : Mark). m.tok) (is u)) (λ n k. no_number n (sym k)) x
 
 -- what of the one production is read from here on makes a reading of the other
 abbrev pub Leads : {R : Type 0} → (R → List Mark → Type 0) → Lexer → (R → List Mark → Type 0) → Lexer → Type 0

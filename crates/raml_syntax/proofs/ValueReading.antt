@@ -14,7 +14,7 @@ use Rattle.raml_syntax.specs.Meaning.{ranks_from}
 use Rattle.raml_syntax.specs.Marks.{Mark, plain, own_name, rank_tok, values_marks}
 use Rattle.raml_syntax.specs.Productions.{toks}
 use Rattle.raml_syntax.specs.Sequences.{Nothing, One, Then, Reads, IsDetermined, IsPossible}
-use Rattle.raml_syntax.specs.Values.{after_value, rank_behind, MoreValues, Values}
+use Rattle.raml_syntax.specs.Values.{after_value, rank_following, MoreValues, Values}
 use Rattle.raml_syntax.proofs.Sequences.{reads_then, reads_not_first, one_determined, then_determined, then_possible}
 use Rattle.raml_syntax.proofs.Tested.{Leads, reads_at, reads_same, reads_nothing, same_kind, words_determined}
 
@@ -89,12 +89,12 @@ abbrev pub pushed : ValueList → List ℕ → ℕ → ValueList
 pushed done name rank = record { names = done.names ++ name ∷ []; ranks = done.ranks ++ rank ∷ [] }
 
 -- what follows a mark after a value
-abbrev pub BehindValue : ValueList → ℕ → AfterValue → ValueList → List Mark → Type 0
-BehindValue done rank (after.Value is_tied) = Then (One (own_name done.names)) (λ name. MoreValues (pushed done name (rank_behind rank is_tied)) (rank_behind rank is_tied))
-BehindValue done rank after.Rows = Nothing done
+abbrev pub FollowingValue : ValueList → ℕ → AfterValue → ValueList → List Mark → Type 0
+FollowingValue done rank (after.Value is_tied) = Then (One (own_name done.names)) (λ name. MoreValues (pushed done name (rank_following rank is_tied)) (rank_following rank is_tied))
+FollowingValue done rank after.Rows = Nothing done
 
 ranks_step : (rank : ℕ) (is_tied : Bool) (name : List ℕ) (vs : List ValueSyntax)
-    → ranks_from rank (record { is_tied = is_tied; name = name } ∷ vs) ≡ rank_behind rank is_tied ∷ ranks_from (rank_behind rank is_tied) vs
+    → ranks_from rank (record { is_tied = is_tied; name = name } ∷ vs) ≡ rank_following rank is_tied ∷ ranks_from (rank_following rank is_tied) vs
 ranks_step rank true name vs = refl
 ranks_step rank false name vs = refl
 
@@ -108,20 +108,20 @@ abbrev pub all_values : ValueList → ℕ → List ValueSyntax → ValueList
 all_values done rank more = record { names = done.names ++ map (λ (v : ValueSyntax). v.name) more; ranks = done.ranks ++ ranks_from rank more }
 
 step_means : (done : ValueList) (rank : ℕ) (is_tied : Bool) (name : List ℕ) (vs : List ValueSyntax)
-    → all_values (pushed done name (rank_behind rank is_tied)) (rank_behind rank is_tied) vs ≡ all_values done rank (record { is_tied = is_tied; name = name } ∷ vs)
+    → all_values (pushed done name (rank_following rank is_tied)) (rank_following rank is_tied) vs ≡ all_values done rank (record { is_tied = is_tied; name = name } ∷ vs)
 step_means done rank is_tied name vs = list_same _ _
     (append_assoc done.names (name ∷ []) (map (λ (v : ValueSyntax). v.name) vs))
-    (append_assoc done.ranks (rank_behind rank is_tied ∷ []) (ranks_from (rank_behind rank is_tied) vs) ∙ ap (λ l. done.ranks ++ l) (sym (ranks_step rank is_tied name vs)))
+    (append_assoc done.ranks (rank_following rank is_tied ∷ []) (ranks_from (rank_following rank is_tied) vs) ∙ ap (λ l. done.ranks ++ l) (sym (ranks_step rank is_tied name vs)))
 
 no_more_means : (done : ValueList) → all_values done 0 [] ≡ done
 no_more_means done = list_same _ _ (append-nil done.names) (append-nil done.ranks)
 
-more_put : (done : ValueList) (rank : ℕ) (r : ValueList) (ms : List Mark) → Then (One after_value) (BehindValue done rank) r ms → MoreValues done rank r ms
+more_put : (done : ValueList) (rank : ℕ) (r : ValueList) (ms : List Mark) → Then (One after_value) (FollowingValue done rank) r ms → MoreValues done rank r ms
 more_put done rank r ms (after.Value is_tied, xs, ys, p, (name, us, vs, pn, (more, means, marks), e), f) =
     (record { is_tied = is_tied; name = name } ∷ more, means ∙ step_means done rank is_tied name more, rw (f, e, p, pn, marks) refl)
 more_put done rank r ms (after.Rows, xs, ys, p, q, f) = ([], q.0 ∙ sym (no_more_means done), rw (f, p, q.1) refl)
 
-more_back : (done : ValueList) (rank : ℕ) (r : ValueList) (ms : List Mark) → MoreValues done rank r ms → Then (One after_value) (BehindValue done rank) r ms
+more_back : (done : ValueList) (rank : ℕ) (r : ValueList) (ms : List Mark) → MoreValues done rank r ms → Then (One after_value) (FollowingValue done rank) r ms
 more_back done rank r ms ([], means, marks) = (after.Rows, plain semicolon ∷ [], [], refl, (means ∙ no_more_means done, refl), marks)
 more_back done rank r ms (v ∷ more, means, marks) =
     let rest = values_marks (done.names ++ v.name ∷ []) more ++ plain semicolon ∷ [] in (
@@ -133,10 +133,10 @@ more_back done rank r ms (v ∷ more, means, marks) =
       marks,
     )
 
-behind_possible : (done : ValueList) (rank : ℕ) (a : AfterValue) → IsPossible (BehindValue done rank a)
-behind_possible done rank (after.Value is_tied) =
-    then_possible (One (own_name done.names)) _ ([], own_name done.names [] ∷ [], refl) (λ name. more_possible (pushed done name (rank_behind rank is_tied)) (rank_behind rank is_tied))
-behind_possible done rank after.Rows = (done, [], (refl, refl))
+following_possible : (done : ValueList) (rank : ℕ) (a : AfterValue) → IsPossible (FollowingValue done rank a)
+following_possible done rank (after.Value is_tied) =
+    then_possible (One (own_name done.names)) _ ([], own_name done.names [] ∷ [], refl) (λ name. more_possible (pushed done name (rank_following rank is_tied)) (rank_following rank is_tied))
+following_possible done rank after.Rows = (done, [], (refl, refl))
 
 -- the first name was read
 pub values_first : (old mid : Lexer) (first : List ℕ) (before names : List (List ℕ)) (ranks : List ℕ)
@@ -153,39 +153,39 @@ values_no_name old new before e none x =
 -- no mark stands after a value
 pub more_no_mark : (done : ValueList) (rank : ℕ) (old new : Lexer) (e : AlgError) → Reads (One after_value) old (Err e) new → Reads (MoreValues done rank) old (Err e) new
 more_no_mark done rank old new e x =
-    reads_same _ (MoreValues done rank) old new (Err e) (more_put done rank) (more_back done rank) (reads_not_first (One after_value) (BehindValue done rank) old new e (behind_possible done rank) x)
+    reads_same _ (MoreValues done rank) old new (Err e) (more_put done rank) (more_back done rank) (reads_not_first (One after_value) (FollowingValue done rank) old new e (following_possible done rank) x)
 
-more_behind : (done : ValueList) (rank : ℕ) (old mid new : Lexer) (a : AfterValue) (result : Result ValueList AlgError)
-    → Reads (One after_value) old (Ok a) mid → Reads (BehindValue done rank a) mid result new → Reads (MoreValues done rank) old result new
-more_behind done rank old mid new a result x y =
-    reads_same _ (MoreValues done rank) old new result (more_put done rank) (more_back done rank) (reads_then (One after_value) (BehindValue done rank) old mid new a result after_determined x y)
+more_following : (done : ValueList) (rank : ℕ) (old mid new : Lexer) (a : AfterValue) (result : Result ValueList AlgError)
+    → Reads (One after_value) old (Ok a) mid → Reads (FollowingValue done rank a) mid result new → Reads (MoreValues done rank) old result new
+more_following done rank old mid new a result x y =
+    reads_same _ (MoreValues done rank) old new result (more_put done rank) (more_back done rank) (reads_then (One after_value) (FollowingValue done rank) old mid new a result after_determined x y)
 
 -- the values are over
 pub more_end : (done : ValueList) (rank : ℕ) (old new : Lexer) → Reads (One after_value) old (Ok after.Rows) new → Reads (MoreValues done rank) old (Ok done) new
-more_end done rank old new x = more_behind done rank old new new after.Rows (Ok done) x (reads_nothing done new)
+more_end done rank old new x = more_following done rank old new new after.Rows (Ok done) x (reads_nothing done new)
 
 -- a rank and no name stand after a value
 pub more_no_name : (done : ValueList) (rank : ℕ) (old mid new : Lexer) (is_tied : Bool) (before : List (List ℕ)) (e : AlgError)
     → before ≡ done.names → Reads (One after_value) old (Ok (after.Value is_tied)) mid → Reads (One (own_name before)) mid (Err e) new → Reads (MoreValues done rank) old (Err e) new
 more_no_name done rank old mid new is_tied before e same x y =
-    more_behind done rank old mid new (after.Value is_tied) (Err e) x
-    (reads_not_first (One (own_name done.names)) _ mid new e (λ name. more_possible (pushed done name (rank_behind rank is_tied)) (rank_behind rank is_tied))
+    more_following done rank old mid new (after.Value is_tied) (Err e) x
+    (reads_not_first (One (own_name done.names)) _ mid new e (λ name. more_possible (pushed done name (rank_following rank is_tied)) (rank_following rank is_tied))
     (reads_at (λ l. One (own_name l)) before done.names mid new (Err e) same y))
 
 -- one value more was read
 pub more_next : (done : ValueList) (rank : ℕ) (old mid next : Lexer) (is_tied : Bool) (name : List ℕ) (before names : List (List ℕ)) (ranks : List ℕ) (r : ℕ)
-    → before ≡ done.names → names ≡ done.names ++ name ∷ [] → ranks ≡ done.ranks ++ r ∷ [] → r ≡ rank_behind rank is_tied
+    → before ≡ done.names → names ≡ done.names ++ name ∷ [] → ranks ≡ done.ranks ++ r ∷ [] → r ≡ rank_following rank is_tied
     → Reads (One after_value) old (Ok (after.Value is_tied)) mid → Reads (One (own_name before)) mid (Ok name) next
     → Leads (MoreValues done rank) old (MoreValues (record { names = names; ranks = ranks }) r) next
 more_next done rank old mid next is_tied name before names ranks r same e f g x y result new z =
     let more = reads_at (λ v. MoreValues v r) (record { names = names; ranks = ranks }) (pushed done name r) next new result (list_same _ _ e f) z in
-    more_behind done rank old mid new (after.Value is_tied) result x
+    more_following done rank old mid new (after.Value is_tied) result x
     (reads_then (One (own_name done.names)) _ mid next new name result (name_determined done.names) (reads_at (λ l. One (own_name l)) before done.names mid next (Ok name) same y)
-    (reads_at (λ q. MoreValues (pushed done name q) q) r (rank_behind rank is_tied) next new result g more))
+    (reads_at (λ q. MoreValues (pushed done name q) q) r (rank_following rank is_tied) next new result g more))
 
-pub rank_behind_le : (rank : ℕ) (is_tied : Bool) → rank_behind rank is_tied ≤ rank + 1
-rank_behind_le rank true = omega arith
-rank_behind_le rank false = omega arith
+pub rank_following_le : (rank : ℕ) (is_tied : Bool) → rank_following rank is_tied ≤ rank + 1
+rank_following_le rank true = omega arith
+rank_following_le rank false = omega arith
 
 pub values_possible : IsPossible Values
 values_possible = then_possible (One (own_name [])) _ ([], own_name [] [] ∷ [], refl) (λ first. more_possible (record { names = first ∷ []; ranks = 0 ∷ [] }) 0)

@@ -2,10 +2,7 @@
 use Rattle.std.proofs.Common.{◌≡◌, inr, ℕ, List, Ok, ◌∙◌, sym, ap, subst, arith}
 use Rattle.raml_lex.specs.Tokens.{end, step_of}
 use Rattle.raml_lex.specs.Lexers.{Lexer}
-use Rattle.alg_model.specs.declared.alg.Shape.{Shape}
-use Rattle.alg_model.specs.declared.alg.Shape.TheVariants.{Range, Carriers, Size, Names}
-use Rattle.alg_model.specs.Expressions.{Expression, PureAlg}
-use Rattle.alg_model.specs.Formation.{IsFormed, IsFirstBroken}
+use Rattle.alg_model.specs.Expressions.{PureAlg}
 use Rattle.raml_syntax.specs.declared.faults.AlgError.{AlgError}
 use Rattle.raml_syntax.specs.declared.faults.AlgError.TheVariants.{Bad, NoMemory}
 use Rattle.raml_syntax.specs.Leaves.{IsRefusal}
@@ -22,13 +19,6 @@ text_read text a at x e = record {
   lexed = x.2.lexed;
   ended = ap (λ g. step_of g at.rest) (sym x.2.greatest) ∙ e;
 }
-
--- what meets the formation rules breaks none first
-pub none_broken : (a : Expression) (s : Shape) → IsFormed a → IsFirstBroken a s → ⊥
-none_broken a Range f b = b f.ranges
-none_broken a Carriers f b = b.1 f.carriers
-none_broken a Size f b = let size = f.size in let more = b.2 in omega arith
-none_broken a Names f b = b.3 f.names
 
 -- a file was read, and something stands after it
 pub text_trailed : (text : List ℕ) (a : PureAlg) (e : AlgError) (at : Lexer) → ReadsText text (Ok a) at → IsRefusal Trails at e → IsAlgError text e

@@ -3,8 +3,8 @@ use Rattle.std.proofs.Common.{◌≡◌, ℕ, ◌<◌, ◌==◌, Bool, true, fal
 use Rattle.std.specs.List.{find, list_any}
 use Rattle.std.specs.Str.{IsAscii, bytes_eq}
 use Rattle.std.proofs.lemmas.Bool.Decides.{nat_tests}
-use Rattle.meta_base.specs.Bytes.{is_digit, is_letter, is_word_byte, front, behind, number_from}
-use Rattle.raml_lex.specs.Gaps.{behind_gap}
+use Rattle.meta_base.specs.Bytes.{is_digit, is_letter, is_word_byte, front, after_front, number_from}
+use Rattle.raml_lex.specs.Gaps.{after_gap}
 use Rattle.raml_lex.specs.Lexers.{Lexer}
 use Rattle.raml_lex.specs.Tokens.{Tok, word, Step, end, bad, token, number_at, pair_at, mark_at, token_at}
 use Rattle.alg_model.specs.declared.tree.TableRow.{TableRow}
@@ -67,15 +67,15 @@ word_at greatest [] w rest e = absurd (let k : false ≡ true = ap is_word_step 
 word_at greatest (c ∷ cs) w rest e = by (is_letter c) (is_digit c) e
   where
     by : (a b : Bool)
-        → cond a (token (word (front is_word_byte (c ∷ cs))) (behind is_word_byte (c ∷ cs))) (cond b (number_at greatest (front is_digit (c ∷ cs)) (behind is_digit (c ∷ cs))) (mark_at c cs)) ≡ token (word w) rest
+        → cond a (token (word (front is_word_byte (c ∷ cs))) (after_front is_word_byte (c ∷ cs))) (cond b (number_at greatest (front is_digit (c ∷ cs)) (after_front is_digit (c ∷ cs))) (mark_at c cs)) ≡ token (word w) rest
         → IsAscii w
     by true b e = let same : front is_word_byte (c ∷ cs) ≡ w = cc in subst IsAscii same (front_ascii (c ∷ cs))
-    by false true e = absurd (let k : false ≡ true = sym (no_number greatest (front is_digit (c ∷ cs)) (behind is_digit (c ∷ cs))) ∙ ap is_word_step e in cc)
+    by false true e = absurd (let k : false ≡ true = sym (no_number greatest (front is_digit (c ∷ cs)) (after_front is_digit (c ∷ cs))) ∙ ap is_word_step e in cc)
     by false false e = absurd (let k : false ≡ true = sym (no_mark c cs) ∙ ap is_word_step e in cc)
 
 -- the bytes of a word are ASCII
 pub word_ascii : (w : List ℕ) (old new : Lexer) → TakesOne (word w) old new → IsAscii w
-word_ascii w old new takes = word_at old.greatest (behind_gap false old.rest) w new.rest takes.step
+word_ascii w old new takes = word_at old.greatest (after_gap false old.rest) w new.rest takes.step
 
 -- the name that maps give for a value stands in the first map of that source
 pub target_found : (ms : List MapSyntax) (w : List ℕ) → target_of ms w ≡ option_map (λ (m : MapSyntax). m.target) (find (λ (m : MapSyntax). bytes_eq m.source w) ms)

@@ -26,14 +26,14 @@ header_of _ = None
 
 -- the greatest number that may stand next after these tokens: that of profile 2 exactly where they begin
 -- with `raml`, 2 and `;`, and else that of profile 1
-abbrev pub greatest_behind : List Tok → ℕ
-greatest_behind before = greatest_number (edition_of (header_of before))
+abbrev pub greatest_following : List Tok → ℕ
+greatest_following before = greatest_number (edition_of (header_of before))
 
 -- after the tokens `before` the text begins with the tokens `ts`, and the rest is left
 abbrev pub BeginsWith : List Tok → List Tok → List ℕ → List ℕ → Type 0
 BeginsWith before [] text rest = text ≡ rest
 BeginsWith before (t ∷ ts) text rest =
-    (behind : List ℕ) × (step_of (greatest_behind before) text ≡ token t behind) × BeginsWith (before ++ t ∷ []) ts behind rest
+    (after : List ℕ) × (step_of (greatest_following before) text ≡ token t after) × BeginsWith (before ++ t ∷ []) ts after rest
 
 -- the text means the algebra: its tokens are those of a file, and no fault stands at any of them
 pub record ExprText (text : List ℕ) (a : PureAlg) : Type 0 where
@@ -42,7 +42,7 @@ pub record ExprText (text : List ℕ) (a : PureAlg) : Type 0 where
   -- the bytes after the last of them, where no other stands
   pub rest : List ℕ
   pub lexed : BeginsWith [] tokens text rest
-  pub ended : step_of (greatest_behind tokens) rest ≡ end
+  pub ended : step_of (greatest_following tokens) rest ≡ end
 
 -- what comes after a whole file is at fault
 abbrev pub Trails : Step → ExprKind → Type 0
@@ -68,4 +68,4 @@ pub record IsExprFault (text : List ℕ) (f : ExprFault) : Type 0 where
   pub lexed : BeginsWith [] front text rest
   -- the place of what comes next, after spaces and comments
   pub place : f.place ≡ place_after (passed ++ gap_of false rest)
-  pub shows : Stands front (step_of (greatest_behind front) rest) f.kind
+  pub shows : Stands front (step_of (greatest_following front) rest) f.kind

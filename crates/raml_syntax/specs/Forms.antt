@@ -20,16 +20,16 @@ use Rattle.raml_syntax.specs.Trees.{Table, Expr}
 use Rattle.raml_syntax.specs.Heads.{ranged_of, counted_of, paired_of, single_of}
 
 -- this token, and then the production
-abbrev pub Behind : {R : Type 0} → Tok → (R → List Mark → Type 0) → R → List Mark → Type 0
-Behind {R} t P = Then (One (λ (u : Unit {0}). plain t)) (λ (u : Unit {0}). P)
+abbrev pub After : {R : Type 0} → Tok → (R → List Mark → Type 0) → R → List Mark → Type 0
+After {R} t P = Then (One (λ (u : Unit {0}). plain t)) (λ (u : Unit {0}). P)
 
 -- a number and this token after it
 abbrev pub NumberBefore : Tok → ℕ → List Mark → Type 0
-NumberBefore t = Then (One (λ n. plain (tok.number n))) (λ n. Behind t (Nothing n))
+NumberBefore t = Then (One (λ n. plain (tok.number n))) (λ n. After t (Nothing n))
 
 -- the last number of a base algebra, and the parenthesis after it
 abbrev pub Last : (ℕ → Expression) → Expression → List Mark → Type 0
-Last f = Then (One (λ n. last_number n (f n))) (λ n. Behind right_paren (Nothing (f n)))
+Last f = Then (One (λ n. last_number n (f n))) (λ n. After right_paren (Nothing (f n)))
 
 -- the base algebra that its last number makes of one
 abbrev pub finished : Begun → ℕ → Expression
@@ -38,13 +38,13 @@ finished (b.Ranged k top low) n = ranged_meaning (ranged_of k) top low n
 finished (b.Counted k) n = counted_meaning (counted_of k) n
 
 abbrev pub AddTail : Expression → List Mark → Type 0
-AddTail = Behind left_paren (Then (NumberBefore dots) (λ low. Last (add low)))
+AddTail = After left_paren (Then (NumberBefore dots) (λ low. Last (add low)))
 
 abbrev pub RangedTail : Ranged → Expression → List Mark → Type 0
-RangedTail k = Behind left_paren (Then (NumberBefore semicolon) (λ top. Then (NumberBefore dots) (λ low. Last (ranged_meaning k top low))))
+RangedTail k = After left_paren (Then (NumberBefore semicolon) (λ top. Then (NumberBefore dots) (λ low. Last (ranged_meaning k top low))))
 
 abbrev pub CountedTail : Counted → Expression → List Mark → Type 0
-CountedTail k = Behind left_paren (Last (counted_meaning k))
+CountedTail k = After left_paren (Last (counted_meaning k))
 
 abbrev pub TableTail : Expression → List Mark → Type 0
 TableTail a ms = (t : TableSpec) × (a ≡ table t) × Table t ms
@@ -54,10 +54,10 @@ abbrev pub Closed : Paired → Expression → Expression → Expression → List
 Closed k a b = Then (One (λ (u : Unit {0}). closing k a b)) (λ (u : Unit {0}). Nothing (paired_meaning k a b))
 
 abbrev pub PairedTail : List Definition → ℕ → Paired → Expression → List Mark → Type 0
-PairedTail ds nodes k = Then (Behind left_paren (Expr ds nodes)) (λ a. Then (Behind comma (Expr ds (nodes + node_count a))) (λ b. Closed k a b))
+PairedTail ds nodes k = Then (After left_paren (Expr ds nodes)) (λ a. Then (After comma (Expr ds (nodes + node_count a))) (λ b. Closed k a b))
 
 abbrev pub SingleTail : List Definition → ℕ → Single → Expression → List Mark → Type 0
-SingleTail ds nodes k = Then (Behind left_paren (Expr ds nodes)) (λ a. Behind right_paren (Nothing (single_meaning k a)))
+SingleTail ds nodes k = Then (After left_paren (Expr ds nodes)) (λ a. After right_paren (Nothing (single_meaning k a)))
 
 -- what stands after this head, which is counted among the nodes
 abbrev pub Tail : List Definition → ℕ → Head → Expression → List Mark → Type 0

@@ -16,10 +16,10 @@ use Rattle.raml_syntax.specs.Syntax.{is_among}
 use Rattle.raml_syntax.specs.Meaning.{edition_of}
 use Rattle.raml_syntax.specs.Marks.{Mark, plain_word, header_number}
 use Rattle.raml_syntax.specs.Productions.{clean}
-use Rattle.raml_syntax.specs.Forms.{Behind}
+use Rattle.raml_syntax.specs.Forms.{After}
 use Rattle.raml_syntax.specs.Trees.{Rest, File}
 use Rattle.raml_syntax.specs.Sequences.{Nothing, One, Then, Reads, map_ok}
-use Rattle.raml_syntax.specs.ExprText.{greatest_behind, BeginsWith}
+use Rattle.raml_syntax.specs.ExprText.{greatest_following, BeginsWith}
 use Rattle.raml_syntax.specs.Statements.{keyword_word, Statement, IsAlgError}
 
 -- a file may begin with the word
@@ -36,7 +36,7 @@ Starts = One (λ opening. plain_word (opening_word opening))
 
 -- a header after its word
 abbrev pub Profile : Edition → List Mark → Type 0
-Profile = Then (One header_number) (λ n. Behind semicolon (Nothing (edition_of (Some n))))
+Profile = Then (One header_number) (λ n. After semicolon (Nothing (edition_of (Some n))))
 
 -- what the production means, in this edition
 abbrev pub InEdition : Edition → (Expression → List Mark → Type 0) → PureAlg → List Mark → Type 0
@@ -51,7 +51,7 @@ Opened (o.Statement key) = InEdition profile.One (Statement [] key)
 pub record HasTaken (text : List ℕ) (ts : List Tok) (now : Lexer) : Type 0 where
   pub split : text ≡ now.before ++ now.rest
   pub lexed : BeginsWith [] ts text now.rest
-  pub greatest : now.greatest ≡ greatest_behind ts
+  pub greatest : now.greatest ≡ greatest_following ts
 
 -- a file was read from the front of the text, or the fault is the first of the text
 abbrev pub ReadsText : List ℕ → Result PureAlg AlgError → Lexer → Type 0

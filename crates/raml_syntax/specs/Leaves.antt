@@ -30,17 +30,17 @@ EndsWith (bad lex.NumberTooLarge) k = k ≡ Unexpected
 EndsWith (token t rest) k = ⊥
 
 -- what stands next isn't a token that is wanted, and this is its fault
-abbrev pub Lacks : (Tok → Type 0) → Step → ExprKind → Type 0
-Lacks wanted end k = k ≡ EndOfText
-Lacks wanted (bad lex.BadByte) k = k ≡ BadByte
-Lacks wanted (bad lex.NumberTooLarge) k = k ≡ Unexpected
-Lacks wanted (token t rest) k = (k ≡ Unexpected) × (wanted t → ⊥)
+abbrev pub Misses : (Tok → Type 0) → Step → ExprKind → Type 0
+Misses wanted end k = k ≡ EndOfText
+Misses wanted (bad lex.BadByte) k = k ≡ BadByte
+Misses wanted (bad lex.NumberTooLarge) k = k ≡ Unexpected
+Misses wanted (token t rest) k = (k ≡ Unexpected) × (wanted t → ⊥)
 
 -- the same where a number is wanted
-abbrev pub LacksNumber : Step → ExprKind → Type 0
-LacksNumber end k = k ≡ EndOfText
-LacksNumber (bad fault) k = k ≡ kind_of fault
-LacksNumber (token t rest) k = (k ≡ Unexpected) × ((n : ℕ) → t ≡ number n → ⊥)
+abbrev pub MissesNumber : Step → ExprKind → Type 0
+MissesNumber end k = k ≡ EndOfText
+MissesNumber (bad fault) k = k ≡ kind_of fault
+MissesNumber (token t rest) k = (k ≡ Unexpected) × ((n : ℕ) → t ≡ number n → ⊥)
 
 -- the error says what stands next and where
 abbrev pub IsRefusal : (Step → ExprKind → Type 0) → Lexer → AlgError → Type 0

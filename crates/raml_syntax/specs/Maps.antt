@@ -18,7 +18,7 @@ after_row End = plain right_brace
 -- the mark after a map
 abbrev pub after_map : AfterMap → Mark
 after_map after.Map = plain comma
-after_map (after.Behind row) = after_row row
+after_map (after.After row) = after_row row
 
 abbrev pub arrow_mark : Unit {0} → Mark
 arrow_mark _ = plain arrow
@@ -58,10 +58,10 @@ abbrev pub FirstMap : List (List ℕ) → List ℕ → List MapSyntax × AfterRo
 FirstMap names source = Then (Target names source) (λ m. MoreMaps names (m ∷ []))
 
 -- what stands after that first word, which is `none` or not
-abbrev pub BehindFirst : List (List ℕ) → List ℕ → Bool → List MapSyntax × AfterRow → List Mark → Type 0
-BehindFirst names w true = NoMaps
-BehindFirst names w false = FirstMap names w
+abbrev pub FollowingFirst : List (List ℕ) → List ℕ → Bool → List MapSyntax × AfterRow → List Mark → Type 0
+FollowingFirst names w true = NoMaps
+FollowingFirst names w false = FirstMap names w
 
 -- what stands after a row's colon, and the mark after the row
 abbrev pub Maps : List (List ℕ) → List MapSyntax × AfterRow → List Mark → Type 0
-Maps names = Then (One (first_mark names)) (λ w. BehindFirst names w (is_none w))
+Maps names = Then (One (first_mark names)) (λ w. FollowingFirst names w (is_none w))

@@ -3,7 +3,7 @@
 use Rattle.std.specs.Prelude.{ℕ, ◌+◌, List, [], ◌∷◌, ◌++◌, length, map, Bool, not, ◌&&◌, ◌||◌, ◌==◌, Option, Some, None, nat_le, if◌then◌else◌, codes}
 use Rattle.raml_lex.specs.Tokens.{Tok, word, left_paren, right_paren, left_brace, right_brace, comma, semicolon, colon, dots, equals, less, arrow}
 use Rattle.raml_lex.specs.Tokens as tok
-use Rattle.alg_model.specs.declared.alg.TheConstants.{MAX_TREE_NODES, MAX_TABLE_NAMES}
+use Rattle.alg_model.specs.Numbers.{max_tree_nodes, max_table_names}
 use Rattle.alg_model.specs.Expressions.{Expression, add}
 use Rattle.alg_model.specs.Carriers.{carrier_of}
 use Rattle.alg_model.specs.Formation.{node_count}
@@ -32,7 +32,7 @@ plain_word w = plain (word w)
 
 -- the word with which the tree has so many nodes
 abbrev pub counted_to : ℕ → List ℕ → Mark
-counted_to nodes w = tested (word w) TooLarge (nat_le nodes MAX_TREE_NODES)
+counted_to nodes w = tested (word w) TooLarge (nat_le nodes max_tree_nodes)
 
 -- a name that stands for this expression, if for any, after so many nodes
 abbrev pub name_mark : ℕ → List ℕ → Option Expression → Mark
@@ -45,7 +45,7 @@ last_number n a = tested (tok.number n) BadRange (is_in_range a)
 
 -- a name of a value or a row after those names
 abbrev pub own_name : List (List ℕ) → List ℕ → Mark
-own_name before w = tested (word w) BadTable (not (is_none w) && not (is_among before w) && nat_le (length before + 1) MAX_TABLE_NAMES)
+own_name before w = tested (word w) BadTable (not (is_none w) && not (is_among before w) && nat_le (length before + 1) max_table_names)
 
 -- `=` or `<`
 abbrev pub rank_tok : Bool → Tok

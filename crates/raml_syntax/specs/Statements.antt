@@ -1,6 +1,6 @@
 -- The statements of a file as they are read, one after another.
 use Rattle.std.specs.Prelude.{ℕ, List, [], ◌∷◌, ◌||◌, Bool, Result, None, codes}
-use Rattle.meta_base.specs.declared.limits.TheConstants.{MAX_NUMBER}
+use Rattle.meta_base.specs.Numbers.{max_number}
 use Rattle.raml_lex.specs.Tokens.{semicolon, equals}
 use Rattle.raml_lex.specs.Lexers.{Lexer}
 use Rattle.alg_model.specs.Expressions.{Expression}
@@ -11,7 +11,7 @@ use Rattle.raml_syntax.specs.declared.file.Keyword.TheVariants as k
 use Rattle.raml_syntax.specs.Syntax.{is_among, is_expression_word}
 use Rattle.raml_syntax.specs.Meaning.{Definition}
 use Rattle.raml_syntax.specs.Marks.{Mark, plain_word, let_name}
-use Rattle.raml_syntax.specs.Forms.{Behind}
+use Rattle.raml_syntax.specs.Forms.{After}
 use Rattle.raml_syntax.specs.Trees.{Expr, Rest}
 use Rattle.raml_syntax.specs.ExprText.{IsExprFault}
 use Rattle.raml_syntax.specs.Sequences.{Nothing, One, Then, Reads}
@@ -34,11 +34,11 @@ Opens = One (λ key. plain_word (keyword_word key))
 
 -- an expression and its semicolon
 abbrev pub Body : List Definition → Expression → List Mark → Type 0
-Body ds = Then (Expr ds 0) (λ a. Behind semicolon (Nothing a))
+Body ds = Then (Expr ds 0) (λ a. After semicolon (Nothing a))
 
 -- a `let` after its word, which defines one name more
 abbrev pub Let : List Definition → List Definition → List Mark → Type 0
-Let ds = Then (One (let_name ds)) (λ name. Behind equals (Then (Body ds) (λ a. Nothing (record { name = name; expression = a } ∷ ds))))
+Let ds = Then (One (let_name ds)) (λ name. After equals (Then (Body ds) (λ a. Nothing (record { name = name; expression = a } ∷ ds))))
 
 -- what is left of a file after the word that begins a statement
 abbrev pub Statement : List Definition → Keyword → Expression → List Mark → Type 0
@@ -52,7 +52,7 @@ Leads first old ds key now = (result : Result Expression AlgError) (new : Lexer)
 
 -- the reader at the start of a text
 abbrev pub start : List ℕ → Lexer
-start text = record { before = []; rest = text; greatest = MAX_NUMBER; fault = None }
+start text = record { before = []; rest = text; greatest = max_number; fault = None }
 
 -- the fault is the first of the text
 abbrev pub IsAlgError : List ℕ → AlgError → Type 0

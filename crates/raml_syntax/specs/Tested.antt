@@ -17,6 +17,6 @@ Tested false here r (Ok s) = ⊥
 Tested false here r (Err (Bad f)) = f ≡ record { kind = BadTable; place = here }
 
 -- the production was read after the name at this place, if the name isn't at fault
-abbrev pub ReadsBehind : {R : Type 0} → Bool → Place → (R → List Mark → Type 0) → Lexer → Result R AlgError → Lexer → Type 0
-ReadsBehind true here P old result new = Reads P old result new
-ReadsBehind false here P old result new = result ≡ Err (Bad (record { kind = BadTable; place = here }))
+abbrev pub ReadsFollowing : {R : Type 0} → Bool → Place → (R → List Mark → Type 0) → Lexer → Result R AlgError → Lexer → Type 0
+ReadsFollowing true here P old result new = Reads P old result new
+ReadsFollowing false here P old result new = result ≡ Err (Bad (record { kind = BadTable; place = here }))

@@ -1,7 +1,7 @@
 -- Tests that say where an expression breaks a formation rule.
 use Rattle.std.specs.Prelude.{ℕ, List, [], ◌∷◌, Bool, true, false, ◌&&◌, ◌==◌, nat_le}
 use Rattle.std.specs.Str.{bytes_eq}
-use Rattle.alg_model.specs.declared.alg.TheConstants.{MAX_SIMPLE_SYMBOLS, MAX_MARKS}
+use Rattle.alg_model.specs.Numbers.{max_simple_symbols, max_marks}
 use Rattle.alg_model.specs.Expressions.{Expression, add, cap, worst, width, pref, orig, seq, simseq, tags, guard, gate, table, lex, scoped, union, sum, plus, left, right}
 use Rattle.alg_model.specs.Expressions.{PureCarrier, whole, up_to, down_from, seqs, simseqs, sets, one, named, pairs, sides}
 
@@ -12,9 +12,9 @@ is_in_range (cap top low high) = nat_le low high
 is_in_range (worst top low high) = nat_le low high && nat_le high top
 is_in_range (width top low high) = nat_le low high && nat_le high top
 is_in_range (seq n) = nat_le 1 n
-is_in_range (simseq n) = nat_le 1 n && nat_le n MAX_SIMPLE_SYMBOLS
-is_in_range (tags n) = nat_le 1 n && nat_le n MAX_MARKS
-is_in_range (guard n) = nat_le 1 n && nat_le n MAX_MARKS
+is_in_range (simseq n) = nat_le 1 n && nat_le n max_simple_symbols
+is_in_range (tags n) = nat_le 1 n && nat_le n max_marks
+is_in_range (guard n) = nat_le 1 n && nat_le n max_marks
 is_in_range (pref top) = true
 is_in_range (orig top) = true
 is_in_range gate = true

@@ -15,8 +15,8 @@ after_value (after.Value is_tied) = plain (rank_tok is_tied)
 after_value after.Rows = plain semicolon
 
 -- the rank of a value after one of this rank
-abbrev pub rank_behind : ℕ → Bool → ℕ
-rank_behind rank is_tied = if is_tied then rank else rank + 1
+abbrev pub rank_following : ℕ → Bool → ℕ
+rank_following rank is_tied = if is_tied then rank else rank + 1
 
 -- what follows these values, the last of which has this rank; it means all values
 abbrev pub MoreValues : ValueList → ℕ → ValueList → List Mark → Type 0

@@ -3,7 +3,6 @@ ghost use Rattle.std.specs.Prelude.{◌≡◌, IfOk, OnOk, []};
 ghost use Rattle.raml_lex.specs.Views.{tok_of};
 ghost use Rattle.alg_model.specs.Views.{expression_of};
 ghost use Rattle.alg_model.specs.Formation.{node_count};
-ghost use Rattle.raml_syntax.specs.Meaning.{ranged_meaning, counted_meaning};
 ghost use Rattle.raml_syntax.specs.Tests.{is_in_range};
 ghost use Rattle.raml_syntax.specs.Leaves.{IsReady, IsMark};
 ghost use Rattle.raml_syntax.specs.Sequences.{Reads, map_ok};
@@ -13,7 +12,7 @@ ghost use Rattle.raml_syntax.specs.Forms.{NumberBefore, Last, finished, AddTail,
 use crate::expect::{refused, take_mark, take_number};
 use crate::heads::{Counted, Ranged};
 use crate::{AlgError, ExprKind};
-use alg_model::{MAX_MARKS, MAX_SIMPLE_SYMBOLS, Tree};
+use alg_model::Tree;
 use raml_lex::{TokenKind, Tokens};
 
 // A base algebra whose last number is still to come.
@@ -31,16 +30,8 @@ impl Begun {
     {
         match self {
             Begun::Add { low } => low <= last,
-            Begun::Ranged { kind, top, low } => match kind {
-                Ranged::Cap => low <= last,
-                Ranged::Worst | Ranged::Width => low <= last && last <= top,
-            },
-            Begun::Counted(kind) => match kind {
-                Counted::Pref | Counted::Orig => true,
-                Counted::Seq => 1 <= last,
-                Counted::SimSeq => 1 <= last && last <= MAX_SIMPLE_SYMBOLS,
-                Counted::Tags | Counted::Guard => 1 <= last && last <= MAX_MARKS,
-            },
+            Begun::Ranged { kind, top, low } => kind.accepts(top, low, last),
+            Begun::Counted(kind) => kind.accepts(last),
         }
     }
 
@@ -50,32 +41,9 @@ impl Begun {
     {
         match self {
             Begun::Add { low } => Tree::Add { low, high: last },
-            Begun::Ranged { kind, top, low } => ranged_tree(kind, top, low, last),
-            Begun::Counted(kind) => counted_tree(kind, last),
+            Begun::Ranged { kind, top, low } => kind.tree(top, low, last),
+            Begun::Counted(kind) => kind.tree(last),
         }
-    }
-}
-
-fn ranged_tree(kind: Ranged, top: u64, low: u64, high: u64) -> Tree
-    ensures { expression_of result ≡ ranged_meaning (ranged_of kind) top low high }
-{
-    match kind {
-        Ranged::Cap => Tree::Cap { top, low, high },
-        Ranged::Worst => Tree::Worst { top, low, high },
-        Ranged::Width => Tree::Width { top, low, high },
-    }
-}
-
-fn counted_tree(kind: Counted, count: u64) -> Tree
-    ensures { expression_of result ≡ counted_meaning (counted_of kind) count }
-{
-    match kind {
-        Counted::Pref => Tree::Pref { top: count },
-        Counted::Orig => Tree::Orig { top: count },
-        Counted::Seq => Tree::Seq { symbols: count },
-        Counted::SimSeq => Tree::SimSeq { symbols: count },
-        Counted::Tags => Tree::Tags { count },
-        Counted::Guard => Tree::Guard { count },
     }
 }
 

@@ -5,7 +5,7 @@ ghost use Rattle.raml_lex.specs.Tokens as tok;
 ghost use Rattle.raml_lex.specs.Lexers.{next_place};
 ghost use Rattle.raml_lex.specs.Views.{tok_of};
 ghost use Rattle.raml_syntax.specs.Faults.{kind_of};
-ghost use Rattle.raml_syntax.specs.Leaves.{IsReady, TakesAt, EndsWith, Lacks, LacksNumber, IsRefusal, IsTok, IsWord, IsMark};
+ghost use Rattle.raml_syntax.specs.Leaves.{IsReady, TakesAt, EndsWith, Misses, MissesNumber, IsRefusal, IsTok, IsWord, IsMark};
 ghost use Rattle.raml_syntax.specs.Reading.{TakesOne};
 ghost use Rattle.raml_syntax.specs.declared.faults.AlgError.TheVariants.{Bad};
 
@@ -56,7 +56,7 @@ pub fn take_mark(tokens: &mut Tokens<'_>, kind: TokenKind) -> Result<(), AlgErro
     requires kind { IsMark kind }
     ensures ready { OnOk result (IsReady tokens.new) }
     ensures mark { OnOk result (TakesOne (tok_of kind []) tokens.old tokens.new) }
-    ensures fault { IfErr result (IsRefusal (Lacks (IsTok (tok_of kind []))) tokens.old) }
+    ensures fault { IfErr result (IsRefusal (Misses (IsTok (tok_of kind []))) tokens.old) }
 {
     take_mark_at(tokens, kind)?;
     Ok(())
@@ -68,7 +68,7 @@ pub fn take_mark_at(tokens: &mut Tokens<'_>, kind: TokenKind) -> Result<Place, A
     requires kind { IsMark kind }
     ensures ready { OnOk result (IsReady tokens.new) }
     ensures mark { IfOk result (λ place. TakesAt (tok_of kind []) place tokens.old tokens.new) }
-    ensures fault { IfErr result (IsRefusal (Lacks (IsTok (tok_of kind []))) tokens.old) }
+    ensures fault { IfErr result (IsRefusal (Misses (IsTok (tok_of kind []))) tokens.old) }
 {
     let token = take(tokens)?;
     if token.kind == kind {
@@ -83,7 +83,7 @@ pub fn take_word<'a>(tokens: &mut Tokens<'a>) -> Result<Token<'a>, AlgError>
     requires { IsReady tokens.old }
     ensures ready { OnOk result (IsReady tokens.new) }
     ensures word { IfOk result (λ t. TakesAt (word t.text.now) t.place tokens.old tokens.new) }
-    ensures fault { IfErr result (IsRefusal (Lacks IsWord) tokens.old) }
+    ensures fault { IfErr result (IsRefusal (Misses IsWord) tokens.old) }
 {
     let token = take(tokens)?;
     if token.kind == TokenKind::Word {
@@ -98,7 +98,7 @@ pub fn take_number(tokens: &mut Tokens<'_>) -> Result<(u64, Place), AlgError>
     requires { IsReady tokens.old }
     ensures ready { OnOk result (IsReady tokens.new) }
     ensures number { IfOk result (λ n. TakesAt (tok.number n.0) n.1 tokens.old tokens.new) }
-    ensures fault { IfErr result (IsRefusal LacksNumber tokens.old) }
+    ensures fault { IfErr result (IsRefusal MissesNumber tokens.old) }
 {
     match tokens.next() {
         Some(Ok(token)) => match token.kind {

@@ -13,7 +13,7 @@ ghost use Rattle.raml_syntax.specs.Trees.{Expr};
 ghost use Rattle.raml_syntax.specs.Heads.{paired_of, single_of};
 ghost use Rattle.raml_syntax.specs.Forest.{IsTree, tree_at};
 ghost use Rattle.raml_syntax.specs.Definitions.{Keeps, ReadAs};
-ghost use Rattle.raml_syntax.specs.Forms.{Behind, TableTail, Closed, PairedTail, SingleTail, Tail, Resolves};
+ghost use Rattle.raml_syntax.specs.Forms.{After, TableTail, Closed, PairedTail, SingleTail, Tail, Resolves};
 
 use crate::base::{read_add, read_counted, read_ranged};
 use crate::definitions::Definitions;
@@ -164,7 +164,7 @@ fn read_part(
     requires room { nodes.old ≤ MAX_TREE_NODES }
     requires mark { IsMark mark }
     ensures ready { OnOk result (IsReady tokens.new) }
-    ensures reads { Reads (Behind (tok_of mark []) (Expr definitions.old.defined nodes.old)) tokens.old
+    ensures reads { Reads (After (tok_of mark []) (Expr definitions.old.defined nodes.old)) tokens.old
         (map_ok (tree_at definitions.new.trees) result) tokens.new }
     ensures keeps { OnOk result (Keeps definitions.old definitions.new) }
     ensures tree { IfOk result (IsTree definitions.new.trees) }
@@ -228,7 +228,7 @@ fn close_single(
     requires part { IsTree definitions.old.trees part }
     requires room { node_count (tree_at definitions.old.trees part) < MAX_TREE_NODES }
     ensures ready { OnOk result (IsReady tokens.new) }
-    ensures reads { Reads (Behind (tok_of TokenKind.RightParen [])
+    ensures reads { Reads (After (tok_of TokenKind.RightParen [])
         (Nothing (single_meaning (single_of kind) (tree_at definitions.old.trees part)))) tokens.old
         (map_ok (tree_at definitions.new.trees) result) tokens.new }
     ensures keeps { OnOk result (Keeps definitions.old definitions.new) }

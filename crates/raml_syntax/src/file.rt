@@ -264,9 +264,6 @@ pub fn read_alg(alloc: Global, source: &[u8]) -> Result<Alg, AlgError>
     let mut tokens = Tokens::new(source);
     let (edition, tree) = read_file(alloc, &mut tokens)?;
     expect_end(&mut tokens)?;
-    match Alg::checked_in(tree, edition) {
-        Ok(alg) => Ok(alg),
-        // What breaks a rule was refused at its own token.
-        Err(_) => unreachable!(),
-    }
+    // What breaks a rule was refused at its own token.
+    Ok(Alg::formed(tree, edition))
 }

@@ -1,7 +1,12 @@
-// The words that begin an expression of their own.
+// The words that begin an expression of their own, and what they begin where numbers alone follow.
 ghost use Rattle.std.specs.Prelude.{◌≡◌, false, MatchOption};
+ghost use Rattle.alg_model.specs.Views.{expression_of};
+ghost use Rattle.raml_syntax.specs.Meaning.{ranged_meaning, counted_meaning};
+ghost use Rattle.raml_syntax.specs.Tests.{is_in_range};
 ghost use Rattle.raml_syntax.specs.Syntax.{ranged_word, counted_word, paired_word, single_word, is_among, is_expression_word};
 ghost use Rattle.raml_syntax.specs.Heads.{ranged_of, counted_of, paired_of, single_of, head_word, base_words, operator_words};
+
+use alg_model::{MAX_MARKS, MAX_SIMPLE_SYMBOLS, Tree};
 
 /// The algebras that have a top and a range.
 #[derive(Clone, Copy, Debug)]
@@ -49,6 +54,57 @@ pub enum Head {
     Table,
     Paired(Paired),
     Single(Single),
+}
+
+impl Ranged {
+    /// Whether the algebra with these numbers meets the rule on ranges.
+    pub fn accepts(self, top: u64, low: u64, high: u64) -> bool
+        ensures { result ≡ is_in_range (ranged_meaning (ranged_of self) top low high) }
+    {
+        match self {
+            Ranged::Cap => low <= high,
+            Ranged::Worst | Ranged::Width => low <= high && high <= top,
+        }
+    }
+
+    /// The algebra with these numbers.
+    pub fn tree(self, top: u64, low: u64, high: u64) -> Tree
+        ensures { expression_of result ≡ ranged_meaning (ranged_of self) top low high }
+    {
+        match self {
+            Ranged::Cap => Tree::Cap { top, low, high },
+            Ranged::Worst => Tree::Worst { top, low, high },
+            Ranged::Width => Tree::Width { top, low, high },
+        }
+    }
+}
+
+impl Counted {
+    /// Whether the algebra with this number meets the rule on ranges.
+    pub fn accepts(self, number: u64) -> bool
+        ensures { result ≡ is_in_range (counted_meaning (counted_of self) number) }
+    {
+        match self {
+            Counted::Pref | Counted::Orig => true,
+            Counted::Seq => 1 <= number,
+            Counted::SimSeq => 1 <= number && number <= MAX_SIMPLE_SYMBOLS,
+            Counted::Tags | Counted::Guard => 1 <= number && number <= MAX_MARKS,
+        }
+    }
+
+    /// The algebra with this number.
+    pub fn tree(self, number: u64) -> Tree
+        ensures { expression_of result ≡ counted_meaning (counted_of self) number }
+    {
+        match self {
+            Counted::Pref => Tree::Pref { top: number },
+            Counted::Orig => Tree::Orig { top: number },
+            Counted::Seq => Tree::Seq { symbols: number },
+            Counted::SimSeq => Tree::SimSeq { symbols: number },
+            Counted::Tags => Tree::Tags { count: number },
+            Counted::Guard => Tree::Guard { count: number },
+        }
+    }
 }
 
 /// The head of this word; any other word is a name.

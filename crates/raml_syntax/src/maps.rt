@@ -10,7 +10,7 @@ ghost use Rattle.raml_syntax.specs.Maps.{Maps, Target, after_map, after_row, is_
 ghost use Rattle.raml_syntax.specs.Meaning.{image_place};
 ghost use Rattle.raml_syntax.specs.Sequences.{One, Reads, map_ok};
 ghost use Rattle.raml_syntax.specs.Syntax.{is_among, is_none};
-ghost use Rattle.raml_syntax.specs.Tested.{ReadsBehind};
+ghost use Rattle.raml_syntax.specs.Tested.{ReadsFollowing};
 
 use crate::expect::{refused, take, take_mark, take_word};
 use crate::values::{is_among, is_none};
@@ -21,7 +21,7 @@ use raml_lex::{Token, TokenKind, Tokens};
 use std::alloc::Global;
 use std::marker::Model;
 
-// What the mark after a row leads to.
+/// What the mark after a row leads to.
 #[derive(Clone, Copy, Debug)]
 pub enum AfterRow {
     // `;`
@@ -30,16 +30,16 @@ pub enum AfterRow {
     End,
 }
 
-// What the mark after a map leads to.
+/// What the mark after a map leads to.
 #[derive(Clone, Copy, Debug)]
 pub enum AfterMap {
     // `,`
     Map,
     // The row is over.
-    Behind(AfterRow),
+    After(AfterRow),
 }
 
-// `source -> target`
+/// `source -> target`
 #[derive(Debug, Drop)]
 pub struct Map<'a> {
     source: &'a [u8],
@@ -106,7 +106,7 @@ fn image_place(names: &[Text], maps: &[Map<'_>], name: &[u8]) -> Option<u8>
     place_of(names, map.target())
 }
 
-// The places of the images of all values.
+/// The places of the images of all values.
 pub fn images(alloc: Global, names: &[Text], maps: &[Map<'_>]) -> Result<List<Option<u8>>, NoMemory>
     requires { length names.now ≤ MAX_TABLE_NAMES }
     ensures { IfOk result (λ images. images ≡ map (image_place names.now maps.now) names.now) }
@@ -139,8 +139,8 @@ fn take_after_map(tokens: &mut Tokens<'_>) -> Result<AfterMap, AlgError>
     let token = take(tokens)?;
     match token.kind {
         TokenKind::Comma => Ok(AfterMap::Map),
-        TokenKind::Semicolon => Ok(AfterMap::Behind(AfterRow::Row)),
-        TokenKind::RightBrace => Ok(AfterMap::Behind(AfterRow::End)),
+        TokenKind::Semicolon => Ok(AfterMap::After(AfterRow::Row)),
+        TokenKind::RightBrace => Ok(AfterMap::After(AfterRow::End)),
         _ => Err(refused(ExprKind::Unexpected, token.place)),
     }
 }
@@ -167,7 +167,7 @@ fn read_map<'a>(
 ) -> Result<Map<'a>, AlgError>
     requires { IsReady tokens.old }
     ensures ready { OnOk result (IsReady tokens.new) }
-    ensures map { ReadsBehind (is_new_source names.now (sources maps.now) source.entry.text.now)
+    ensures map { ReadsFollowing (is_new_source names.now (sources maps.now) source.entry.text.now)
         source.entry.place (Target names.now source.entry.text.now) tokens.old result tokens.new }
 {
     if !is_source(names, maps, source.text) {
@@ -181,7 +181,7 @@ fn read_map<'a>(
     })
 }
 
-// Reads what stands after a row's colon, and the mark after the row.
+/// Reads what stands after a row's colon, and the mark after the row.
 pub fn read_maps<'a>(
     alloc: Global,
     tokens: &mut Tokens<'a>,
@@ -198,7 +198,7 @@ pub fn read_maps<'a>(
     }
     maps.push(read_map(tokens, names, maps.as_slice(), first)?)?;
     loop {
-        if let AfterMap::Behind(after) = take_after_map(tokens)? {
+        if let AfterMap::After(after) = take_after_map(tokens)? {
             return Ok((maps, after));
         }
         let source = take_word(tokens)?;

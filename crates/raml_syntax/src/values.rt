@@ -7,7 +7,7 @@ ghost use Rattle.raml_syntax.specs.Marks.{own_name};
 ghost use Rattle.raml_syntax.specs.Sequences.{One, Reads};
 ghost use Rattle.raml_syntax.specs.Syntax.{is_among, is_none};
 ghost use Rattle.raml_syntax.specs.Tested.{Tested};
-ghost use Rattle.raml_syntax.specs.Values.{Values, after_value, rank_behind};
+ghost use Rattle.raml_syntax.specs.Values.{Values, after_value, rank_following};
 
 use crate::expect::{refused, take, take_word};
 use crate::{AlgError, ExprKind};
@@ -16,7 +16,7 @@ use meta_base::{List, NoMemory, Text};
 use raml_lex::{Token, TokenKind, Tokens};
 use std::alloc::Global;
 
-// What the mark after a value leads to.
+/// What the mark after a value leads to.
 #[derive(Clone, Copy, Debug)]
 pub enum AfterValue {
     // `=` or `<`: a value of the same rank, or of the next.
@@ -25,21 +25,21 @@ pub enum AfterValue {
     Rows,
 }
 
-// The names and ranks of the values of a table.
+/// The names and ranks of the values of a table.
 #[derive(Debug, Drop)]
 pub struct ValueList {
     pub names: List<Text>,
     pub ranks: List<u8>,
 }
 
-// Whether the word is `none`, which names no value and no row.
+/// Whether the word is `none`, which names no value and no row.
 pub fn is_none(word: &[u8]) -> bool
     ensures { result ≡ is_none word.now }
 {
     word == b"none".as_slice()
 }
 
-// Whether the word is one of the names.
+/// Whether the word is one of the names.
 pub fn is_among(names: &[Text], word: &[u8]) -> bool
     ensures { result ≡ is_among names.now word.now }
 {
@@ -56,7 +56,7 @@ fn copied(alloc: Global, word: &[u8]) -> Result<Text, NoMemory>
     }
 }
 
-// The word as the name of a value or of a row, after so many of them.
+/// The word as the name of a value or of a row, after so many of them.
 pub fn new_name(
     alloc: Global,
     word: Token<'_>,
@@ -98,14 +98,14 @@ fn take_after_value(tokens: &mut Tokens<'_>) -> Result<AfterValue, AlgError>
 }
 
 // The rank of a value after one of this rank.
-fn rank_behind(rank: u8, is_tied: bool) -> u8
+fn rank_following(rank: u8, is_tied: bool) -> u8
     requires { rank + 1 < 2 ^ 8 }
-    ensures { result ≡ rank_behind rank is_tied }
+    ensures { result ≡ rank_following rank is_tied }
 {
     if is_tied { rank } else { rank + 1 }
 }
 
-// Reads the values, and the semicolon after them.
+/// Reads the values, and the semicolon after them.
 pub fn read_values(alloc: Global, tokens: &mut Tokens<'_>) -> Result<ValueList, AlgError>
     requires { IsReady tokens.old }
     ensures ready { OnOk result (IsReady tokens.new) }
@@ -121,7 +121,7 @@ pub fn read_values(alloc: Global, tokens: &mut Tokens<'_>) -> Result<ValueList, 
     while let AfterValue::Value { is_tied } = take_after_value(tokens)? {
         let name = read_value_name(alloc, tokens, names.as_slice())?;
         names.push(name)?;
-        rank = rank_behind(rank, is_tied);
+        rank = rank_following(rank, is_tied);
         ranks.push(rank)?;
     }
     Ok(ValueList { names, ranks })

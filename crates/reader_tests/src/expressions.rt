@@ -75,6 +75,8 @@ fn refused_files(rt: HostRuntime) {
         (b"main add(5..4);", BadRange, 13),
         (b"main add(5..4", BadRange, 13),
         (b"main simseq(1025);", BadRange, 13),
+        (b"main tags(65);", BadRange, 11),
+        (b"main guard(65);", BadRange, 12),
         (b"main add(1.", BadByte, 11),
         (b"main plus(add(1..2), seq(3));", CarriersDiffer, 28),
         (b"main table { a < a; Z: none };", BadTable, 18),
@@ -183,6 +185,12 @@ fn printed_files(rt: HostRuntime) -> Result<(), Fail> {
             b"main table { o < a = d; D: d -> a, o -> d; N: none };",
             "main table{o<a=d;D:o->d,d->a;N:none};\n",
         ),
+        // As large as they may be.
+        (b"main simseq(1024);", "main simseq(1024);\n"),
+        (
+            b"main lex(tags(64), guard(64));",
+            "main lex(tags(64),guard(64));\n",
+        ),
         (b"raml 1; main gate;", "main gate;\n"),
         (b"raml 02; main gate;", "raml 2;main gate;\n"),
         (b"let raml = gate; main raml;", "main gate;\n"),
@@ -198,5 +206,33 @@ fn printed_files(rt: HostRuntime) -> Result<(), Fail> {
     for (text, expected) in cases {
         assert!(rt; is_printed(rt.alloc(), *text, *expected)?);
     }
+    Ok(())
+}
+
+// A file with a table of so many values, each worse than the one before, and of so many rows without maps.
+fn table_file(alloc: Global, values: u32, rows: u32) -> Result<String, Fail> {
+    let mut text = String::with_capacity(alloc, 512)?;
+    text.push_str("main table{v0")?;
+    for k in 1..values {
+        let value = format!(in alloc; "<v{k}")?;
+        text.push_str(value.as_str())?;
+    }
+    for k in 0..rows {
+        let row = format!(in alloc; ";r{k}:none")?;
+        text.push_str(row.as_str())?;
+    }
+    text.push_str("};\n")?;
+    Ok(text)
+}
+
+// A table has 16 values and 16 rows at most, and the name of the 17th is refused.
+#[test]
+fn large_tables(rt: HostRuntime) -> Result<(), Fail> {
+    let largest = table_file(rt.alloc(), 16, 16)?;
+    assert!(rt; is_printed(rt.alloc(), largest.as_bytes(), largest.as_str())?);
+    let values = table_file(rt.alloc(), 17, 1)?;
+    check_refused(&rt, rt.alloc(), values.as_bytes(), BadTable, 1, 66);
+    let rows = table_file(rt.alloc(), 1, 17)?;
+    check_refused(&rt, rt.alloc(), rows.as_bytes(), BadTable, 1, 149);
     Ok(())
 }

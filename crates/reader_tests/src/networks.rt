@@ -99,7 +99,7 @@ const WIDE_ADD: &[u8] = b"raml 2; main add(1..9);";
 
 // Each is the first rule that its line breaks, in the order of the rules.
 #[test]
-fn bad_lines_are_told(rt: HostRuntime) -> Result<(), Fail> {
+fn bad_lines_are_reported(rt: HostRuntime) -> Result<(), Fail> {
     let cases: &[(u32, NetKind, &[u8])] = &[
         (1, BadLine, b"node"),
         (1, BadLine, b"edge a b"),
@@ -344,7 +344,7 @@ fn destinations_are_numbered(rt: HostRuntime) -> Result<(), Fail> {
 }
 
 // The network after the changes, one after another.
-fn behind(alloc: Global, net: Net, changes: &[Change]) -> Result<Net, NoMemory>
+fn after(alloc: Global, net: Net, changes: &[Change]) -> Result<Net, NoMemory>
     requires { AreChanges net (map pure_change changes.now) }
 {
     match changes {
@@ -352,7 +352,7 @@ fn behind(alloc: Global, net: Net, changes: &[Change]) -> Result<Net, NoMemory>
         [change, rest @ ..] => {
             let changed = net.changed(alloc, change)?;
             drop(net);
-            behind(alloc, changed, rest)
+            after(alloc, changed, rest)
         }
     }
 }
@@ -383,13 +383,13 @@ fn are_arcs(net: &Net, lines: &[Line]) -> bool {
 }
 
 // Whether the arcs of the file's network are these, after all its changes.
-fn are_arcs_behind(alloc: Global, text: &[u8], lines: &[Line]) -> Result<bool, Fail> {
+fn are_arcs_after(alloc: Global, text: &[u8], lines: &[Line]) -> Result<bool, Fail> {
     let alg = algebra(alloc, "add(1..9)")?;
     if text.len() > MAX_FILE_BYTES {
         return Err("the network file is too long".into());
     }
     let file = read_net(alloc, alg, text)?;
-    let net = behind(alloc, file.net, file.changes.as_slice())?;
+    let net = after(alloc, file.net, file.changes.as_slice())?;
     Ok(are_arcs(&net, lines))
 }
 
@@ -416,7 +416,7 @@ fn changes_are_made(rt: HostRuntime) -> Result<(), Fail> {
         let mut text = Vec::new(rt.alloc());
         text.extend_from_slice(b"node a b c\nlink a b : 1\nlink b c : 2\nlink c a : 3\n")?;
         text.extend_from_slice(*changes)?;
-        assert!(rt; are_arcs_behind(rt.alloc(), &text, *lines)?);
+        assert!(rt; are_arcs_after(rt.alloc(), &text, *lines)?);
     }
     Ok(())
 }

@@ -1,3 +1,4 @@
+pub mod Numbers
 pub mod VerdictTexts
 pub mod Refusals
 pub mod RunTexts

@@ -3,7 +3,6 @@ use Rattle.std.specs.Prelude.{◌<◌, ℕ, List, [], ◌++◌, Option, Some, No
 use Rattle.meta_base.specs.declared.ids.Which.{Which}
 use Rattle.meta_base.specs.declared.ids.Which.TheVariants as which
 use Rattle.alg_model.specs.Verdicts.{PureInstance}
-use Rattle.alg_classes.specs.Instances.{pure_instance}
 use Rattle.raml_syntax.specs.declared.faults.ExprFault.{ExprFault}
 use Rattle.raml_syntax.specs.Faults.{fault_number}
 use Rattle.net_graph.specs.Nets.{PureArc, PureNet}
@@ -11,7 +10,7 @@ use Rattle.net_graph.specs.RowTexts.{node_text}
 use Rattle.topology_file.specs.declared.faults.NetFault.{NetFault}
 use Rattle.topology_file.specs.Faults.{net_kind_number}
 use Rattle.report_text.specs.declared.refusals.Refusal.{Refusal}
-use Rattle.report_text.specs.declared.refusals.Refusal.TheVariants.{Words, Expr, Network, Lacks, Read, Long, Memory}
+use Rattle.report_text.specs.declared.refusals.Refusal.TheVariants.{Words, Expr, Network, Read, Long, Memory}
 use Rattle.report_text.specs.VerdictTexts.{CanPrint, instance_text, property_word}
 
 -- why nothing was done, by pure values: an arc by its number
@@ -19,7 +18,7 @@ pub data PureRefusal : Type 0 where
   words : ℕ → PureRefusal
   expr : ExprFault → PureRefusal
   network : NetFault → PureRefusal
-  lacks : ℕ → PureInstance → PureRefusal
+  misses : ℕ → PureInstance → PureRefusal
   read : Which → PureRefusal
   long : Which → PureRefusal
   memory : PureRefusal
@@ -28,7 +27,6 @@ abbrev pub pure_refusal : Refusal → PureRefusal
 pure_refusal (Words number) = words number
 pure_refusal (Expr fault) = expr fault
 pure_refusal (Network fault) = network fault
-pure_refusal (Lacks arc instance) = lacks arc.0 (pure_instance instance)
 pure_refusal (Read file) = read file
 pure_refusal (Long file) = long file
 pure_refusal Memory = memory
@@ -47,9 +45,9 @@ abbrev pub arc_text : PureNet → ℕ → List ℕ
 arc_text net n = ends_text net (slice_get net.arcs n)
 
 -- PROPERTY fails on LISTENER SPEAKER: INSTANCE
-abbrev pub lacks_text : ℕ → PureInstance → Option PureNet → List ℕ
-lacks_text n x None = []
-lacks_text n x (Some net) =
+abbrev pub misses_text : ℕ → PureInstance → Option PureNet → List ℕ
+misses_text n x None = []
+misses_text n x (Some net) =
     property_word x.property ++ codes " fails on " ++ arc_text net n ++ codes ": "
     ++ instance_text net.alg.expression x ++ codes "\n"
 
@@ -62,22 +60,17 @@ refusal_text (expr f) net =
 refusal_text (network f) net =
     codes "network refused: N" ++ decimal (net_kind_number f.kind) ++ codes " at line "
     ++ decimal f.line ++ codes "\n"
-refusal_text (lacks n x) net = lacks_text n x net
+refusal_text (misses n x) net = misses_text n x net
 refusal_text (read w) net = codes "read fault on the " ++ which_text w ++ codes "\n"
 refusal_text (long w) net = codes "too long: the " ++ which_text w ++ codes "\n"
 refusal_text memory net = codes "out of memory\n"
 
 -- an arc is one of the network's, and the instance can be printed
-abbrev pub CanLack : ℕ → PureInstance → Option PureNet → Type 0
-CanLack n x None = ⊥
-CanLack n x (Some net) = (n < length net.arcs) × CanPrint net.alg.expression x
+abbrev pub CanMiss : ℕ → PureInstance → Option PureNet → Type 0
+CanMiss n x None = ⊥
+CanMiss n x (Some net) = (n < length net.arcs) × CanPrint net.alg.expression x
 
 -- the line can be printed: an arc that doesn't have a property is of a network, which is given
 abbrev pub CanRefuse : PureRefusal → Option PureNet → Type 0
-CanRefuse (words number) net = Unit {0}
-CanRefuse (expr f) net = Unit {0}
-CanRefuse (network f) net = Unit {0}
-CanRefuse (lacks n x) net = CanLack n x net
-CanRefuse (read w) net = Unit {0}
-CanRefuse (long w) net = Unit {0}
-CanRefuse memory net = Unit {0}
+CanRefuse (misses n x) net = CanMiss n x net
+CanRefuse _ net = Unit {0}

@@ -6,11 +6,11 @@ use Rattle.net_graph.specs.Nets.{PureNet}
 use Rattle.net_graph.specs.Routes.{PureRoute}
 use Rattle.net_graph.specs.RowTexts.{dest_text}
 use Rattle.net_graph.specs.Tables.{PureRow}
-use Rattle.report_text.specs.declared.summary.TheConstants.{MAX_SUMMED}
+use Rattle.report_text.specs.Numbers.{max_summed}
 
 -- a row whose value, if it has one, is a number that may be summed
 abbrev pub IsSummed : PureRow → Type 0
-IsSummed row = IfSome row.route (λ (r : PureRoute). (n : ℕ) × (r.value ≡ number n) × (n ≤ MAX_SUMMED))
+IsSummed row = IfSome row.route (λ (r : PureRoute). (n : ℕ) × (r.value ≡ number n) × (n ≤ max_summed))
 
 -- these are so, and can be numbered
 pub record AreSummed (rows : List PureRow) : Type 0 where

@@ -1,7 +1,6 @@
 -- The printed text of verdicts.
 use Rattle.std.specs.Prelude.{List, [], ◌∷◌, ◌++◌, ℕ, Option, Some, None, codes}
-use Rattle.alg_model.specs.declared.edition.TheConstants.{MAX_LABEL_NUMBER}
-use Rattle.alg_model.specs.declared.alg.TheConstants.{MAX_VALUE_NUMBER}
+use Rattle.alg_model.specs.Numbers.{max_label_number, max_value_number}
 use Rattle.alg_model.specs.Properties.{PureProperty, monotone, strict, isotone, cancellative, total}
 use Rattle.alg_model.specs.Expressions.{Expression, PureCarrier, PureValue, PureLabel}
 use Rattle.alg_model.specs.Carriers.{carrier_of}
@@ -58,7 +57,7 @@ required_text p = codes "required: " ++ property_word p ++ codes "\n"
 -- the instance is the algebra's, and its images can be computed
 pub record CanPrint (a : Expression) (x : PureInstance) : Type 0 where
   pub is_of : IsInstanceOf a x
-  pub bound : InstanceAtMost MAX_LABEL_NUMBER MAX_VALUE_NUMBER x
+  pub bound : InstanceAtMost max_label_number max_value_number x
 
 abbrev pub CanPrintVerdict : Expression → PureVerdict → Type 0
 CanPrintVerdict a holds = Unit {0}

@@ -12,9 +12,11 @@ mod tables;
 mod verdicts;
 
 pub use code::{Operation, arc_line, code_lines, operation_line, order_line};
-pub use refusals::{Refusal, lacks_line, refusal_line};
+pub use refusals::{Refusal, misses_line, refusal_line};
 pub use rows::{push_row_line, row_line};
 pub use runs::{end_line, phase_line, push_delivery_line};
-pub use summary::{MAX_SUMMED, reach_line, size_line, summary_end_line, summary_lines};
+pub use summary::{
+    MAX_SUMMED, numbers_are_specified, reach_line, size_line, summary_end_line, summary_lines,
+};
 pub use tables::{stable_line, table_line};
 pub use verdicts::{required_line, verdict_line, verdict_lines};

@@ -1,10 +1,11 @@
 // The lines of refusals.
-ghost use Rattle.std.specs.Prelude.{◌≡◌, ◌<◌, Some, None, length, option_map, OnOk, IfOk};
+ghost use Rattle.std.specs.Prelude.{◌≡◌, ◌<◌, Option, Some, None, length, OnOk, IfOk};
 ghost use Rattle.meta_base.specs.Appending.{Gains};
 ghost use Rattle.alg_classes.specs.Instances.{pure_instance};
 ghost use Rattle.net_graph.specs.Views.{pure_arc};
 ghost use Rattle.report_text.specs.VerdictTexts.{CanPrint};
-ghost use Rattle.report_text.specs.Refusals.{words, expr, network, lacks, read, long, memory, pure_refusal, which_text, arc_text, ends_text, refusal_text, CanRefuse};
+ghost use Rattle.report_text.specs.Refusals.{words, expr, network, misses, read, long, memory, pure_refusal, which_text, arc_text, ends_text, refusal_text};
+ghost use Rattle.net_graph.specs.Nets.{PureNet};
 
 use crate::rows::push_node;
 use crate::verdicts::{push_instance, word_of};
@@ -15,8 +16,9 @@ use raml_syntax::ExprFault;
 use std::alloc::Global;
 use topology_file::NetFault;
 
-/// Why the program does nothing of what it is asked.
-#[derive(Debug, Drop)]
+/// Why the program does nothing of what it is asked, but for an arc whose label doesn't have a property:
+/// [`misses_line`].
+#[derive(Clone, Copy, Debug)]
 pub enum Refusal {
     /// The words mean no command: the number of what is wrong with them; printed after a C.
     Words(u8),
@@ -24,8 +26,6 @@ pub enum Refusal {
     Expr(ExprFault),
     /// The network file means no network; its kind is printed after an N.
     Network(NetFault),
-    /// An arc of the network has a label that doesn't have a property, and the instance shows it.
-    Lacks { arc: ArcId, instance: Instance },
     /// That file can't be read.
     Read(Which),
     /// That file has more bytes than [`meta_base::MAX_FILE_BYTES`].
@@ -91,7 +91,7 @@ pub(crate) fn push_ends(out: &mut String, net: &Net, arc: &Arc) -> Result<(), No
 
 /// The one line of an arc of the network whose label doesn't have a property, which the instance shows: it names the
 /// listener and then the speaker. It is refused for want of memory alone.
-pub fn lacks_line(
+pub fn misses_line(
     alloc: Global,
     net: &Net,
     arc: ArcId,
@@ -99,7 +99,7 @@ pub fn lacks_line(
 ) -> Result<Text, NoMemory>
     requires arc { arc.0 < length net.now.arcs }
     requires instance { CanPrint net.now.alg.expression (pure_instance instance.now) }
-    ensures { IfOk result (λ text. text ≡ refusal_text (lacks arc.0 (pure_instance instance.now)) (Some net.now)) }
+    ensures { IfOk result (λ text. text ≡ refusal_text (misses arc.0 (pure_instance instance.now)) (Some net.now)) }
 {
     let mut out = String::new(alloc);
     out.push_str(word_of(instance.property))?;
@@ -140,24 +140,16 @@ fn long_line(alloc: Global, which: Which) -> Result<Text, NoMemory>
     Ok(Text::from_string(out))
 }
 
-/// The one line of a refusal. Where an arc's label doesn't have a property, `net` is the network of that arc, and
-/// the line names the listener and then the speaker; no other line needs a network. The line is refused
-/// for want of memory alone.
-pub fn refusal_line(alloc: Global, refusal: &Refusal, net: Option<&Net>) -> Result<Text, NoMemory>
-    requires { CanRefuse (pure_refusal refusal.now) (option_map (λ net. net.now) net) }
-    ensures { IfOk result (λ text.
-        text ≡ refusal_text (pure_refusal refusal.now) (option_map (λ net. net.now) net.entry)) }
+/// The one line of a refusal, which needs no network. It is refused for want of memory alone.
+pub fn refusal_line(alloc: Global, refusal: Refusal) -> Result<Text, NoMemory>
+    ensures { (net : Option PureNet) → IfOk result (λ text. text ≡ refusal_text (pure_refusal refusal) net) }
 {
     match refusal {
-        Refusal::Words(number) => words_line(alloc, *number),
-        Refusal::Expr(fault) => expr_line(alloc, *fault),
-        Refusal::Network(fault) => network_line(alloc, *fault),
-        Refusal::Lacks { arc, instance } => {
-            let Some(net) = net else { unreachable!() };
-            lacks_line(alloc, net, *arc, instance)
-        }
-        Refusal::Read(which) => read_line(alloc, *which),
-        Refusal::Long(which) => long_line(alloc, *which),
+        Refusal::Words(number) => words_line(alloc, number),
+        Refusal::Expr(fault) => expr_line(alloc, fault),
+        Refusal::Network(fault) => network_line(alloc, fault),
+        Refusal::Read(which) => read_line(alloc, which),
+        Refusal::Long(which) => long_line(alloc, which),
         Refusal::Memory => Ok(Text::copy(alloc, "out of memory\n")?),
     }
 }

@@ -5,6 +5,7 @@ ghost use Rattle.meta_base.specs.Appending.{Gains};
 ghost use Rattle.alg_model.specs.Expressions.{number};
 ghost use Rattle.alg_model.specs.Views.{pure_value};
 ghost use Rattle.net_graph.specs.Views.{pure_row};
+ghost use Rattle.report_text.specs.Numbers.{max_summed};
 ghost use Rattle.report_text.specs.SummaryTexts.{AreSummed, IsSummed, is_reached, number_for, reach_text, reached, reaches_text, size_text, summary_end_text, summary_text, value_number, value_sum};
 
 use crate::rows::push_dest;
@@ -15,6 +16,11 @@ use std::alloc::Global;
 
 /// The greatest number of a value that a summary sums: the sum of as many rows as can be numbered stays a `u128`.
 pub const MAX_SUMMED: Amount = 1 << 61;
+
+/// The bound of summaries is the number of the specification.
+pub fn numbers_are_specified()
+    ensures { MAX_SUMMED ≡ max_summed }
+{}
 
 // How many routes a destination has, and the sum of their values.
 #[derive(Clone, Copy)]

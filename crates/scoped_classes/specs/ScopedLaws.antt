@@ -1,6 +1,6 @@
 -- The laws of scoped classes, for the proofs of their calls.
 use Rattle.std.proofs.Common.{◌≡◌, refl, sym, ap, subst, ◌∙◌, ◌⊎◌, inl, inr, ⊎_elim, List, [], Some, None}
-use Rattle.alg_model.specs.declared.alg.TheConstants.{MAX_INSTANCE_NUMBER}
+use Rattle.alg_model.specs.Numbers.{max_instance_number}
 use Rattle.alg_model.specs.declared.edition.Edition.{Edition}
 use Rattle.alg_model.specs.Expressions.{Expression, scoped, PureCarrier, pairs, PureValue, pair, PureLabel, outer, inner}
 use Rattle.alg_model.specs.Views.{pure_label}
@@ -12,7 +12,7 @@ use Rattle.alg_model.specs.Laws.{formed_scoped}
 use Rattle.alg_model.specs.CarrierLaws.{carriers_are}
 use Rattle.alg_classes.specs.declared.profile.Profile.{Profile}
 use Rattle.alg_classes.specs.declared.class.Class.{Class}
-use Rattle.alg_classes.specs.Facts.{Fact}
+use Rattle.alg_classes.specs.declared.fact.Fact.{Fact}
 use Rattle.alg_classes.specs.Profiles.{IsProfile, ProfileOf}
 use Rattle.alg_classes.specs.Classes.{PureExamples, pure_examples, IsSettledBy, ExamplesAtMost, alg_in, ClassOf, IsCovered, Covers}
 use Rattle.alg_classes.specs.ClassLaws.{images_kept}
@@ -103,7 +103,7 @@ inner_settled a b m p q x y formed is s t =
 -- A class that is made by a rule is the product's; the other part's examples are y, or x.
 pub made_outer : (a b : Expression) (e : Edition) (d : PureCarrier) (v : PureValue) (x z : Class) (y : PureExamples) → IsFormed (scoped a b)
     → d ≡ carrier_of b → In d v → AtMost (greatest_number e) v → ClassOf (alg_in a e) x
-    → IsSettledBy d (constant v) (constant_profile d v) y → ExamplesAtMost MAX_INSTANCE_NUMBER y
+    → IsSettledBy d (constant v) (constant_profile d v) y → ExamplesAtMost max_instance_number y
     → z.profile ≡ outer_rule d v x.profile → pure_label z.label ≡ outer (pure_label x.label) v
     → ((k : Fact) → pure_examples z.examples k ≡ pair_examples (pure_examples x.examples) y k) → ClassOf (alg_in (scoped a b) e) z
 made_outer a b e d v x z y formed same i v_bound is settled small profile_is label_is examples_are =
@@ -112,11 +112,11 @@ made_outer a b e d v x z y formed same i v_bound is settled small profile_is lab
     (pair_examples (pure_examples x.examples) y) label_is profile_is examples_are label (is.label_bound, v_bound)
     (outer_settled a b (pure_label x.label) v x.profile (constant_profile d v) (pure_examples x.examples) y formed label is.settled
     (subst (λ c. IsSettledBy c (constant v) (constant_profile d v) y) same settled))
-    (pair_bound MAX_INSTANCE_NUMBER (pure_examples x.examples) y is.bound small)
+    (pair_bound max_instance_number (pure_examples x.examples) y is.bound small)
 
 pub made_inner : (a b : Expression) (e : Edition) (c : PureCarrier) (y z : Class) (x : PureExamples) → IsFormed (scoped a b)
     → c ≡ carrier_of a → ClassOf (alg_in b e) y
-    → IsSettledBy c kept (kept_profile c) x → ExamplesAtMost MAX_INSTANCE_NUMBER x
+    → IsSettledBy c kept (kept_profile c) x → ExamplesAtMost max_instance_number x
     → z.profile ≡ inner_rule c y.profile → pure_label z.label ≡ inner (pure_label y.label)
     → ((k : Fact) → pure_examples z.examples k ≡ pair_examples x (pure_examples y.examples) k) → ClassOf (alg_in (scoped a b) e) z
 made_inner a b e c y z x formed same is settled small profile_is label_is examples_are =
@@ -124,7 +124,7 @@ made_inner a b e c y z x formed same is settled small profile_is label_is exampl
     (pair_examples x (pure_examples y.examples)) label_is profile_is examples_are is.label is.label_bound
     (inner_settled a b (pure_label y.label) (kept_profile c) y.profile x (pure_examples y.examples) formed is.label
     (subst (λ d. IsSettledBy d kept (kept_profile c) x) same settled) is.settled)
-    (pair_bound MAX_INSTANCE_NUMBER x (pure_examples y.examples) small is.bound)
+    (pair_bound max_instance_number x (pure_examples y.examples) small is.bound)
 
 -- The constants: the best value and the worst, where there is one, make the profiles of all.
 over_best : (d : PureCarrier) (xs : List Class) → IsCarrier d → worst d ≡ None → (r : Profile) → Over (OfOuters d) xs r

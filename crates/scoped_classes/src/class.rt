@@ -11,10 +11,10 @@ ghost use Rattle.alg_classes.specs.Classes.{ClassOf, alg_in};
 ghost use Rattle.scoped_classes.specs.Scoped as rule;
 
 use alg_classes::{
-    Class, Profile, Shaped, constant_examples, constant_profile, kept_examples, kept_profile,
+    Class, Profile, constant_examples, constant_profile, kept_examples, kept_profile,
     pair_examples, pair_profile,
 };
-use alg_model::{Carrier, Label, Value};
+use alg_model::{Carrier, Label, Shaped, Value};
 use meta_base::NoMemory;
 use std::alloc::Global;
 

@@ -59,9 +59,9 @@ more_pass : (net : PureNet) (dest : ℕ) (t : List PureRow) → TableOf net dest
 more_pass net dest t h r s i j b k row at = by row.route (is_route t k row at)
   where
     by : (o : Option PureRoute) → route_at t k ≡ o → is_better_some (carrier net) r o ≡ true → is_better_some (carrier net) s o ≡ true
-    by None told f = absurd (cc)
-    by (Some q) told f =
-        let q_in = (table_route_in net dest t h k q told).value_in in
+    by None reported f = absurd (cc)
+    by (Some q) reported f =
+        let q_in = (table_route_in net dest t h k q reported).value_in in
         let first : Better (carrier net) q s = better_trans (carrier net) q r s q_in i j (less_is (compare_routes (carrier net) q r) f) b in
         ap is_less first
 
@@ -74,10 +74,10 @@ fewer_better net dest t h r s i j b =
 -- and fewer, where it is a route of the table: it counts for the other, and not for itself
 pub fewer_than_own : (net : PureNet) (dest : ℕ) (t : List PureRow) → TableOf net dest t → (k : ℕ) (next : PureRoute) → route_at t k ≡ Some next → (s : PureRoute) → In (carrier net) s.value
     → Better (carrier net) next s → count_better net t next < count_better net t s
-fewer_than_own net dest t h k next told s j b = by (slice_get t k) refl told
+fewer_than_own net dest t h k next reported s j b = by (slice_get t k) refl reported
   where
     next_in : In (carrier net) next.value
-    next_in = (table_route_in net dest t h k next told).value_in
+    next_in = (table_route_in net dest t h k next reported).value_in
 
     not_less : (o : Ordering) → o ≢ Less → is_less o ≡ false
     not_less o f = grind arith

@@ -13,10 +13,10 @@ use Rattle.alg_model.specs.Application.{App}
 use Rattle.alg_model.specs.Bounds.{greatest_number}
 use Rattle.alg_model.specs.Formation.{IsAlg}
 use Rattle.alg_model.specs.Laws.{images_in, images_at_most, at_most_more, greatest_is_bounded}
-use Rattle.net_graph.specs.declared.route.TheConstants.{MAX_ROW_NUMBER}
+use Rattle.net_graph.specs.Limits.{max_row_number}
 use Rattle.net_graph.specs.Nets.{PureNet, label_between, origin_value}
 use Rattle.net_graph.specs.Routes.{PureRoute, Better}
-use Rattle.net_graph.specs.Tables.{PureRow, AreRowsFrom, IsRouteOf, Told, route_at, carrier, is_among, IsOfferBy, Offers, IsChoice, Stable}
+use Rattle.net_graph.specs.Tables.{PureRow, AreRowsFrom, IsRouteOf, Reported, route_at, carrier, is_among, IsOfferBy, Offers, IsChoice, Stable}
 use Rattle.net_graph.specs.RouteLaws.{same_route}
 use Rattle.settled_laws.specs.BetterLaws.{itself_no_better}
 use Rattle.settled_laws.specs.OrderTurns.{order_turns}
@@ -32,53 +32,53 @@ record IsEnd (net : PureNet) (i j : ℕ) (l : PureLabel) (v : PureValue) : Type 
   pub only : (k : ℕ) (m : PureLabel) → label_between net i k ≡ Some m → k ≡ j
 
 -- the offers to it: its own value, and what the arc makes of the other's route where that doesn't pass it
-offered : (net : PureNet) (told : Told) (i j : ℕ) (l : PureLabel) (v : PureValue) (r : PureRoute) → IsEnd net i j l v → Offers net 0 told i r
-    → (r ≡ route v (i ∷ [])) ⊎ ((next : PureRoute) × (told j ≡ Some next) × (App net.alg.expression l next.value ≡ Some r.value) × (is_among next.path i ≡ false) × (r.path ≡ i ∷ next.path))
-offered net told i j l v r e (inl own) =
+offered : (net : PureNet) (reported : Reported) (i j : ℕ) (l : PureLabel) (v : PureValue) (r : PureRoute) → IsEnd net i j l v → Offers net 0 reported i r
+    → (r ≡ route v (i ∷ [])) ⊎ ((next : PureRoute) × (reported j ≡ Some next) × (App net.alg.expression l next.value ≡ Some r.value) × (is_among next.path i ≡ false) × (r.path ≡ i ∷ next.path))
+offered net reported i j l v r e (inl own) =
     let value : r.value ≡ v = let a = e.own in let b = own.0 in cc in
     inl (same_route r (route v (i ∷ [])) value own.1)
-offered net told i j l v r e (inr (k, o)) = by (label_between net i k) refl o.weighs
+offered net reported i j l v r e (inr (k, o)) = by (label_between net i k) refl o.weighs
   where
     by : (m : Option PureLabel) → label_between net i k ≡ m → option_and_then (λ (n : PureLabel). option_and_then (App net.alg.expression n) (Some o.next.value)) m ≡ Some r.value
-        → (r ≡ route v (i ∷ [])) ⊎ ((next : PureRoute) × (told j ≡ Some next) × (App net.alg.expression l next.value ≡ Some r.value) × (is_among next.path i ≡ false) × (r.path ≡ i ∷ next.path))
+        → (r ≡ route v (i ∷ [])) ⊎ ((next : PureRoute) × (reported j ≡ Some next) × (App net.alg.expression l next.value ≡ Some r.value) × (is_among next.path i ≡ false) × (r.path ≡ i ∷ next.path))
     by None f g = absurd (cc)
     by (Some m) f g =
         let same : k ≡ j = e.only k m f in
         let label : m ≡ l = let a = e.arc in cc in
-        inr (o.next, rw same at o.is_told, rw label at g, o.loopless, o.path)
+        inr (o.next, rw same at o.is_reported, rw label at g, o.loopless, o.path)
 
 -- where the other routes by it, it has its own value alone
-keeps_own : (net : PureNet) (told : Told) (i j : ℕ) (l : PureLabel) (v w : PureValue) → IsEnd net i j l v → In (carrier net) v → told j ≡ Some (route w (j ∷ i ∷ []))
-    → IsChoice net 0 told i (Some (route v (i ∷ [])))
-keeps_own net told i j l v w e v_in t = (inl (e.own, refl), best)
+keeps_own : (net : PureNet) (reported : Reported) (i j : ℕ) (l : PureLabel) (v w : PureValue) → IsEnd net i j l v → In (carrier net) v → reported j ≡ Some (route w (j ∷ i ∷ []))
+    → IsChoice net 0 reported i (Some (route v (i ∷ [])))
+keeps_own net reported i j l v w e v_in t = (inl (e.own, refl), best)
   where
     passes : is_among (j ∷ i ∷ []) i ≡ true
     passes = or_right (j == i) (is_among (i ∷ []) i) (or_left (i == i) false (eq-eqb i i refl))
 
-    best : (s : PureRoute) → Offers net 0 told i s → ¬ Better (carrier net) s (route v (i ∷ []))
-    best s o = elim (offered net told i j l v s e o) [
+    best : (s : PureRoute) → Offers net 0 reported i s → ¬ Better (carrier net) s (route v (i ∷ []))
+    best s o = elim (offered net reported i j l v s e o) [
       | inl same ↦ rw same (itself_no_better (carrier net) (route v (i ∷ [])) v_in)
-      | inr (next, is_told, weighs, loopless, path) ↦ absurd (
+      | inr (next, is_reported, weighs, loopless, path) ↦ absurd (
           let same : next.path ≡ j ∷ i ∷ [] = cc in
           false≢true (sym (rw same at loopless) ∙ passes)
           )
     ]
 
 -- where the other has its own value, it routes by the other if that is preferred
-takes_other : (net : PureNet) (told : Told) (i j : ℕ) (l : PureLabel) (v w : PureValue) → IsEnd net i j l v → In (carrier net) w → (j == i) ≡ false
-    → App net.alg.expression l v ≡ Some w → Order (carrier net) w v ≡ Less → told j ≡ Some (route v (j ∷ [])) → IsChoice net 0 told i (Some (route w (i ∷ j ∷ [])))
-takes_other net told i j l v w e w_in apart image preferred t = (inr (j, offer), best)
+takes_other : (net : PureNet) (reported : Reported) (i j : ℕ) (l : PureLabel) (v w : PureValue) → IsEnd net i j l v → In (carrier net) w → (j == i) ≡ false
+    → App net.alg.expression l v ≡ Some w → Order (carrier net) w v ≡ Less → reported j ≡ Some (route v (j ∷ [])) → IsChoice net 0 reported i (Some (route w (i ∷ j ∷ [])))
+takes_other net reported i j l v w e w_in apart image preferred t = (inr (j, offer), best)
   where
-    offer : IsOfferBy net told i j (route w (i ∷ j ∷ []))
-    offer = record { next = route v (j ∷ []); is_told = t; weighs = rw (e.arc) image; loopless = rw apart refl; path = refl }
+    offer : IsOfferBy net reported i j (route w (i ∷ j ∷ []))
+    offer = record { next = route v (j ∷ []); is_reported = t; weighs = rw (e.arc) image; loopless = rw apart refl; path = refl }
 
     worse : (a b p : Ordering) → b ≡ ordering_reverse a → a ≡ Less → ordering_then b p ≢ Less
     worse a b p f g = grind arith
 
-    best : (s : PureRoute) → Offers net 0 told i s → ¬ Better (carrier net) s (route w (i ∷ j ∷ []))
-    best s o = elim (offered net told i j l v s e o) [
+    best : (s : PureRoute) → Offers net 0 reported i s → ¬ Better (carrier net) s (route w (i ∷ j ∷ []))
+    best s o = elim (offered net reported i j l v s e o) [
       | inl same ↦ rw same (worse (Order (carrier net) w v) (Order (carrier net) v w) (compare_paths (i ∷ []) (i ∷ j ∷ [])) (order_turns (carrier net) w v) preferred)
-      | inr (next, is_told, weighs, loopless, path) ↦
+      | inr (next, is_reported, weighs, loopless, path) ↦
           let other : next ≡ route v (j ∷ []) = cc in
           let value : s.value ≡ w = cc in
           let way : s.path ≡ i ∷ j ∷ [] = cc in
@@ -109,7 +109,7 @@ q_is_end alg l v = record { own = refl; arc = refl; only = only }
 own_route : (alg : PureAlg) (l : PureLabel) (v : PureValue) (p : List ℕ) → Fits alg l v → length p ≤ 2 → IsRouteOf (pair_net alg l v) (route v p)
 own_route alg l v p f short =
     let bound = greatest_is_bounded alg.edition in
-    record { value_in = f.value_in; bound = at_most_more (greatest_number alg.edition) MAX_ROW_NUMBER v (omega arith) f.value_bound; path = omega arith }
+    record { value_in = f.value_in; bound = at_most_more (greatest_number alg.edition) max_row_number v (omega arith) f.value_bound; path = omega arith }
 
 image_in : (alg : PureAlg) (l : PureLabel) (v w : PureValue) → IsAlg alg → Fits alg l v → App alg.expression l v ≡ Some w → In (carrier_of alg.expression) w
 image_in alg l v w a f e = images_in alg.expression l v w a.formed f.label_in f.value_in e
@@ -120,7 +120,7 @@ other_route alg l v w p a f e short =
     let bound = greatest_is_bounded alg.edition in
     record {
       value_in = image_in alg l v w a f e;
-      bound = at_most_more (n + n) MAX_ROW_NUMBER w (omega arith) (images_at_most alg.expression l v w n n f.label_in f.label_bound f.value_bound e);
+      bound = at_most_more (n + n) max_row_number w (omega arith) (images_at_most alg.expression l v w n n f.label_in f.label_bound f.value_bound e);
       path = omega arith;
     }
 

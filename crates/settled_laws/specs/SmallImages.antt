@@ -13,10 +13,11 @@ use Rattle.alg_model.specs.Expressions.{PureLabel, number_label, keep, symbol_la
 use Rattle.alg_model.specs.Carriers.{carrier_of, In, Order}
 use Rattle.alg_model.specs.Application.{IsLabel, App}
 use Rattle.alg_model.specs.Bounds.{AtMost, LabelAtMost, ExpressionAtMost}
+use Rattle.alg_model.specs.CarrierBounds.{carrier_at_most}
 use Rattle.alg_model.specs.Formation.{MeetsCarriers}
 use Rattle.alg_model.specs.Images.{image_same, image_part, image_both}
 use Rattle.settled_laws.specs.SmallInstances.{small_beside, small_label, small_label_on, small_value_under}
-use Rattle.settled_laws.specs.SmallValues.{carrier_at_most, order_self, all_below, beside_is_small, beside_compares}
+use Rattle.settled_laws.specs.SmallValues.{order_self, all_below, beside_is_small, beside_compares}
 
 -- values of carriers of small numbers are small
 up_small : (n top : ℕ) (v : PureValue) → top ≤ n → In (up_to top) v → AtMost n v
@@ -111,6 +112,18 @@ pub record SmallImage (n : ℕ) (a : Expression) (l : PureLabel) (v : PureValue)
   pub value_small : AtMost n v
   pub image : App a l v ≡ Some w
   pub order : Order (carrier_of a) w v ≡ o
+
+small_image : {n : ℕ} {a : Expression} {l : PureLabel} {v : PureValue} {o : Ordering} (w : PureValue) → IsLabel a l → In (carrier_of a) v
+    → LabelAtMost n l → AtMost n v → App a l v ≡ Some w → Order (carrier_of a) w v ≡ o → SmallImage n a l v o
+small_image w is within label_small value_small image order = record {
+  w = w;
+  label_in = is;
+  value_in = within;
+  label_small = label_small;
+  value_small = value_small;
+  image = image;
+  order = order;
+}
 
 -- the law for a label and a value with its image
 abbrev HasSmallImage : ℕ → Expression → PureLabel → PureValue → PureValue → Type 0
@@ -243,29 +256,13 @@ union_small n a b first_law second_law (first_label l) (first u) w is within e =
     image_part (HasSmallImage n (union a b) (first_label l) (first u)) first (App a l u) w e
     (λ x p.
     let s = first_law l u x is within p in
-    record {
-      w = first s.w;
-      label_in = s.label_in;
-      value_in = s.value_in;
-      label_small = s.label_small;
-      value_small = s.value_small;
-      image = rw s.image refl;
-      order = s.order;
-    })
+    small_image (first s.w) s.label_in s.value_in s.label_small s.value_small (rw s.image refl) s.order)
 union_small n a b first_law second_law (first_label l) _ w is within e = absurd (cc)
 union_small n a b first_law second_law (second_label m) (second v) w is within e =
     image_part (HasSmallImage n (union a b) (second_label m) (second v)) second (App b m v) w e
     (λ x p.
     let t = second_law m v x is within p in
-    record {
-      w = second t.w;
-      label_in = t.label_in;
-      value_in = t.value_in;
-      label_small = t.label_small;
-      value_small = t.value_small;
-      image = rw t.image refl;
-      order = t.order;
-    })
+    small_image (second t.w) t.label_in t.value_in t.label_small t.value_small (rw t.image refl) t.order)
 union_small n a b first_law second_law (second_label m) _ w is within e = absurd (cc)
 union_small n a b first_law second_law _ v w is within e = absurd is
 
@@ -275,55 +272,23 @@ sum_small n a b some h g first_law second_law (both_label l m) (first u) w is wi
     (λ x p.
     let s = first_law l u x is.0 within p in
     let t = label_is_small n b m some g is.1 in
-    record {
-      w = first s.w;
-      label_in = (s.label_in, t.label_in);
-      value_in = s.value_in;
-      label_small = (s.label_small, t.small);
-      value_small = s.value_small;
-      image = rw s.image refl;
-      order = s.order;
-    })
+    small_image (first s.w) (s.label_in, t.label_in) s.value_in (s.label_small, t.small) s.value_small (rw s.image refl) s.order)
 sum_small n a b some h g first_law second_law (both_label l m) (second v) w is within e =
     image_part (HasSmallImage n (sum a b) (both_label l m) (second v)) second (App b m v) w e
     (λ x p.
     let s = label_is_small n a l some h is.0 in
     let t = second_law m v x is.1 within p in
-    record {
-      w = second t.w;
-      label_in = (s.label_in, t.label_in);
-      value_in = t.value_in;
-      label_small = (s.small, t.label_small);
-      value_small = t.value_small;
-      image = rw t.image refl;
-      order = t.order;
-    })
+    small_image (second t.w) (s.label_in, t.label_in) t.value_in (s.small, t.label_small) t.value_small (rw t.image refl) t.order)
 sum_small n a b some h g first_law second_law (both_label l m) _ w is within e = absurd within
 sum_small n a b some h g first_law second_law _ v w is within e = absurd is
 
 plus_small : (n : ℕ) (a b : Expression) → carrier_of a ≡ carrier_of b → HasSmallImages n a → HasSmallImages n b → HasSmallImages n (plus a b)
 plus_small n a b same first_law second_law (first_label l) v w is within e =
     let s = first_law l v w is within e in
-    record {
-      w = s.w;
-      label_in = s.label_in;
-      value_in = s.value_in;
-      label_small = s.label_small;
-      value_small = s.value_small;
-      image = s.image;
-      order = s.order;
-    }
+    small_image s.w s.label_in s.value_in s.label_small s.value_small s.image s.order
 plus_small n a b same first_law second_law (second_label m) v w is within e =
     let t = second_law m v w is (rw same at within) e in
-    record {
-      w = t.w;
-      label_in = t.label_in;
-      value_in = rw same t.value_in;
-      label_small = t.label_small;
-      value_small = t.value_small;
-      image = t.image;
-      order = rw same t.order;
-    }
+    small_image t.w t.label_in (rw same t.value_in) t.label_small t.value_small t.image (rw same t.order)
 plus_small n a b same first_law second_law _ v w is within e = absurd is
 
 left_small : (n : ℕ) (a : Expression) → 1 ≤ n → ExpressionAtMost n a → HasSmallImages n (left a)

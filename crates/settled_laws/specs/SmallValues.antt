@@ -5,47 +5,13 @@ use Rattle.std.specs.List.{AllByRecursion}
 use Rattle.std.specs.Ordering.{nat_cmp, ordering_reverse}
 use Rattle.std.specs.declared.cmp.Ordering.{Ordering}
 use Rattle.std.specs.declared.cmp.Ordering.TheVariants.{Equal}
-use Rattle.alg_model.specs.Expressions.{Expression, add, cap, worst, width, pref, orig, seq, simseq, tags, guard, gate, table, lex, scoped, union, sum, plus, left, right}
 use Rattle.alg_model.specs.Expressions.{PureCarrier, whole, up_to, down_from, seqs, simseqs, sets, one, named, pairs, sides}
 use Rattle.alg_model.specs.Expressions.{PureValue, number, symbols, marks, unit, name, pair, first, second}
-use Rattle.alg_model.specs.Carriers.{carrier_of, In, Order}
-use Rattle.alg_model.specs.Bounds.{AtMost, ExpressionAtMost}
+use Rattle.alg_model.specs.Carriers.{In, Order}
+use Rattle.alg_model.specs.Bounds.{AtMost}
+use Rattle.alg_model.specs.CarrierBounds.{CarrierAtMost}
 use Rattle.settled_laws.specs.OrderTurns.{order_turns}
 use Rattle.settled_laws.specs.SmallInstances.{small_number, small_beside}
-
--- no number of the carrier's own is above n
-abbrev pub CarrierAtMost : ℕ → PureCarrier → Type 0
-CarrierAtMost n whole = Unit {0}
-CarrierAtMost n (up_to top) = top ≤ n
-CarrierAtMost n (down_from top) = top ≤ n
-CarrierAtMost n (seqs k) = k ≤ n
-CarrierAtMost n (simseqs k) = k ≤ n
-CarrierAtMost n (sets k) = Unit {0}
-CarrierAtMost n one = Unit {0}
-CarrierAtMost n (named names ranks) = Unit {0}
-CarrierAtMost n (pairs c d) = CarrierAtMost n c × CarrierAtMost n d
-CarrierAtMost n (sides c d) = CarrierAtMost n c × CarrierAtMost n d
-
-pub carrier_at_most : (n : ℕ) (a : Expression) → ExpressionAtMost n a → CarrierAtMost n (carrier_of a)
-carrier_at_most n (add low high) h = tt
-carrier_at_most n (cap top low high) h = h.0
-carrier_at_most n (worst top low high) h = h.0
-carrier_at_most n (width top low high) h = h.0
-carrier_at_most n (pref top) h = h
-carrier_at_most n (orig top) h = h
-carrier_at_most n (seq k) h = h
-carrier_at_most n (simseq k) h = h
-carrier_at_most n (tags k) h = tt
-carrier_at_most n (guard k) h = tt
-carrier_at_most n gate h = tt
-carrier_at_most n (table t) h = tt
-carrier_at_most n (lex a b) h = (carrier_at_most n a h.0, carrier_at_most n b h.1)
-carrier_at_most n (scoped a b) h = (carrier_at_most n a h.0, carrier_at_most n b h.1)
-carrier_at_most n (union a b) h = (carrier_at_most n a h.0, carrier_at_most n b h.1)
-carrier_at_most n (sum a b) h = (carrier_at_most n a h.0, carrier_at_most n b h.1)
-carrier_at_most n (plus a b) h = carrier_at_most n a h.0
-carrier_at_most n (left a) h = carrier_at_most n a h
-carrier_at_most n (right a) h = carrier_at_most n a h
 
 -- a value compares to itself as equal
 pub order_self : (c : PureCarrier) (v : PureValue) → Order c v v ≡ Equal

@@ -11,7 +11,7 @@ ghost use Rattle.settled_laws.specs.UniqueTables.{LabelsAreMonotone, TablesAreUn
 
 /// Where all labels are monotone, a table that is made best first is stable: a route is better than what an arc makes
 /// of it, since where the value isn't worse the path is longer (after Sobrinho 2005; Griffin and Sobrinho 2005).
-#[tactic(auto, using(crate::specs::BestFirst::best_first_is_stable))]
+#[tactic(auto, using(crate::proofs::BestFirst::best_first_is_stable))]
 pub fn best_first_is_stable()
     ensures { (net : PureNet) (dest : ℕ) (t : List PureRow) → IsNet net → NetHas monotone net → BestFirst net dest t →
         Stable net dest t }
@@ -32,7 +32,7 @@ pub fn stable_rows_are_settled()
 {}
 
 /// Labels that are strictly monotone are monotone, so all of this holds of them too.
-#[tactic(auto, using(crate::specs::StrictLabels::strict_net_is_monotone))]
+#[tactic(auto, using(crate::proofs::StrictLabels::strict_net_is_monotone))]
 pub fn strict_is_monotone()
     ensures { (net : PureNet) → NetHas strict net → NetHas monotone net }
 {}

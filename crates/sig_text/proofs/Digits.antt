@@ -5,7 +5,7 @@ use Rattle.std.specs.List.{list_all}
 use Rattle.std.proofs.lemmas.Bool.Decides.{nat_tests}
 use Rattle.std.proofs.lemmas.Fmt.{decimal_by_steps_wide}
 use Rattle.sig_text.specs.declared.bytes.TheConstants.{MAX_LITERAL_NUMBER}
-use Rattle.meta_base.specs.Bytes.{is_digit, is_letter, is_word_byte, is_word, front, behind, number_from}
+use Rattle.meta_base.specs.Bytes.{is_digit, is_letter, is_word_byte, is_word, front, after_front, number_from}
 use Rattle.alg_model.specs.Texts.{more_numbers, numbers_text}
 use Rattle.meta_base.specs.Bytes.{is_blank}
 use Rattle.sig_text.specs.Parts.{Part, word, digits, mark, part, part_at, step_of, Begins}
@@ -63,20 +63,20 @@ front_all p (d ∷ ds) rest h k =
     let t = both_true (p d) (list_all p ds) h in
     rw t.0 (ap (λ xs. d ∷ xs) (front_all p ds rest t.1 k))
 
-behind_all : (p : ℕ → Bool) (ds rest : List ℕ) → list_all p ds ≡ true → behind p rest ≡ rest → behind p (ds ++ rest) ≡ rest
-behind_all p [] rest h k = k
-behind_all p (d ∷ ds) rest h k =
+after_all : (p : ℕ → Bool) (ds rest : List ℕ) → list_all p ds ≡ true → after_front p rest ≡ rest → after_front p (ds ++ rest) ≡ rest
+after_all p [] rest h k = k
+after_all p (d ∷ ds) rest h k =
     let t = both_true (p d) (list_all p ds) h in
-    rw t.0 (behind_all p ds rest t.1 k)
+    rw t.0 (after_all p ds rest t.1 k)
 
-stops_at : (p : ℕ → Bool) (c : ℕ) (cs : List ℕ) → p c ≡ false → (front p (c ∷ cs) ≡ []) × (behind p (c ∷ cs) ≡ c ∷ cs)
+stops_at : (p : ℕ → Bool) (c : ℕ) (cs : List ℕ) → p c ≡ false → (front p (c ∷ cs) ≡ []) × (after_front p (c ∷ cs) ≡ c ∷ cs)
 stops_at p c cs h = (rw h refl, rw h refl)
 
-stops_digits : (rest : List ℕ) → stops rest ≡ true → (front is_digit rest ≡ []) × (behind is_digit rest ≡ rest)
+stops_digits : (rest : List ℕ) → stops rest ≡ true → (front is_digit rest ≡ []) × (after_front is_digit rest ≡ rest)
 stops_digits [] h = (refl, refl)
 stops_digits (c ∷ cs) h = stops_at is_digit c cs (not_either (is_letter c) (is_digit c) h).1
 
-stops_word : (rest : List ℕ) → stops rest ≡ true → (front is_word_byte rest ≡ []) × (behind is_word_byte rest ≡ rest)
+stops_word : (rest : List ℕ) → stops rest ≡ true → (front is_word_byte rest ≡ []) × (after_front is_word_byte rest ≡ rest)
 stops_word [] h = (refl, refl)
 stops_word (c ∷ cs) h = stops_at is_word_byte c cs (not_true (is_word_byte c) h)
 
@@ -94,10 +94,10 @@ step_run [] rest n d s = let l = d.2 in absurd (omega arith)
 step_run (c ∷ cs) rest n d s =
     let t = both_true (is_digit c) (list_all is_digit cs) d.0 in
     let f = front_all is_digit cs rest t.1 (stops_digits rest s).0 in
-    let g = behind_all is_digit cs rest t.1 (stops_digits rest s).1 in
+    let g = after_all is_digit cs rest t.1 (stops_digits rest s).1 in
     let e = (stops_at is_blank c (cs ++ rest) (digit_not_blank c t.0)).1 in
     ap part_at e ∙ at_digits c (cs ++ rest) (digit_not_letter c t.0) t.0
-    ∙ ap (λ xs. part (digits (number_from 0 (c ∷ xs))) (behind is_digit (cs ++ rest))) f
+    ∙ ap (λ xs. part (digits (number_from 0 (c ∷ xs))) (after_front is_digit (cs ++ rest))) f
     ∙ ap (λ us. part (digits (number_from 0 (c ∷ cs))) us) g ∙ ap (λ k. part (digits k) rest) d.1
 
 pub step_digits : (n : ℕ) (rest : List ℕ) → n ≤ MAX_LITERAL_NUMBER → stops rest ≡ true → step_of (decimal n ++ rest) ≡ part (digits n) rest
@@ -108,9 +108,9 @@ step_word [] rest h s = absurd (cc)
 step_word (c ∷ cs) rest h s =
     let t = both_true (is_letter c) (list_all is_word_byte cs) h in
     let f = front_all is_word_byte cs rest t.1 (stops_word rest s).0 in
-    let g = behind_all is_word_byte cs rest t.1 (stops_word rest s).1 in
+    let g = after_all is_word_byte cs rest t.1 (stops_word rest s).1 in
     let e = (stops_at is_blank c (cs ++ rest) (letter_not_blank c t.0)).1 in
-    ap part_at e ∙ at_word c (cs ++ rest) t.0 ∙ ap (λ xs. part (word (c ∷ xs)) (behind is_word_byte (cs ++ rest))) f ∙ ap (λ us. part (word (c ∷ cs)) us) g
+    ap part_at e ∙ at_word c (cs ++ rest) t.0 ∙ ap (λ xs. part (word (c ∷ xs)) (after_front is_word_byte (cs ++ rest))) f ∙ ap (λ us. part (word (c ∷ cs)) us) g
 
 pub begins_append : (ps qs : List Part) (text mid rest : List ℕ) → Begins ps text mid → Begins qs mid rest → Begins (ps ++ qs) text rest
 begins_append [] qs text mid rest h k = subst (λ x. Begins qs x rest) (sym h) k

@@ -78,10 +78,10 @@ pair_regroup m a b z = simp append_assoc
 pub record PairFront {A B C : Type 0} (m : ℕ) (f : A → B → C) (x : List Part → Option (A × List Part)) (y : List Part → Option (B × List Part)) (ps : List Part) (c : C) (z : List Part) : Type 0 where
   pub a : A
   pub b : B
-  pub behind : List Part
+  pub after : List Part
   pub further : List Part
-  pub opens : ps ≡ mark 40 ∷ behind
-  pub first : x behind ≡ Some (a, mark m ∷ further)
+  pub opens : ps ≡ mark 40 ∷ after
+  pub first : x after ≡ Some (a, mark m ∷ further)
   pub second : y further ≡ Some (b, mark 41 ∷ z)
   pub makes : f a b ≡ c
 
@@ -98,7 +98,7 @@ pair_is m f x y ps c z e =
     record {
       a = i.0.0;
       b = k.0.0;
-      behind = h.0;
+      after = h.0;
       further = j.0;
       opens = take_mark_is 40 ps h.0 h.1;
       first = i.1 ∙ ap (λ us. Some (i.0.0, us)) (take_mark_is m i.0.1 j.0 j.1);

@@ -24,10 +24,10 @@ use Rattle.sig_text.specs.Literals.{both_of, one_of, placed, value_of, label_of,
 use Rattle.sig_text.proofs.Meant.{both_true}
 use Rattle.sig_text.proofs.Digits.{step_digits, step_word, begins_append, begins_one}
 use Rattle.sig_text.proofs.Sets.{all_at, placed_at}
-use Rattle.sig_text.proofs.RoundTrips.{HasRoom, readable_number, readable, Reads, pair_reads, reads_whole, told}
+use Rattle.sig_text.proofs.RoundTrips.{HasRoom, readable_number, readable, Reads, pair_reads, reads_whole, reported}
 
 -- a shape that spells the label, whose parts are those of the printed text
-pub record LabelTold (greatest : ℕ) (a : Expression) (l : PureLabel) : Type 0 where
+pub record LabelStated (greatest : ℕ) (a : Expression) (l : PureLabel) : Type 0 where
   pub shape : LabelShape
   pub has : HasLabelShape greatest a shape
   pub means : label_of a shape ≡ Ok l
@@ -57,8 +57,8 @@ both_tests low n high h k =
     let q : nat_le n high ≡ true = grind (arith, nat_tests) in
     rw (p, q) refl
 
-told_row : (greatest : ℕ) (t : TableSpec) (k : ℕ) → are_named row_name t.rows ≡ true → k < length t.rows → LabelTold greatest (table t) (row_label k)
-told_row greatest t k r i =
+stated_row : (greatest : ℕ) (t : TableSpec) (k : ℕ) → are_named row_name t.rows ≡ true → k < length t.rows → LabelStated greatest (table t) (row_label k)
+stated_row greatest t k r i =
     let none : TableRow = record { name = []; images = [] } in
     let both = both_true (list_all (λ (row : TableRow). is_table_name (row_name row)) t.rows) (are_distinct row_name t.rows) r in
     let named = all_at (λ (row : TableRow). is_table_name (row_name row)) t.rows k none i both.0 in
@@ -72,74 +72,74 @@ told_row greatest t k r i =
       reads = subst (Reads (word w ∷ [])) text (word_reads w is);
     }
 
-pub label_told : (greatest : ℕ) → HasRoom greatest → (a : Expression) (l : PureLabel) → MeetsRanges a → MeetsNames a → IsLabel a l → LabelAtMost greatest l → LabelTold greatest a l
-label_told greatest room (add low high) (number_label n) r m i s = record { shape = number_label_shape n; has = s; means = rw (both_tests low n high i.0 i.1) refl; reads = number_reads n (readable_number greatest n room s) }
-label_told greatest room (add low high) _ r m i s = absurd i
-label_told greatest room (cap top low high) (number_label n) r m i s = record { shape = number_label_shape n; has = s; means = rw (both_tests low n high i.0 i.1) refl; reads = number_reads n (readable_number greatest n room s) }
-label_told greatest room (cap top low high) _ r m i s = absurd i
-label_told greatest room (worst top low high) (number_label n) r m i s = record { shape = number_label_shape n; has = s; means = rw (both_tests low n high i.0 i.1) refl; reads = number_reads n (readable_number greatest n room s) }
-label_told greatest room (worst top low high) _ r m i s = absurd i
-label_told greatest room (width top low high) (number_label n) r m i s = record { shape = number_label_shape n; has = s; means = rw (both_tests low n high i.0 i.1) refl; reads = number_reads n (readable_number greatest n room s) }
-label_told greatest room (width top low high) _ r m i s = absurd i
-label_told greatest room (pref top) (number_label n) r m i s =
+pub label_stated : (greatest : ℕ) → HasRoom greatest → (a : Expression) (l : PureLabel) → MeetsRanges a → MeetsNames a → IsLabel a l → LabelAtMost greatest l → LabelStated greatest a l
+label_stated greatest room (add low high) (number_label n) r m i s = record { shape = number_label_shape n; has = s; means = rw (both_tests low n high i.0 i.1) refl; reads = number_reads n (readable_number greatest n room s) }
+label_stated greatest room (add low high) _ r m i s = absurd i
+label_stated greatest room (cap top low high) (number_label n) r m i s = record { shape = number_label_shape n; has = s; means = rw (both_tests low n high i.0 i.1) refl; reads = number_reads n (readable_number greatest n room s) }
+label_stated greatest room (cap top low high) _ r m i s = absurd i
+label_stated greatest room (worst top low high) (number_label n) r m i s = record { shape = number_label_shape n; has = s; means = rw (both_tests low n high i.0 i.1) refl; reads = number_reads n (readable_number greatest n room s) }
+label_stated greatest room (worst top low high) _ r m i s = absurd i
+label_stated greatest room (width top low high) (number_label n) r m i s = record { shape = number_label_shape n; has = s; means = rw (both_tests low n high i.0 i.1) refl; reads = number_reads n (readable_number greatest n room s) }
+label_stated greatest room (width top low high) _ r m i s = absurd i
+label_stated greatest room (pref top) (number_label n) r m i s =
     let t : nat_le n top ≡ true = grind (arith, nat_tests) in
     record { shape = number_label_shape n; has = s; means = rw t refl; reads = number_reads n (readable_number greatest n room s) }
-label_told greatest room (pref top) _ r m i s = absurd i
-label_told greatest room (orig top) keep r m i s = record { shape = word_label_shape (codes "keep"); has = refl; means = refl; reads = word_reads (codes "keep") refl }
-label_told greatest room (orig top) _ r m i s = absurd i
-label_told greatest room (seq k) (symbol_label n) r m i s =
+label_stated greatest room (pref top) _ r m i s = absurd i
+label_stated greatest room (orig top) keep r m i s = record { shape = word_label_shape (codes "keep"); has = refl; means = refl; reads = word_reads (codes "keep") refl }
+label_stated greatest room (orig top) _ r m i s = absurd i
+label_stated greatest room (seq k) (symbol_label n) r m i s =
     let t : nat_lt n k ≡ true = grind (arith, nat_tests) in
     record { shape = number_label_shape n; has = s; means = rw t refl; reads = number_reads n (readable_number greatest n room s) }
-label_told greatest room (seq k) _ r m i s = absurd i
-label_told greatest room (simseq k) (symbol_label n) r m i s =
+label_stated greatest room (seq k) _ r m i s = absurd i
+label_stated greatest room (simseq k) (symbol_label n) r m i s =
     let t : nat_lt n k ≡ true = grind (arith, nat_tests) in
     record { shape = number_label_shape n; has = s; means = rw t refl; reads = number_reads n (readable_number greatest n room s) }
-label_told greatest room (simseq k) _ r m i s = absurd i
-label_told greatest room (tags k) keep r m i s = record { shape = word_label_shape (codes "keep"); has = refl; means = refl; reads = word_reads (codes "keep") refl }
-label_told greatest room (tags k) (labels.mark n) r m i s =
+label_stated greatest room (simseq k) _ r m i s = absurd i
+label_stated greatest room (tags k) keep r m i s = record { shape = word_label_shape (codes "keep"); has = refl; means = refl; reads = word_reads (codes "keep") refl }
+label_stated greatest room (tags k) (labels.mark n) r m i s =
     let few = r.1 in
     let t : nat_lt n k ≡ true = grind (arith, nat_tests) in
     let least = room.0 in
     let small : n ≤ greatest = omega arith in
     record { shape = marked_shape 43 n; has = (inl refl, small); means = rw t refl; reads = marked_reads 43 n (λ r. refl) (readable_number greatest n room small) }
-label_told greatest room (tags k) (unmark n) r m i s =
+label_stated greatest room (tags k) (unmark n) r m i s =
     let few = r.1 in
     let t : nat_lt n k ≡ true = grind (arith, nat_tests) in
     let least = room.0 in
     let small : n ≤ greatest = omega arith in
     record { shape = marked_shape 45 n; has = (inr refl, small); means = rw t refl; reads = marked_reads 45 n (λ r. refl) (readable_number greatest n room small) }
-label_told greatest room (tags k) _ r m i s = absurd i
-label_told greatest room (guard k) (need n) r m i s =
+label_stated greatest room (tags k) _ r m i s = absurd i
+label_stated greatest room (guard k) (need n) r m i s =
     let few = r.1 in
     let t : nat_lt n k ≡ true = grind (arith, nat_tests) in
     let least = room.0 in
     let small : n ≤ greatest = omega arith in
     record { shape = marked_shape 63 n; has = (inl refl, small); means = rw t refl; reads = marked_reads 63 n (λ r. refl) (readable_number greatest n room small) }
-label_told greatest room (guard k) (bar n) r m i s =
+label_stated greatest room (guard k) (bar n) r m i s =
     let few = r.1 in
     let t : nat_lt n k ≡ true = grind (arith, nat_tests) in
     let least = room.0 in
     let small : n ≤ greatest = omega arith in
     record { shape = marked_shape 33 n; has = (inr refl, small); means = rw t refl; reads = marked_reads 33 n (λ r. refl) (readable_number greatest n room small) }
-label_told greatest room (guard k) _ r m i s = absurd i
-label_told greatest room gate allow r m i s = record { shape = word_label_shape (codes "allow"); has = inl refl; means = refl; reads = word_reads (codes "allow") refl }
-label_told greatest room gate deny r m i s = record { shape = word_label_shape (codes "deny"); has = inr refl; means = refl; reads = word_reads (codes "deny") refl }
-label_told greatest room gate _ r m i s = absurd i
-label_told greatest room (table t) (row_label k) r m i s = told_row greatest t k (both_true (are_named (λ name. name) t.names) (are_named row_name t.rows) m).1 i
-label_told greatest room (table t) _ r m i s = absurd i
-label_told greatest room (lex a b) (pair_label l n) r m i s =
-    let x = label_told greatest room a l r.0 m.0 i.0 s.0 in
-    let y = label_told greatest room b n r.1 m.1 i.1 s.1 in
+label_stated greatest room (guard k) _ r m i s = absurd i
+label_stated greatest room gate allow r m i s = record { shape = word_label_shape (codes "allow"); has = inl refl; means = refl; reads = word_reads (codes "allow") refl }
+label_stated greatest room gate deny r m i s = record { shape = word_label_shape (codes "deny"); has = inr refl; means = refl; reads = word_reads (codes "deny") refl }
+label_stated greatest room gate _ r m i s = absurd i
+label_stated greatest room (table t) (row_label k) r m i s = stated_row greatest t k (both_true (are_named (λ name. name) t.names) (are_named row_name t.rows) m).1 i
+label_stated greatest room (table t) _ r m i s = absurd i
+label_stated greatest room (lex a b) (pair_label l n) r m i s =
+    let x = label_stated greatest room a l r.0 m.0 i.0 s.0 in
+    let y = label_stated greatest room b n r.1 m.1 i.1 s.1 in
     record {
       shape = pair_label_shape x.shape y.shape;
       has = (x.has, y.has);
       means = ap (λ o. both_of pair_label o (label_of b y.shape)) x.means ∙ ap (λ o. both_of pair_label (Ok l) o) y.means;
       reads = pair_reads 44 (label_parts x.shape) (label_parts y.shape) (label_text a l) (label_text b n) refl (λ r. refl) x.reads y.reads;
     }
-label_told greatest room (lex a b) _ r m i s = absurd i
-label_told greatest room (scoped a b) (outer l v) r m i s =
-    let x = label_told greatest room a l r.0 m.0 i.0 s.0 in
-    let y = told greatest room (carrier_of b) v (readable b r.1 m.1) i.1 s.1 in
+label_stated greatest room (lex a b) _ r m i s = absurd i
+label_stated greatest room (scoped a b) (outer l v) r m i s =
+    let x = label_stated greatest room a l r.0 m.0 i.0 s.0 in
+    let y = reported greatest room (carrier_of b) v (readable b r.1 m.1) i.1 s.1 in
     let inside = pair_reads 44 (label_parts x.shape) (value_parts y.shape) (label_text a l) (value_text (carrier_of b) v) refl (λ r. refl) x.reads y.reads in
     record {
       shape = outer_shape x.shape y.shape;
@@ -147,8 +147,8 @@ label_told greatest room (scoped a b) (outer l v) r m i s =
       means = ap (λ o. both_of outer o (value_of (carrier_of b) y.shape)) x.means ∙ ap (λ o. both_of outer (Ok l) o) y.means;
       reads = λ rest h. (((40 ∷ []) ++ label_text a l ++ (44 ∷ []) ++ value_text (carrier_of b) v ++ (41 ∷ [])) ++ rest, refl, inside rest h);
     }
-label_told greatest room (scoped a b) (inner n) r m i s =
-    let y = label_told greatest room b n r.1 m.1 i s in
+label_stated greatest room (scoped a b) (inner n) r m i s =
+    let y = label_stated greatest room b n r.1 m.1 i s in
     let inside = parens_reads (label_parts y.shape) (label_text b n) y.reads in
     record {
       shape = inner_shape y.shape;
@@ -156,39 +156,39 @@ label_told greatest room (scoped a b) (inner n) r m i s =
       means = ap (one_of inner) y.means;
       reads = λ rest h. (((40 ∷ []) ++ label_text b n ++ (41 ∷ [])) ++ rest, refl, inside rest h);
     }
-label_told greatest room (scoped a b) _ r m i s = absurd i
-label_told greatest room (union a b) (first_label l) r m i s =
-    let x = label_told greatest room a l r.0 m.0 i s in
+label_stated greatest room (scoped a b) _ r m i s = absurd i
+label_stated greatest room (union a b) (first_label l) r m i s =
+    let x = label_stated greatest room a l r.0 m.0 i s in
     record { shape = first_label_shape x.shape; has = x.has; means = ap (one_of first_label) x.means; reads = λ rest h. (58 ∷ (label_text a l ++ rest), refl, (label_text a l ++ rest, refl, x.reads rest h)) }
-label_told greatest room (union a b) (second_label n) r m i s =
-    let y = label_told greatest room b n r.1 m.1 i s in
+label_stated greatest room (union a b) (second_label n) r m i s =
+    let y = label_stated greatest room b n r.1 m.1 i s in
     record { shape = second_label_shape y.shape; has = y.has; means = ap (one_of second_label) y.means; reads = λ rest h. (58 ∷ (label_text b n ++ rest), refl, (label_text b n ++ rest, refl, y.reads rest h)) }
-label_told greatest room (union a b) _ r m i s = absurd i
-label_told greatest room (sum a b) (both_label l n) r m i s =
-    let x = label_told greatest room a l r.0 m.0 i.0 s.0 in
-    let y = label_told greatest room b n r.1 m.1 i.1 s.1 in
+label_stated greatest room (union a b) _ r m i s = absurd i
+label_stated greatest room (sum a b) (both_label l n) r m i s =
+    let x = label_stated greatest room a l r.0 m.0 i.0 s.0 in
+    let y = label_stated greatest room b n r.1 m.1 i.1 s.1 in
     record {
       shape = both_shape x.shape y.shape;
       has = (x.has, y.has);
       means = ap (λ o. both_of both_label o (label_of b y.shape)) x.means ∙ ap (λ o. both_of both_label (Ok l) o) y.means;
       reads = pair_reads 124 (label_parts x.shape) (label_parts y.shape) (label_text a l) (label_text b n) refl (λ r. refl) x.reads y.reads;
     }
-label_told greatest room (sum a b) _ r m i s = absurd i
-label_told greatest room (plus a b) (first_label l) r m i s =
-    let x = label_told greatest room a l r.0 m.0 i s in
+label_stated greatest room (sum a b) _ r m i s = absurd i
+label_stated greatest room (plus a b) (first_label l) r m i s =
+    let x = label_stated greatest room a l r.0 m.0 i s in
     record { shape = first_label_shape x.shape; has = x.has; means = ap (one_of first_label) x.means; reads = λ rest h. (58 ∷ (label_text a l ++ rest), refl, (label_text a l ++ rest, refl, x.reads rest h)) }
-label_told greatest room (plus a b) (second_label n) r m i s =
-    let y = label_told greatest room b n r.1 m.1 i s in
+label_stated greatest room (plus a b) (second_label n) r m i s =
+    let y = label_stated greatest room b n r.1 m.1 i s in
     record { shape = second_label_shape y.shape; has = y.has; means = ap (one_of second_label) y.means; reads = λ rest h. (58 ∷ (label_text b n ++ rest), refl, (label_text b n ++ rest, refl, y.reads rest h)) }
-label_told greatest room (plus a b) _ r m i s = absurd i
-label_told greatest room (left a) (const_label v) r m i s =
-    let y = told greatest room (carrier_of a) v (readable a r m) i s in
+label_stated greatest room (plus a b) _ r m i s = absurd i
+label_stated greatest room (left a) (const_label v) r m i s =
+    let y = reported greatest room (carrier_of a) v (readable a r m) i s in
     record { shape = value_label_shape y.shape; has = y.has; means = ap (one_of const_label) y.means; reads = y.reads }
-label_told greatest room (left a) _ r m i s = absurd i
-label_told greatest room (right a) keep r m i s = record { shape = word_label_shape (codes "keep"); has = refl; means = refl; reads = word_reads (codes "keep") refl }
-label_told greatest room (right a) _ r m i s = absurd i
+label_stated greatest room (left a) _ r m i s = absurd i
+label_stated greatest room (right a) keep r m i s = record { shape = word_label_shape (codes "keep"); has = refl; means = refl; reads = word_reads (codes "keep") refl }
+label_stated greatest room (right a) _ r m i s = absurd i
 
 pub label_round : (greatest : ℕ) → HasRoom greatest → (a : Expression) (l : PureLabel) → IsFormed a → IsLabel a l → LabelAtMost greatest l → LabelTextTo greatest a (label_text a l) l
 label_round greatest room a l f i s =
-    let t = label_told greatest room a l f.ranges f.names i s in
+    let t = label_stated greatest room a l f.ranges f.names i s in
     record { shape = t.shape; has = t.has; splits = reads_whole (label_parts t.shape) (label_text a l) t.reads; means = t.means }

@@ -209,9 +209,9 @@ scope_is ps z scope e =
 
 record ParensFront {A B : Type 0} (f : A → B) (x : List Part → Option (A × List Part)) (ps : List Part) (b : B) (z : List Part) : Type 0 where
   a : A
-  behind : List Part
-  opens : ps ≡ mark 40 ∷ behind
-  inside : x behind ≡ Some (a, mark 41 ∷ z)
+  after : List Part
+  opens : ps ≡ mark 40 ∷ after
+  inside : x after ≡ Some (a, mark 41 ∷ z)
   makes : f a ≡ b
 
 parens_is : {A B : Type 0} (f : A → B) (x : List Part → Option (A × List Part)) (ps : List Part) (b : B) (z : List Part) → take_parens f x ps ≡ Some (b, z) → ParensFront f x ps b z
@@ -222,7 +222,7 @@ parens_is f x ps b z e =
     let p : j.0 ≡ z = ap (λ r. r.1) j.2 in
     record {
       a = i.0.0;
-      behind = h.0;
+      after = h.0;
       opens = take_mark_is 40 ps h.0 h.1;
       inside = i.1 ∙ ap (λ us. Some (i.0.0, us)) (take_mark_is 41 i.0.1 j.0 j.1 ∙ ap (λ us. mark 41 ∷ us) p);
       makes = ap (λ r. r.0) j.2;
@@ -271,7 +271,7 @@ scope_sound : (greatest : ℕ) (a b : Expression) (ps : List Part) (o : Result P
     → on_scope scope (take_pair 44 (both_of outer) (label_at greatest a) (value_at greatest (carrier_of b)) qs) (take_parens (one_of inner) (label_at greatest b) qs) ≡ Some (o, z) → Sound greatest a → Sound greatest b → LabelFront greatest (scoped a b) ps o z
 scope_sound greatest a b ps o z Outer qs sign p q e f g =
     let h = pair_is 44 (both_of outer) (label_at greatest a) (value_at greatest (carrier_of b)) qs o z e in
-    let x = f h.behind h.a (mark 44 ∷ h.further) h.first in
+    let x = f h.after h.a (mark 44 ∷ h.further) h.first in
     let v = value_sound greatest (carrier_of b) h.further h.b (mark 41 ∷ z) h.second in
     record {
       shape = outer_shape x.shape v.shape;
@@ -282,7 +282,7 @@ scope_sound greatest a b ps o z Outer qs sign p q e f g =
     }
 scope_sound greatest a b ps o z Inner qs sign p q e f g =
     let h = parens_is (one_of inner) (label_at greatest b) qs o z e in
-    let y = g h.behind h.a (mark 41 ∷ z) h.inside in
+    let y = g h.after h.a (mark 41 ∷ z) h.inside in
     record {
       shape = inner_shape y.shape;
       has = y.has;
@@ -293,7 +293,7 @@ scope_sound greatest a b ps o z Inner qs sign p q e f g =
 lex_sound : (greatest : ℕ) (a b : Expression) → Sound greatest a → Sound greatest b → Sound greatest (lex a b)
 lex_sound greatest a b f g ps o z e =
     let h = pair_is 44 (both_of pair_label) (label_at greatest a) (label_at greatest b) ps o z e in
-    let x = f h.behind h.a (mark 44 ∷ h.further) h.first in
+    let x = f h.after h.a (mark 44 ∷ h.further) h.first in
     let y = g h.further h.b (mark 41 ∷ z) h.second in
     record {
       shape = pair_label_shape x.shape y.shape;
@@ -305,7 +305,7 @@ lex_sound greatest a b f g ps o z e =
 sum_sound : (greatest : ℕ) (a b : Expression) → Sound greatest a → Sound greatest b → Sound greatest (sum a b)
 sum_sound greatest a b f g ps o z e =
     let h = pair_is 124 (both_of both_label) (label_at greatest a) (label_at greatest b) ps o z e in
-    let x = f h.behind h.a (mark 124 ∷ h.further) h.first in
+    let x = f h.after h.a (mark 124 ∷ h.further) h.first in
     let y = g h.further h.b (mark 41 ∷ z) h.second in
     record {
       shape = both_shape x.shape y.shape;

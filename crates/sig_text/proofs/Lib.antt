@@ -6,9 +6,11 @@ pub mod Values
 pub mod Meant
 pub mod Labels
 pub mod MeantLabels
+pub mod Spellings
 pub mod Printed
 pub mod Digits
 pub mod Sets
 pub mod RoundTrips
 pub mod LabelRoundTrips
 pub mod Distinct
+pub mod LabelForms

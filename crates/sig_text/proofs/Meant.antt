@@ -18,7 +18,7 @@ use Rattle.sig_text.specs.Parts.{Part, Splits}
 use Rattle.sig_text.specs.Sequences.{parts_of}
 use Rattle.sig_text.specs.Shapes.{ValueShape, number_shape, list_shape, set_shape, word_shape, pair_shape, first_shape, second_shape, value_parts, HasValueShape}
 use Rattle.sig_text.specs.Literals.{where_true, both_of, one_of, set_of, placed, value_of, ValueTextTo, HasValueFault, IsValueFaultTo}
-use Rattle.sig_text.specs.Spelled.{Tells, where_whole, whole_of, spelled_value_to}
+use Rattle.sig_text.specs.Spelled.{Reports, where_whole, whole_of, spelled_value_to}
 use Rattle.sig_text.specs.Reading.{NotWhole, value_at}
 use Rattle.sig_text.proofs.Fronts.{splits_parts, parts_splits, append_none}
 use Rattle.sig_text.proofs.Values.{value_complete, ValueFront, value_sound}
@@ -246,24 +246,24 @@ value_fault_says greatest a text BadText e = value_refused greatest a text (bad_
 value_fault_says greatest a text NotInCarrier e = value_fault greatest a text NotInCarrier (taken_whole (value_at greatest (carrier_of a) (parts_of text)) (Err NotInCarrier) (λ h. cc) e)
 value_fault_says greatest a text NotALabel e = value_fault greatest a text NotALabel (taken_whole (value_at greatest (carrier_of a) (parts_of text)) (Err NotALabel) (λ h. cc) e)
 
-pub value_tells : (greatest : ℕ) (a : Expression) (text : List ℕ) → Tells (spelled_value_to greatest a text) (ValueTextTo greatest a text) (IsValueFaultTo greatest a text)
-value_tells greatest a text = record {
+pub value_states : (greatest : ℕ) (a : Expression) (text : List ℕ) → Reports (spelled_value_to greatest a text) (ValueTextTo greatest a text) (IsValueFaultTo greatest a text)
+value_states greatest a text = record {
   spells = λ v t. value_said greatest a text v t;
   is_spelled = λ v e. value_says greatest a text v e;
   refuses = λ f t. value_fault_said greatest a text f t;
   is_refused = λ f e. value_fault_says greatest a text f e;
 }
 
--- what holds of all that one function tells
-pub told_once : {A : Type 0} (r : Result A LitFault) (Spells : A → Type 0) (Refuses : LitFault → Type 0) → Tells r Spells Refuses → (u v : A) → Spells u → Spells v → u ≡ v
-told_once r Spells Refuses t u v s w = let e : Ok u ≡ Ok v = sym (t.spells u s) ∙ t.spells v w in cc
+-- what holds of all that one function reports
+pub reported_once : {A : Type 0} (r : Result A LitFault) (Spells : A → Type 0) (Refuses : LitFault → Type 0) → Reports r Spells Refuses → (u v : A) → Spells u → Spells v → u ≡ v
+reported_once r Spells Refuses t u v s w = let e : Ok u ≡ Ok v = sym (t.spells u s) ∙ t.spells v w in cc
 
-pub told_apart : {A : Type 0} (r : Result A LitFault) (Spells : A → Type 0) (Refuses : LitFault → Type 0) → Tells r Spells Refuses → (v : A) (f : LitFault) → Spells v → Refuses f → ⊥
-told_apart r Spells Refuses t v f s w = let e : Ok v ≡ Err f = sym (t.spells v s) ∙ t.refuses f w in cc
+pub stated_apart : {A : Type 0} (r : Result A LitFault) (Spells : A → Type 0) (Refuses : LitFault → Type 0) → Reports r Spells Refuses → (v : A) (f : LitFault) → Spells v → Refuses f → ⊥
+stated_apart r Spells Refuses t v f s w = let e : Ok v ≡ Err f = sym (t.spells v s) ∙ t.refuses f w in cc
 
-pub told_one_fault : {A : Type 0} (r : Result A LitFault) (Spells : A → Type 0) (Refuses : LitFault → Type 0) → Tells r Spells Refuses → (f g : LitFault) → Refuses f → Refuses g → f ≡ g
-told_one_fault {A = A} r Spells Refuses t f g s w = let e : ◌≡◌ {A = Result A LitFault} (Err f) (Err g) = sym (t.refuses f s) ∙ t.refuses g w in cc
+pub stated_one_fault : {A : Type 0} (r : Result A LitFault) (Spells : A → Type 0) (Refuses : LitFault → Type 0) → Reports r Spells Refuses → (f g : LitFault) → Refuses f → Refuses g → f ≡ g
+stated_one_fault {A = A} r Spells Refuses t f g s w = let e : ◌≡◌ {A = Result A LitFault} (Err f) (Err g) = sym (t.refuses f s) ∙ t.refuses g w in cc
 
-pub told_always : {A : Type 0} (r : Result A LitFault) (Spells : A → Type 0) (Refuses : LitFault → Type 0) → Tells r Spells Refuses → ((v : A) × Spells v) ⊎ ((f : LitFault) × Refuses f)
-told_always (Ok v) Spells Refuses t = inl (v, t.is_spelled v refl)
-told_always (Err f) Spells Refuses t = inr (f, t.is_refused f refl)
+pub stated_always : {A : Type 0} (r : Result A LitFault) (Spells : A → Type 0) (Refuses : LitFault → Type 0) → Reports r Spells Refuses → ((v : A) × Spells v) ⊎ ((f : LitFault) × Refuses f)
+stated_always (Ok v) Spells Refuses t = inl (v, t.is_spelled v refl)
+stated_always (Err f) Spells Refuses t = inr (f, t.is_refused f refl)

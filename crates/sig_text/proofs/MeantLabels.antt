@@ -17,7 +17,7 @@ use Rattle.sig_text.specs.Parts.{Splits}
 use Rattle.sig_text.specs.Sequences.{parts_of}
 use Rattle.sig_text.specs.Shapes.{LabelShape, number_label_shape, word_label_shape, marked_shape, pair_label_shape, both_shape, first_label_shape, second_label_shape, value_label_shape, outer_shape, inner_shape, label_parts, HasLabelShape}
 use Rattle.sig_text.specs.Literals.{where_true, tag_label, guard_label, value_of, label_of, LabelTextTo, HasLabelFault, IsLabelFaultTo}
-use Rattle.sig_text.specs.Spelled.{Tells, spelled_label_to}
+use Rattle.sig_text.specs.Spelled.{Reports, spelled_label_to}
 use Rattle.sig_text.specs.Reading.{NotWhole, label_at}
 use Rattle.sig_text.proofs.Fronts.{splits_parts, parts_splits, append_none}
 use Rattle.sig_text.proofs.Meant.{true_is, placed_is, both_made, one_made, both_true, meant, not_bad, not_where, not_placed, not_both, not_one, whole_is, not_whole, taken_whole}
@@ -251,8 +251,8 @@ label_fault_says greatest a text BadText e = label_refused greatest a text (labe
 label_fault_says greatest a text NotInCarrier e = label_fault greatest a text NotInCarrier (taken_whole (label_at greatest a (parts_of text)) (Err NotInCarrier) (λ h. cc) e)
 label_fault_says greatest a text NotALabel e = label_fault greatest a text NotALabel (taken_whole (label_at greatest a (parts_of text)) (Err NotALabel) (λ h. cc) e)
 
-pub label_tells : (greatest : ℕ) (a : Expression) (text : List ℕ) → Tells (spelled_label_to greatest a text) (LabelTextTo greatest a text) (IsLabelFaultTo greatest a text)
-label_tells greatest a text = record {
+pub label_states : (greatest : ℕ) (a : Expression) (text : List ℕ) → Reports (spelled_label_to greatest a text) (LabelTextTo greatest a text) (IsLabelFaultTo greatest a text)
+label_states greatest a text = record {
   spells = λ l t. label_said greatest a text l t;
   is_spelled = λ l e. label_says greatest a text l e;
   refuses = λ f t. label_fault_said greatest a text f t;

@@ -14,12 +14,12 @@ listed_more : (ns : List ℕ) → listed (codes ",") ns ≡ more_numbers ns
 listed_more [] = refl
 listed_more (n ∷ ns) = sym (append_assoc (codes ",") (decimal n) (more_numbers ns))
 
-listed_behind : (separator : List ℕ) (n : ℕ) (ns : List ℕ) → listed separator (n ∷ ns) ≡ separator ++ (decimal n ++ listed (codes ",") ns)
-listed_behind separator n ns = ap (λ more. separator ++ (decimal n ++ more)) (sym (listed_more ns))
+listed_after : (separator : List ℕ) (n : ℕ) (ns : List ℕ) → listed separator (n ∷ ns) ≡ separator ++ (decimal n ++ listed (codes ",") ns)
+listed_after separator n ns = ap (λ more. separator ++ (decimal n ++ more)) (sym (listed_more ns))
 
 -- one number more is printed
 pub listed_step : (separator : List ℕ) (n : ℕ) (ns out : List ℕ) → out ++ listed separator (n ∷ ns) ≡ ((out ++ separator) ++ decimal n) ++ listed (codes ",") ns
-listed_step separator n ns out = ap (λ more. out ++ more) (listed_behind separator n ns) ∙ regroup out separator (decimal n) (listed (codes ",") ns)
+listed_step separator n ns out = ap (λ more. out ++ more) (listed_after separator n ns) ∙ regroup out separator (decimal n) (listed (codes ",") ns)
   where
     regroup : (a b c d : List ℕ) → a ++ (b ++ (c ++ d)) ≡ ((a ++ b) ++ c) ++ d
     regroup a b c d = sym (append_assoc (a ++ b) c d ∙ append_assoc a b (c ++ d))

@@ -82,22 +82,22 @@ not_stop m cs h = rw h refl
 pub pair_reads : (m : ℕ) (ps qs : List Part) (t u : List ℕ) → is_word_byte m ≡ false → ((r : List ℕ) → step_of (m ∷ r) ≡ part (mark m) r) → Reads ps t → Reads qs u
     → Reads (mark 40 ∷ (ps ++ mark m ∷ (qs ++ mark 41 ∷ []))) ((40 ∷ []) ++ t ++ (m ∷ []) ++ u ++ (41 ∷ []))
 pair_reads m ps qs t u h e f g = λ rest s.
-    let behind = u ++ 41 ∷ rest in
+    let after = u ++ 41 ∷ rest in
     let last : Begins (mark 41 ∷ []) (41 ∷ rest) rest = (rest, refl, refl) in
-    let second = begins_append qs (mark 41 ∷ []) behind (41 ∷ rest) rest (g (41 ∷ rest) refl) last in
-    let between : Begins (mark m ∷ (qs ++ mark 41 ∷ [])) (m ∷ behind) rest = (behind, e behind, second) in
-    let first = begins_append ps (mark m ∷ (qs ++ mark 41 ∷ [])) (t ++ m ∷ behind) (m ∷ behind) rest (f (m ∷ behind) (not_stop m behind h)) between in
-    subst (λ x. Begins (mark 40 ∷ (ps ++ mark m ∷ (qs ++ mark 41 ∷ []))) x rest) (sym (regroup m t u rest)) (t ++ m ∷ behind, refl, first)
+    let second = begins_append qs (mark 41 ∷ []) after (41 ∷ rest) rest (g (41 ∷ rest) refl) last in
+    let between : Begins (mark m ∷ (qs ++ mark 41 ∷ [])) (m ∷ after) rest = (after, e after, second) in
+    let first = begins_append ps (mark m ∷ (qs ++ mark 41 ∷ [])) (t ++ m ∷ after) (m ∷ after) rest (f (m ∷ after) (not_stop m after h)) between in
+    subst (λ x. Begins (mark 40 ∷ (ps ++ mark m ∷ (qs ++ mark 41 ∷ []))) x rest) (sym (regroup m t u rest)) (t ++ m ∷ after, refl, first)
 
 -- a shape that spells the value, whose parts are those of the printed text
-pub record Told (greatest : ℕ) (c : PureCarrier) (v : PureValue) : Type 0 where
+pub record Reported (greatest : ℕ) (c : PureCarrier) (v : PureValue) : Type 0 where
   pub shape : ValueShape
   pub has : HasValueShape greatest c shape
   pub means : value_of c shape ≡ Ok v
   pub reads : Reads (value_parts shape) (value_text c v)
 
-told_name : (greatest : ℕ) (names : List (List ℕ)) (ranks : List ℕ) (k : ℕ) → are_named (λ name. name) names ≡ true → k < length names → Told greatest (named names ranks) (name k)
-told_name greatest names ranks k r i =
+stated_name : (greatest : ℕ) (names : List (List ℕ)) (ranks : List ℕ) (k : ℕ) → are_named (λ name. name) names ≡ true → k < length names → Reported greatest (named names ranks) (name k)
+stated_name greatest names ranks k r i =
     let both = both_true (list_all (λ (w : List ℕ). is_table_name w) names) (are_distinct (λ (w : List ℕ). w) names) r in
     let named = all_at (λ (w : List ℕ). is_table_name w) names k [] i both.0 in
     let is = (both_true (is_word (get_or names k [])) (not (bytes_eq (get_or names k []) (codes "none"))) named).0 in
@@ -108,25 +108,25 @@ told_name greatest names ranks k r i =
       reads = λ rest h. begins_one (word (get_or names k [])) (get_or names k [] ++ rest) rest (step_word (get_or names k []) rest is h);
     }
 
-pub told : (greatest : ℕ) → HasRoom greatest → (c : PureCarrier) (v : PureValue) → Readable c → In c v → AtMost greatest v → Told greatest c v
-told greatest room whole (number n) r i s =
+pub reported : (greatest : ℕ) → HasRoom greatest → (c : PureCarrier) (v : PureValue) → Readable c → In c v → AtMost greatest v → Reported greatest c v
+reported greatest room whole (number n) r i s =
     record { shape = number_shape n; has = s; means = refl; reads = λ rest h. begins_one (digits n) (decimal n ++ rest) rest (step_digits n rest (readable_number greatest n room s) h) }
-told greatest room whole _ r i s = absurd i
-told greatest room (up_to top) (number n) r i s =
+reported greatest room whole _ r i s = absurd i
+reported greatest room (up_to top) (number n) r i s =
     let t : nat_le n top ≡ true = grind (arith, nat_tests) in
     record { shape = number_shape n; has = s; means = rw t refl; reads = λ rest h. begins_one (digits n) (decimal n ++ rest) rest (step_digits n rest (readable_number greatest n room s) h) }
-told greatest room (up_to top) _ r i s = absurd i
-told greatest room (down_from top) (number n) r i s =
+reported greatest room (up_to top) _ r i s = absurd i
+reported greatest room (down_from top) (number n) r i s =
     let t : nat_le n top ≡ true = grind (arith, nat_tests) in
     record { shape = number_shape n; has = s; means = rw t refl; reads = λ rest h. begins_one (digits n) (decimal n ++ rest) rest (step_digits n rest (readable_number greatest n room s) h) }
-told greatest room (down_from top) _ r i s = absurd i
-told greatest room (seqs k) (symbols ns) r i s =
+reported greatest room (down_from top) _ r i s = absurd i
+reported greatest room (seqs k) (symbols ns) r i s =
     record { shape = list_shape ns; has = s; means = rw (below_tested k ns i) refl; reads = λ rest h. list_begins 91 93 ns rest (readable_numbers greatest ns room s) refl refl refl }
-told greatest room (seqs k) _ r i s = absurd i
-told greatest room (simseqs k) (symbols ns) r i s =
+reported greatest room (seqs k) _ r i s = absurd i
+reported greatest room (simseqs k) (symbols ns) r i s =
     record { shape = list_shape ns; has = s; means = rw (below_tested k ns i.0, i.1) refl; reads = λ rest h. list_begins 91 93 ns rest (readable_numbers greatest ns room s) refl refl refl }
-told greatest room (simseqs k) _ r i s = absurd i
-told greatest room (sets k) (marks m) r i s =
+reported greatest room (simseqs k) _ r i s = absurd i
+reported greatest room (sets k) (marks m) r i s =
     let below = members_below k m in
     let least = room.0 in
     let small = below_small greatest k (members k m) (omega arith) below in
@@ -136,29 +136,29 @@ told greatest room (sets k) (marks m) r i s =
       means = rw (below_tested k (members k m) below) (ap (λ x. Ok (marks x)) (set_members k m i));
       reads = λ rest h. list_begins 123 125 (members k m) rest (readable_numbers greatest (members k m) room small) refl refl refl;
     }
-told greatest room (sets k) _ r i s = absurd i
-told greatest room one unit r i s =
+reported greatest room (sets k) _ r i s = absurd i
+reported greatest room one unit r i s =
     record { shape = word_shape (codes "unit"); has = refl; means = refl; reads = λ rest h. begins_one (word (codes "unit")) (codes "unit" ++ rest) rest (step_word (codes "unit") rest refl h) }
-told greatest room one _ r i s = absurd i
-told greatest room (named names ranks) (name k) r i s = told_name greatest names ranks k r i
-told greatest room (named names ranks) _ r i s = absurd i
-told greatest room (pairs c d) (pair u v) r i s =
-    let x = told greatest room c u r.0 i.0 s.0 in
-    let y = told greatest room d v r.1 i.1 s.1 in
+reported greatest room one _ r i s = absurd i
+reported greatest room (named names ranks) (name k) r i s = stated_name greatest names ranks k r i
+reported greatest room (named names ranks) _ r i s = absurd i
+reported greatest room (pairs c d) (pair u v) r i s =
+    let x = reported greatest room c u r.0 i.0 s.0 in
+    let y = reported greatest room d v r.1 i.1 s.1 in
     record {
       shape = pair_shape x.shape y.shape;
       has = (x.has, y.has);
       means = ap (λ o. both_of pair o (value_of d y.shape)) x.means ∙ ap (λ o. both_of pair (Ok u) o) y.means;
       reads = pair_reads 44 (value_parts x.shape) (value_parts y.shape) (value_text c u) (value_text d v) refl (λ r. refl) x.reads y.reads;
     }
-told greatest room (pairs c d) _ r i s = absurd i
-told greatest room (sides c d) (first u) r i s =
-    let x = told greatest room c u r.0 i s in
+reported greatest room (pairs c d) _ r i s = absurd i
+reported greatest room (sides c d) (first u) r i s =
+    let x = reported greatest room c u r.0 i s in
     record { shape = first_shape x.shape; has = x.has; means = ap (one_of first) x.means; reads = λ rest h. (58 ∷ (value_text c u ++ rest), refl, (value_text c u ++ rest, refl, x.reads rest h)) }
-told greatest room (sides c d) (second v) r i s =
-    let y = told greatest room d v r.1 i s in
+reported greatest room (sides c d) (second v) r i s =
+    let y = reported greatest room d v r.1 i s in
     record { shape = second_shape y.shape; has = y.has; means = ap (one_of second) y.means; reads = λ rest h. (58 ∷ (value_text d v ++ rest), refl, (value_text d v ++ rest, refl, y.reads rest h)) }
-told greatest room (sides c d) _ r i s = absurd i
+reported greatest room (sides c d) _ r i s = absurd i
 
 append_end : (t : List ℕ) → t ++ [] ≡ t
 append_end [] = refl
@@ -169,5 +169,5 @@ reads_whole ps text f = record { rest = []; begins = subst (λ x. Begins ps x []
 
 pub value_round : (greatest : ℕ) → HasRoom greatest → (a : Expression) (v : PureValue) → IsFormed a → In (carrier_of a) v → AtMost greatest v → ValueTextTo greatest a (value_text (carrier_of a) v) v
 value_round greatest room a v f i s =
-    let t = told greatest room (carrier_of a) v (readable a f.ranges f.names) i s in
+    let t = reported greatest room (carrier_of a) v (readable a f.ranges f.names) i s in
     record { shape = t.shape; has = t.has; splits = reads_whole (value_parts t.shape) (value_text (carrier_of a) v) t.reads; means = t.means }

@@ -1,6 +1,6 @@
 -- The list of the parts of a text goes on after its first part.
 use Rattle.std.proofs.Common.{◌≡◌, ℕ, ◌≤◌, ◌<◌, zero, suc, Bool, true, false, List, [], ◌∷◌, length, refl, sym, ap, ◌∙◌, arith}
-use Rattle.meta_base.specs.Bytes.{is_digit, is_letter, is_word_byte, front, behind, number_from}
+use Rattle.meta_base.specs.Bytes.{is_digit, is_letter, is_word_byte, front, after_front, number_from}
 use Rattle.sig_text.specs.declared.parts.Next.{Next}
 use Rattle.sig_text.specs.declared.parts.Next.TheVariants.{End, Word, Number, TooLarge, Mark}
 use Rattle.meta_base.specs.Bytes.{is_blank}
@@ -8,19 +8,19 @@ use Rattle.sig_text.specs.Parts.{Part, word, digits, mark, Step, end, part, part
 use Rattle.sig_text.specs.Sequences.{parts_then, parts_within, parts_of}
 use Rattle.sig_text.specs.Views.{IsStep, IsFront}
 
-shorter_by : (p : ℕ → Bool) (c : ℕ) (cs : List ℕ) (b : Bool) → p c ≡ b → length (behind p cs) ≤ length cs → length (behind p (c ∷ cs)) ≤ length (c ∷ cs)
+shorter_by : (p : ℕ → Bool) (c : ℕ) (cs : List ℕ) (b : Bool) → p c ≡ b → length (after_front p cs) ≤ length cs → length (after_front p (c ∷ cs)) ≤ length (c ∷ cs)
 shorter_by p c cs true h e = rw h (omega arith)
 shorter_by p c cs false h e = rw h (omega arith)
 
-behind_length : (p : ℕ → Bool) (text : List ℕ) → length (behind p text) ≤ length text
-behind_length p [] = omega arith
-behind_length p (c ∷ cs) = shorter_by p c cs (p c) refl (behind_length p cs)
+after_length : (p : ℕ → Bool) (text : List ℕ) → length (after_front p text) ≤ length text
+after_length p [] = omega arith
+after_length p (c ∷ cs) = shorter_by p c cs (p c) refl (after_length p cs)
 
 -- the part that each kind of byte begins
-pub at_word : (c : ℕ) (cs : List ℕ) → is_letter c ≡ true → part_at (c ∷ cs) ≡ part (word (c ∷ front is_word_byte cs)) (behind is_word_byte cs)
+pub at_word : (c : ℕ) (cs : List ℕ) → is_letter c ≡ true → part_at (c ∷ cs) ≡ part (word (c ∷ front is_word_byte cs)) (after_front is_word_byte cs)
 at_word c cs h = rw h refl
 
-pub at_digits : (c : ℕ) (cs : List ℕ) → is_letter c ≡ false → is_digit c ≡ true → part_at (c ∷ cs) ≡ part (digits (number_from 0 (c ∷ front is_digit cs))) (behind is_digit cs)
+pub at_digits : (c : ℕ) (cs : List ℕ) → is_letter c ≡ false → is_digit c ≡ true → part_at (c ∷ cs) ≡ part (digits (number_from 0 (c ∷ front is_digit cs))) (after_front is_digit cs)
 at_digits c cs h k = rw (h, k) refl
 
 pub at_mark : (c : ℕ) (cs : List ℕ) → is_letter c ≡ false → is_digit c ≡ false → part_at (c ∷ cs) ≡ part (mark c) cs
@@ -30,12 +30,12 @@ at_mark c cs h k = rw (h, k) refl
 part_shorter_by : (c : ℕ) (cs rest : List ℕ) (p : Part) (l d : Bool) → is_letter c ≡ l → is_digit c ≡ d → part_at (c ∷ cs) ≡ part p rest → length rest < length (c ∷ cs)
 part_shorter_by c cs rest p true d h k e =
     let q = at_word c cs h in
-    let r : rest ≡ behind is_word_byte cs = cc in
-    rw r (let n = behind_length is_word_byte cs in omega arith)
+    let r : rest ≡ after_front is_word_byte cs = cc in
+    rw r (let n = after_length is_word_byte cs in omega arith)
 part_shorter_by c cs rest p false true h k e =
     let q = at_digits c cs h k in
-    let r : rest ≡ behind is_digit cs = cc in
-    rw r (let n = behind_length is_digit cs in omega arith)
+    let r : rest ≡ after_front is_digit cs = cc in
+    rw r (let n = after_length is_digit cs in omega arith)
 part_shorter_by c cs rest p false false h k e =
     let q = at_mark c cs h k in
     let r : rest ≡ cs = cc in
@@ -47,8 +47,8 @@ part_shorter (c ∷ cs) rest p e = part_shorter_by c cs rest p (is_letter c) (is
 
 step_shorter : (text rest : List ℕ) (p : Part) → step_of text ≡ part p rest → length rest < length text
 step_shorter text rest p e =
-    let h = part_shorter (behind is_blank text) rest p e in
-    let k = behind_length is_blank text in
+    let h = part_shorter (after_front is_blank text) rest p e in
+    let k = after_length is_blank text in
     omega arith
 
 -- more room finds no more parts

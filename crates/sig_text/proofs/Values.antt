@@ -125,7 +125,7 @@ value_sound greatest (named names ranks) ps o z e =
     record { shape = word_shape h.0; has = tt; parts = take_word_is ps z h.0 h.1; means = h.2 }
 value_sound greatest (pairs c d) ps o z e =
     let h = pair_is 44 (both_of pair) (value_at greatest c) (value_at greatest d) ps o z e in
-    let u = value_sound greatest c h.behind h.a (mark 44 ∷ h.further) h.first in
+    let u = value_sound greatest c h.after h.a (mark 44 ∷ h.further) h.first in
     let v = value_sound greatest d h.further h.b (mark 41 ∷ z) h.second in
     record {
       shape = pair_shape u.shape v.shape;

@@ -152,3 +152,24 @@ IsValueFault a text fault = IsValueFaultTo (greatest_number a.edition) a.express
 
 abbrev pub IsLabelFault : PureAlg → List ℕ → LitFault → Type 0
 IsLabelFault a text fault = IsLabelFaultTo (greatest_number a.edition) a.expression text fault
+
+-- What all texts spell, over all algebras. Laws say that there is one such pair of functions, and one only.
+
+-- of each text over each algebra the label and the value, or the fault
+pub record Spelling : Type 0 where
+  pub label : PureAlg → List ℕ → Result PureLabel LitFault
+  pub value : PureAlg → List ℕ → Result PureValue LitFault
+
+-- the text spells the label, or the fault refuses it
+abbrev pub SpellsLabel : PureAlg → List ℕ → Result PureLabel LitFault → Type 0
+SpellsLabel a text (Ok l) = LabelText a text l
+SpellsLabel a text (Err fault) = IsLabelFault a text fault
+
+-- the same of a value
+abbrev pub SpellsValue : PureAlg → List ℕ → Result PureValue LitFault → Type 0
+SpellsValue a text (Ok v) = ValueText a text v
+SpellsValue a text (Err fault) = IsValueFault a text fault
+
+pub record IsSpelling (s : Spelling) : Type 0 where
+  pub labels : (a : PureAlg) (text : List ℕ) → SpellsLabel a text (s.label a text)
+  pub values : (a : PureAlg) (text : List ℕ) → SpellsValue a text (s.value a text)

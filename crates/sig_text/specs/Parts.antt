@@ -1,7 +1,7 @@
 -- The parts of a literal: its words, its runs of digits and its single marks. Spaces and tabs may stand
 -- round each part.
 use Rattle.std.specs.Prelude.{◌≡◌, ℕ, List, [], ◌∷◌, if◌then◌else◌}
-use Rattle.meta_base.specs.Bytes.{is_blank, is_digit, is_letter, is_word_byte, front, behind, number_from}
+use Rattle.meta_base.specs.Bytes.{is_blank, is_digit, is_letter, is_word_byte, front, after_front, number_from}
 
 pub data Part : Type 0 where
   word : List ℕ → Part
@@ -19,13 +19,13 @@ pub data Step : Type 0 where
 abbrev pub part_at : List ℕ → Step
 part_at [] = end
 part_at (c ∷ cs) =
-    if is_letter c then part (word (front is_word_byte (c ∷ cs))) (behind is_word_byte (c ∷ cs)) else
-    (if is_digit c then part (digits (number_from 0 (front is_digit (c ∷ cs)))) (behind is_digit (c ∷ cs)) else
+    if is_letter c then part (word (front is_word_byte (c ∷ cs))) (after_front is_word_byte (c ∷ cs)) else
+    (if is_digit c then part (digits (number_from 0 (front is_digit (c ∷ cs)))) (after_front is_digit (c ∷ cs)) else
     part (mark c) cs)
 
 -- blanks are skipped, and the longest part is taken
 abbrev pub step_of : List ℕ → Step
-step_of text = part_at (behind is_blank text)
+step_of text = part_at (after_front is_blank text)
 
 -- these parts stand at the front of the text, and this comes after them
 abbrev pub Begins : List Part → List ℕ → List ℕ → Type 0

@@ -1,6 +1,6 @@
 -- The parts of a text as one list.
 use Rattle.std.specs.Prelude.{◌≡◌, ℕ, ◌<◌, zero, suc, List, [], ◌∷◌, length, Option, Some, None, if◌then◌else◌, nat_le}
-use Rattle.sig_text.specs.declared.bytes.TheConstants.{MAX_LITERAL_NUMBER}
+use Rattle.sig_text.specs.Numbers.{max_literal_number}
 use Rattle.sig_text.specs.Parts.{Part, digits, Step, end, part, step_of}
 
 -- the part that a step found, and those after it
@@ -26,11 +26,11 @@ pub record LargeStep (step : Step) : Type 0 where
   pub number : ℕ
   pub rest : List ℕ
   pub is : step ≡ part (digits number) rest
-  pub large : MAX_LITERAL_NUMBER < number
+  pub large : max_literal_number < number
 
 -- the same of the parts of a text
 pub record LargeFront (ps : List Part) : Type 0 where
   pub number : ℕ
   pub rest : List Part
   pub is : ps ≡ digits number ∷ rest
-  pub large : MAX_LITERAL_NUMBER < number
+  pub large : max_literal_number < number

@@ -8,6 +8,7 @@ use Rattle.sig_text.specs.declared.faults.LitFault.TheVariants.{BadText}
 use Rattle.sig_text.specs.Parts.{Part}
 use Rattle.sig_text.specs.Sequences.{parts_of}
 use Rattle.sig_text.specs.Reading.{value_at, label_at}
+use Rattle.sig_text.specs.Literals.{Spelling}
 
 -- what was taken, if no part is left
 abbrev pub where_whole : {A : Type 0} → Result A LitFault → List Part → Result A LitFault
@@ -34,8 +35,12 @@ spelled_label_to greatest a text = whole_of (label_at greatest a (parts_of text)
 abbrev pub spelled_label : PureAlg → List ℕ → Result PureLabel LitFault
 spelled_label a text = spelled_label_to (greatest_number a.edition) a.expression text
 
+-- what these functions say of all texts
+abbrev pub spelled : Spelling
+spelled = record { label = spelled_label; value = spelled_value }
+
 -- the outcome is what is spelled, or the fault that refuses it
-pub record Tells {A : Type 0} (outcome : Result A LitFault) (Spells : A → Type 0)
+pub record Reports {A : Type 0} (outcome : Result A LitFault) (Spells : A → Type 0)
     (Refuses : LitFault → Type 0) : Type 0 where
   pub spells : (a : A) → Spells a → outcome ≡ Ok a
   pub is_spelled : (a : A) → outcome ≡ Ok a → Spells a

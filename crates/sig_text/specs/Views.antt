@@ -1,7 +1,7 @@
 -- What the readers of the program answer.
 use Rattle.std.specs.Prelude.{◌≡◌, ℕ, ◌≤◌, List, [], ◌∷◌, Option, Some, None, Result, Ok, Err, IfOk}
 use Rattle.std.specs.Borrow.{Bor}
-use Rattle.sig_text.specs.declared.bytes.TheConstants.{MAX_LITERAL_NUMBER}
+use Rattle.sig_text.specs.Numbers.{max_literal_number}
 use Rattle.alg_model.specs.declared.tree.Value.{Value}
 use Rattle.alg_model.specs.declared.tree.Label.{Label}
 use Rattle.alg_model.specs.Expressions.{Expression, PureCarrier, PureValue, PureLabel}
@@ -19,7 +19,7 @@ use Rattle.sig_text.specs.Reading.{NotWhole, take_both, value_at, label_at, oute
 abbrev pub IsStep : Next → Step → Type 0
 IsStep End step = step ≡ end
 IsStep (Word w rest) step = step ≡ part (word w.now) rest.now
-IsStep (Number n rest) step = (step ≡ part (digits n) rest.now) × (n ≤ MAX_LITERAL_NUMBER)
+IsStep (Number n rest) step = (step ≡ part (digits n) rest.now) × (n ≤ max_literal_number)
 IsStep TooLarge step = LargeStep step
 IsStep (Mark c rest) step = step ≡ part (mark c) rest.now
 
@@ -27,7 +27,7 @@ IsStep (Mark c rest) step = step ≡ part (mark c) rest.now
 abbrev pub IsFront : Next → List Part → Type 0
 IsFront End ps = ps ≡ []
 IsFront (Word w rest) ps = ps ≡ word w.now ∷ parts_of rest.now
-IsFront (Number n rest) ps = (ps ≡ digits n ∷ parts_of rest.now) × (n ≤ MAX_LITERAL_NUMBER)
+IsFront (Number n rest) ps = (ps ≡ digits n ∷ parts_of rest.now) × (n ≤ max_literal_number)
 IsFront TooLarge ps = LargeFront ps
 IsFront (Mark c rest) ps = ps ≡ mark c ∷ parts_of rest.now
 

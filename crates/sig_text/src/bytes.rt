@@ -1,6 +1,7 @@
 // Words and runs of digits at the front of a text.
 ghost use Rattle.std.specs.Prelude.{◌≡◌, ◌≤◌, IfSome};
-ghost use Rattle.meta_base.specs.Bytes.{is_digit, is_word_byte, front, behind, number_from};
+ghost use Rattle.meta_base.specs.Bytes.{is_digit, is_word_byte, front, after_front, number_from};
+ghost use Rattle.sig_text.specs.Numbers.{max_literal_number};
 ghost use Rattle.sig_text.specs.Sequences.{within};
 ghost use Rattle.sig_text.specs.declared.bytes.TheConstants.{MAX_LITERAL_NUMBER};
 
@@ -10,10 +11,15 @@ use meta_base::bytes::{is_digit, is_word_byte};
 /// The greatest number that any literal may hold: [`crate::read_value_to`] takes no greater bound.
 pub const MAX_LITERAL_NUMBER: Amount = 1 << 119;
 
+/// The bound of literals is the number of the specification.
+pub fn numbers_are_specified()
+    ensures { MAX_LITERAL_NUMBER ≡ max_literal_number }
+{}
+
 // The bytes of a word at the front, and what comes after them.
 pub fn split_word(text: &[u8]) -> (&[u8], &[u8])
     ensures front { result.0.now ≡ front is_word_byte text.now }
-    ensures behind { result.1.now ≡ behind is_word_byte text.now }
+    ensures after_front { result.1.now ≡ after_front is_word_byte text.now }
 {
     let mut len = 0;
     for byte in text {
@@ -42,7 +48,7 @@ fn if_any_literal_holds(n: Amount) -> Option<Amount>
 pub fn split_number(text: &[u8]) -> (Option<Amount>, &[u8])
     ensures number { result.0 ≡ within MAX_LITERAL_NUMBER (number_from 0 (front is_digit text.now)) }
     ensures bound { IfSome result.0 (λ n. n ≤ MAX_LITERAL_NUMBER) }
-    ensures behind { result.1.now ≡ behind is_digit text.now }
+    ensures after_front { result.1.now ≡ after_front is_digit text.now }
 {
     let mut len = 0;
     let mut n: Amount = 0;

@@ -2,6 +2,7 @@
 ghost use Rattle.std.specs.Prelude.{◌≡◌, ◌&&◌, ◌≤◌, ◌<◌, nat_lt, nat_le, option_and_then, length, IfOk, IfSome};
 ghost use Rattle.alg_model.specs.Views.{expression_of};
 ghost use Rattle.alg_model.specs.Formation.{MeetsRanges};
+ghost use Rattle.alg_model.specs.Forms.{form_expression};
 ghost use Rattle.alg_model.specs.Expressions.{lex, scoped, union, sum, left, pref, number_label, symbol_label, pair_label, both_label, first_label, second_label, const_label, outer, inner};
 ghost use Rattle.alg_model.specs.declared.alg.TheConstants.{MAX_MARKS, MAX_TABLE_NAMES};
 ghost use Rattle.sig_text.specs.declared.faults.LitFault.TheVariants.{NotALabel};
@@ -17,7 +18,9 @@ use crate::parts::{
     Next, Scope, Side, mark_at, marked_at, next_part, number_at, scope_at, side_at, word_at,
 };
 use crate::value::value_at;
-use alg_model::{Amount, Label, MAX_MARKS, MAX_TABLE_NAMES, TableRow, Tree, Value, place_of};
+use alg_model::{
+    Amount, Label, LabelForm, MAX_MARKS, MAX_TABLE_NAMES, TableRow, Tree, Value, place_of,
+};
 use meta_base::NoMemory;
 use std::alloc::Global;
 
@@ -34,23 +37,35 @@ pub fn label_at<'a>(
     requires greatest { greatest ≤ MAX_LITERAL_NUMBER }
     ensures { TakesLabel greatest (expression_of tree.now) text.now result }
 {
-    match tree {
-        Tree::Add { low, high }
-        | Tree::Cap { low, high, .. }
-        | Tree::Worst { low, high, .. }
-        | Tree::Width { low, high, .. } => ranged_at(*low, *high, greatest, text),
-        Tree::Pref { top } => bounded_at(*top, greatest, text),
-        Tree::Orig { .. } | Tree::Right(_) => keep_at(text),
-        Tree::Seq { symbols } | Tree::SimSeq { symbols } => symbol_at(*symbols, greatest, text),
-        Tree::Tags { count } => tag_at(*count, greatest, text),
-        Tree::Guard { count } => guard_at(*count, greatest, text),
-        Tree::Gate => gate_at(text),
-        Tree::Table(table) => row_at(table.rows.as_slice(), text),
-        Tree::Lex(a, b) => lex_at(alloc, a, b, greatest, text),
-        Tree::Sum(a, b) => sum_at(alloc, a, b, greatest, text),
-        Tree::Scoped(a, b) => scoped_at(alloc, a, b, greatest, text),
-        Tree::Union(a, b) | Tree::Plus(a, b) => sided_at(alloc, a, b, greatest, text),
-        Tree::Left(a) => const_at(alloc, a, greatest, text),
+    form_label_at(alloc, tree.label_form(), greatest, text)
+}
+
+// The same of what the labels look like.
+#[cycle(label_at)]
+fn form_label_at<'a>(
+    alloc: Global,
+    form: LabelForm<'_>,
+    greatest: Amount,
+    text: &'a [u8],
+) -> Result<(Result<Label, LitFault>, &'a [u8]), Stop>
+    requires ranges { MeetsRanges (form_expression form) }
+    requires greatest { greatest ≤ MAX_LITERAL_NUMBER }
+    ensures { TakesLabel greatest (form_expression form.entry) text.now result }
+{
+    match form {
+        LabelForm::Numbers(low, high) => ranged_at(low, high, greatest, text),
+        LabelForm::UpTo(top) => bounded_at(top, greatest, text),
+        LabelForm::Keep | LabelForm::Right(_) => keep_at(text),
+        LabelForm::Symbol(symbols) => symbol_at(symbols, greatest, text),
+        LabelForm::Tag(count) => tag_at(count, greatest, text),
+        LabelForm::Guard(count) => guard_at(count, greatest, text),
+        LabelForm::Gate => gate_at(text),
+        LabelForm::Table(table) => row_at(table.rows.as_slice(), text),
+        LabelForm::Lex(a, b) => lex_at(alloc, a, b, greatest, text),
+        LabelForm::Sum(a, b) => sum_at(alloc, a, b, greatest, text),
+        LabelForm::Scoped(a, b) => scoped_at(alloc, a, b, greatest, text),
+        LabelForm::Union(a, b) | LabelForm::Plus(a, b) => sided_at(alloc, a, b, greatest, text),
+        LabelForm::Left(a) => const_at(alloc, a, greatest, text),
     }
 }
 

@@ -6,8 +6,8 @@ ghost use Rattle.alg_model.specs.Formation.{IsFormed};
 ghost use Rattle.alg_model.specs.Texts.{value_text, label_text};
 ghost use Rattle.alg_model.specs.Expressions.{Expression, PureAlg, PureLabel, PureValue};
 ghost use Rattle.alg_model.specs.declared.alg.TheConstants.{MAX_MARKS};
-ghost use Rattle.sig_text.specs.Literals.{ValueText, ValueTextTo, LabelText, LabelTextTo, IsValueFault, IsValueFaultTo, IsLabelFault, IsLabelFaultTo};
-ghost use Rattle.sig_text.specs.Spelled.{Tells, spelled_value_to, spelled_label_to};
+ghost use Rattle.sig_text.specs.Literals.{ValueText, ValueTextTo, LabelText, LabelTextTo, IsValueFault, IsValueFaultTo, IsLabelFault, IsLabelFaultTo, Spelling, IsSpelling};
+ghost use Rattle.sig_text.specs.Spelled.{Reports, spelled, spelled_value_to, spelled_label_to};
 ghost use Rattle.sig_text.specs.declared.bytes.TheConstants.{MAX_LITERAL_NUMBER};
 ghost use Rattle.sig_text.specs.declared.faults.LitFault.{LitFault};
 
@@ -93,14 +93,20 @@ pub fn printed_values_are_read_back_to()
 
 /// With any greatest number, `spelled_value_to` of specs is the value that a text spells, or the fault
 /// that refuses it.
-pub fn values_are_told()
+pub fn values_are_reported()
     ensures { (greatest : ℕ) (a : Expression) (text : List ℕ) →
-        Tells (spelled_value_to greatest a text) (ValueTextTo greatest a text) (IsValueFaultTo greatest a text) }
+        Reports (spelled_value_to greatest a text) (ValueTextTo greatest a text) (IsValueFaultTo greatest a text) }
 {}
 
 /// With any greatest number, `spelled_label_to` of specs is the label that a text spells, or the fault
 /// that refuses it.
-pub fn labels_are_told()
+pub fn labels_are_reported()
     ensures { (greatest : ℕ) (a : Expression) (text : List ℕ) →
-        Tells (spelled_label_to greatest a text) (LabelTextTo greatest a text) (IsLabelFaultTo greatest a text) }
+        Reports (spelled_label_to greatest a text) (LabelTextTo greatest a text) (IsLabelFaultTo greatest a text) }
+{}
+
+/// The functions `spelled` of specs say of all texts what they spell, and no others do.
+pub fn texts_have_one_spelling()
+    ensures is { IsSpelling spelled }
+    ensures only { (s : Spelling) → IsSpelling s → s ≡ spelled }
 {}

@@ -10,7 +10,7 @@ ghost use Rattle.sig_text.specs.declared.faults.Stop.TheVariants.{NoShape};
 use crate::bytes::{split_number, split_word};
 use crate::faults::Stop;
 use alg_model::Amount;
-use meta_base::bytes::{behind_blanks, is_digit, is_letter};
+use meta_base::bytes::{after_blanks, is_digit, is_letter};
 use std::alloc::Global;
 
 /// What stands at the front of a text, and after it the rest of the text.
@@ -28,7 +28,7 @@ pub enum Next<'a> {
 pub fn next_part(text: &[u8]) -> Next<'_>
     ensures { IsFront result (parts_of text.now) }
 {
-    next_at(behind_blanks(text))
+    next_at(after_blanks(text))
 }
 
 // The same of a text that begins with no blank.
@@ -187,9 +187,9 @@ fn items_until(
     let mut numbers = Vec::new(alloc);
     let mut text = text;
     loop {
-        let (n, behind) = number_at(text, greatest)?;
+        let (n, after) = number_at(text, greatest)?;
         numbers.push(n)?;
-        match next_part(behind) {
+        match next_part(after) {
             Next::Mark(mark, rest) if mark == closing => return Ok((numbers, rest)),
             Next::Mark(b',', rest) => text = rest,
             _ => return Err(Stop::NoShape),

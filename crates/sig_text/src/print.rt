@@ -3,12 +3,13 @@ ghost use Rattle.meta_base.specs.Appending.{Gains};
 ghost use Rattle.alg_model.specs.Application.{IsLabel, has_mark};
 ghost use Rattle.alg_model.specs.Carriers.{carrier_of, In};
 ghost use Rattle.alg_model.specs.Formation.{MeetsRanges};
+ghost use Rattle.alg_model.specs.Forms.{form_expression};
 ghost use Rattle.alg_model.specs.Texts.{numbers_text, members, value_text, label_text, row_text};
 ghost use Rattle.alg_model.specs.Views.{expression_of, pure_value, pure_label};
 ghost use Rattle.sig_text.specs.Listed.{separator};
 ghost use Rattle.alg_model.specs.declared.alg.TheConstants.{MAX_MARKS};
 
-use alg_model::{Alg, Label, MAX_MARKS, TableRow, Tree, Value};
+use alg_model::{Alg, Form, Label, LabelForm, MAX_MARKS, TableRow, Tree, Value};
 use meta_base::{NoMemory, Text, push_number};
 use std::alloc::Global;
 
@@ -58,40 +59,27 @@ fn push_tree_value(out: &mut String, tree: &Tree, value: &Value) -> Result<(), N
     ensures { OnOk result (Gains out.old
         (value_text (carrier_of (expression_of tree.now)) (pure_value value.now)) out.new) }
 {
-    match (tree, value) {
-        (
-            Tree::Add { .. }
-            | Tree::Cap { .. }
-            | Tree::Worst { .. }
-            | Tree::Width { .. }
-            | Tree::Pref { .. }
-            | Tree::Orig { .. },
-            Value::Number(n),
-        ) => push_number(out, *n),
-        (Tree::Seq { .. } | Tree::SimSeq { .. }, Value::Symbols(ns)) => {
-            push_symbols(out, ns.as_slice())
-        }
-        (Tree::Tags { count } | Tree::Guard { count }, Value::Marks(marks)) => {
-            push_set(out, *count, *marks)
-        }
-        (Tree::Gate, Value::Unit) => push_word(out, "unit"),
-        (Tree::Table(table), Value::Name(place)) => push_name(out, table.names.as_slice(), *place),
-        (Tree::Lex(a, b) | Tree::Scoped(a, b), Value::Pair(u, v)) => {
+    match (tree.value_form(), value) {
+        (Form::Whole | Form::UpTo(_) | Form::DownFrom(_), Value::Number(n)) => push_number(out, *n),
+        (Form::Seqs(_) | Form::SimSeqs(_), Value::Symbols(ns)) => push_symbols(out, ns.as_slice()),
+        (Form::Sets(count), Value::Marks(marks)) => push_set(out, count, *marks),
+        (Form::One, Value::Unit) => push_word(out, "unit"),
+        (Form::Named(names, _), Value::Name(place)) => push_name(out, names, *place),
+        (Form::Pair(a, b), Value::Pair(u, v)) => {
             out.push('(')?;
             push_tree_value(out, a, u)?;
             out.push(',')?;
             push_tree_value(out, b, v)?;
             Ok(out.push(')')?)
         }
-        (Tree::Union(a, _) | Tree::Sum(a, _), Value::First(u)) => {
+        (Form::Side(a, _), Value::First(u)) => {
             out.push_str("l:")?;
             push_tree_value(out, a, u)
         }
-        (Tree::Union(_, b) | Tree::Sum(_, b), Value::Second(v)) => {
+        (Form::Side(_, b), Value::Second(v)) => {
             out.push_str("r:")?;
             push_tree_value(out, b, v)
         }
-        (Tree::Plus(a, _) | Tree::Left(a) | Tree::Right(a), _) => push_tree_value(out, a, value),
         _ => unreachable!(),
     }
 }
@@ -102,39 +90,47 @@ fn push_tree_label(out: &mut String, tree: &Tree, label: &Label) -> Result<(), N
     requires label { IsLabel (expression_of tree.now) (pure_label label.now) }
     ensures { OnOk result (Gains out.old (label_text (expression_of tree.now) (pure_label label.now)) out.new) }
 {
-    match (tree, label) {
-        (
-            Tree::Add { .. }
-            | Tree::Cap { .. }
-            | Tree::Worst { .. }
-            | Tree::Width { .. }
-            | Tree::Pref { .. },
-            Label::Number(n),
-        ) => push_number(out, u128::from(*n)),
-        (Tree::Orig { .. } | Tree::Tags { .. } | Tree::Right(_), Label::Keep) => {
+    push_form_label(out, tree.label_form(), label)
+}
+
+// The same of what the labels look like.
+#[cycle(push_tree_label)]
+fn push_form_label(out: &mut String, form: LabelForm<'_>, label: &Label) -> Result<(), NoMemory>
+    requires ranges { MeetsRanges (form_expression form) }
+    requires label { IsLabel (form_expression form) (pure_label label.now) }
+    ensures { OnOk result (Gains out.old (label_text (form_expression form.entry) (pure_label label.now)) out.new) }
+{
+    match (form, label) {
+        (LabelForm::Numbers(_, _) | LabelForm::UpTo(_), Label::Number(n)) => {
+            push_number(out, u128::from(*n))
+        }
+        (LabelForm::Keep | LabelForm::Tag(_) | LabelForm::Right(_), Label::Keep) => {
             push_word(out, "keep")
         }
-        (Tree::Seq { .. } | Tree::SimSeq { .. }, Label::Symbol(n)) => push_number(
-            out,
-            u128::from(*n),
-        ),
-        (Tree::Tags { .. }, Label::Mark(k)) => push_marked(out, "+", *k),
-        (Tree::Tags { .. }, Label::Unmark(k)) => push_marked(out, "-", *k),
-        (Tree::Guard { .. }, Label::Need(k)) => push_marked(out, "?", *k),
-        (Tree::Guard { .. }, Label::Bar(k)) => push_marked(out, "!", *k),
-        (Tree::Gate, Label::Allow) => push_word(out, "allow"),
-        (Tree::Gate, Label::Deny) => push_word(out, "deny"),
-        (Tree::Table(table), Label::Row(place)) => push_row(out, table.rows.as_slice(), *place),
-        (Tree::Lex(a, b), Label::Pair(l, m)) => push_pair(out, a, l, ",", b, m),
-        (Tree::Sum(a, b), Label::Both(l, m)) => push_pair(out, a, l, "|", b, m),
-        (Tree::Scoped(a, b), Label::Outer(l, v)) => push_outer(out, a, l, b, v),
-        (Tree::Scoped(_, b), Label::Inner(m)) => {
-            push_behind(out, "in(", b, m)?;
+        (LabelForm::Symbol(_), Label::Symbol(n)) => push_number(out, u128::from(*n)),
+        (LabelForm::Tag(_), Label::Mark(k)) => push_marked(out, "+", *k),
+        (LabelForm::Tag(_), Label::Unmark(k)) => push_marked(out, "-", *k),
+        (LabelForm::Guard(_), Label::Need(k)) => push_marked(out, "?", *k),
+        (LabelForm::Guard(_), Label::Bar(k)) => push_marked(out, "!", *k),
+        (LabelForm::Gate, Label::Allow) => push_word(out, "allow"),
+        (LabelForm::Gate, Label::Deny) => push_word(out, "deny"),
+        (LabelForm::Table(table), Label::Row(place)) => {
+            push_row(out, table.rows.as_slice(), *place)
+        }
+        (LabelForm::Lex(a, b), Label::Pair(l, m)) => push_pair(out, a, l, ",", b, m),
+        (LabelForm::Sum(a, b), Label::Both(l, m)) => push_pair(out, a, l, "|", b, m),
+        (LabelForm::Scoped(a, b), Label::Outer(l, v)) => push_outer(out, a, l, b, v),
+        (LabelForm::Scoped(_, b), Label::Inner(m)) => {
+            push_after(out, "in(", b, m)?;
             Ok(out.push(')')?)
         }
-        (Tree::Union(a, _) | Tree::Plus(a, _), Label::First(l)) => push_behind(out, "l:", a, l),
-        (Tree::Union(_, b) | Tree::Plus(_, b), Label::Second(m)) => push_behind(out, "r:", b, m),
-        (Tree::Left(a), Label::Const(v)) => push_tree_value(out, a, v),
+        (LabelForm::Union(a, _) | LabelForm::Plus(a, _), Label::First(l)) => {
+            push_after(out, "l:", a, l)
+        }
+        (LabelForm::Union(_, b) | LabelForm::Plus(_, b), Label::Second(m)) => {
+            push_after(out, "r:", b, m)
+        }
+        (LabelForm::Left(a), Label::Const(v)) => push_tree_value(out, a, v),
         _ => unreachable!(),
     }
 }
@@ -166,7 +162,7 @@ fn push_pair(
 
 // A label after what begins it.
 #[cycle(push_tree_label)]
-fn push_behind(out: &mut String, start: &str, tree: &Tree, label: &Label) -> Result<(), NoMemory>
+fn push_after(out: &mut String, start: &str, tree: &Tree, label: &Label) -> Result<(), NoMemory>
     requires ranges { MeetsRanges (expression_of tree.now) }
     requires label { IsLabel (expression_of tree.now) (pure_label label.now) }
     ensures { OnOk result (Gains out.old

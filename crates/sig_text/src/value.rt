@@ -18,7 +18,7 @@ ghost use Rattle.sig_text.specs.Reading.{take_word, set_from, unit_at, name_at};
 use crate::LitFault;
 use crate::faults::{Stop, both, boxed};
 use crate::parts::{Side, list_at, mark_at, number_at, side_at, word_at};
-use alg_model::{Amount, MAX_MARKS, MAX_TABLE_NAMES, Tree, Value, place_of};
+use alg_model::{Amount, Form, MAX_MARKS, MAX_TABLE_NAMES, Tree, Value, place_of};
 use meta_base::{List, NoMemory, Text};
 use std::alloc::Global;
 use std::collections::BTreeSet;
@@ -36,21 +36,16 @@ pub fn value_at<'a>(
     requires greatest { greatest ≤ MAX_LITERAL_NUMBER }
     ensures { TakesValue greatest (carrier_of (expression_of tree.now)) text.now result }
 {
-    match tree {
-        Tree::Add { .. } => whole_at(greatest, text),
-        Tree::Cap { top, .. }
-        | Tree::Worst { top, .. }
-        | Tree::Width { top, .. }
-        | Tree::Pref { top }
-        | Tree::Orig { top } => bounded_at(*top, greatest, text),
-        Tree::Seq { symbols } => symbols_at(alloc, *symbols, greatest, text),
-        Tree::SimSeq { symbols } => simple_at(alloc, *symbols, greatest, text),
-        Tree::Tags { count } | Tree::Guard { count } => set_at(alloc, *count, greatest, text),
-        Tree::Gate => unit_at(text),
-        Tree::Table(table) => name_at(table.names.as_slice(), text),
-        Tree::Lex(a, b) | Tree::Scoped(a, b) => pair_at(alloc, a, b, greatest, text),
-        Tree::Union(a, b) | Tree::Sum(a, b) => sided_at(alloc, a, b, greatest, text),
-        Tree::Plus(a, _) | Tree::Left(a) | Tree::Right(a) => value_at(alloc, a, greatest, text),
+    match tree.value_form() {
+        Form::Whole => whole_at(greatest, text),
+        Form::UpTo(top) | Form::DownFrom(top) => bounded_at(top, greatest, text),
+        Form::Seqs(symbols) => symbols_at(alloc, symbols, greatest, text),
+        Form::SimSeqs(symbols) => simple_at(alloc, symbols, greatest, text),
+        Form::Sets(count) => set_at(alloc, count, greatest, text),
+        Form::One => unit_at(text),
+        Form::Named(names, _) => name_at(names, text),
+        Form::Pair(a, b) => pair_at(alloc, a, b, greatest, text),
+        Form::Side(a, b) => sided_at(alloc, a, b, greatest, text),
     }
 }
 

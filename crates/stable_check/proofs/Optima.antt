@@ -40,9 +40,9 @@ optimal_arcs : (net : PureNet) (dest : ℕ) (t : List PureRow) → IsNet net →
 optimal_arcs net dest t n h i j within = by (route_at t j) refl
   where
     image : (r : PureRoute) → route_at t j ≡ Some r → (o : Option PureValue) → along net i j (Some r.value) ≡ o → IsUnbeatenBy (carrier net) (value_at t i) o
-    image r told None e = none_last (carrier net) (value_at t i)
-    image r told (Some w) e =
-        let sound = h.walks j r told in
+    image r reported None e = none_last (carrier net) (value_at t i)
+    image r reported (Some w) e =
+        let sound = h.walks j r reported in
         let begins = sound.2 in
         let rest : Walk net dest (j ∷ begins.0) = rw begins.1 at sound.0 in
         let weight : Weight net dest (j ∷ begins.0) ≡ Some r.value = rw begins.1 at sound.1 in

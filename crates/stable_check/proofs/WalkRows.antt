@@ -1,24 +1,17 @@
 -- When routes are walks, and when rows make a relaxed table.
-use Rattle.std.proofs.Common.{◌≡◌, ℕ, ◌+◌, ◌<◌, ◌≤◌, List, [], ◌∷◌, Option, Some, None, IfSome, Bool, true, false, ◌==◌, length, refl, sym, ◌∙◌, inl, inr, arith}
+use Rattle.std.proofs.Common.{◌≡◌, ℕ, ◌<◌, List, [], ◌∷◌, Option, Some, None, IfSome, Bool, true, false, ◌==◌, length, refl, sym, ◌∙◌, inl, inr, arith}
 use Rattle.std.specs.Bool.{Decides}
 use Rattle.std.proofs.lemmas.Bool.{cases_lt}
 use Rattle.std.proofs.lemmas.Bool.Decides.{nat_tests}
 use Rattle.alg_model.specs.Expressions.{PureValue}
-use Rattle.net_graph.specs.Nets.{PureNet, IsNet, origin_value}
+use Rattle.net_graph.specs.Nets.{PureNet, IsNet}
 use Rattle.net_graph.specs.Routes.{PureRoute}
 use Rattle.net_graph.specs.RowTexts.{AreNodesOf}
-use Rattle.net_graph.specs.Tables.{PureRow, TableOf, Relaxed, HasWalks, IsRouteOf, route_at, value_at, carrier}
-use Rattle.net_graph.specs.Walks.{Walk, Weight, along}
-use Rattle.net_graph.specs.ArcLaws.{walk_within}
+use Rattle.net_graph.specs.Tables.{PureRow, TableOf, Relaxed, HasWalks, route_at}
+use Rattle.net_graph.specs.Walks.{Walk, Weight}
 use Rattle.net_graph.specs.RouteLaws.{no_route_past}
 use Rattle.stable_check.specs.Checks.{begins_with, IsWalkOf, IsRelaxedAt}
-use Rattle.stable_check.proofs.WalkWeights.{weighs_walk}
-
--- the nodes of a walk are the network's
-walk_nodes : (net : PureNet) → IsNet net → (dest : ℕ) (p : List ℕ) → Walk net dest p → AreNodesOf net p
-walk_nodes net n dest [] w = absurd w
-walk_nodes net n dest (i ∷ []) w = (walk_within net n dest i [] w, tt)
-walk_nodes net n dest (i ∷ j ∷ p) w = (walk_within net n dest i (j ∷ p) w, walk_nodes net n dest (j ∷ p) w.1)
+use Rattle.stable_check.proofs.WalkWeights.{weighs_walk, walk_nodes}
 
 begins : (p : List ℕ) (i : ℕ) → begins_with p i ≡ true → (q : List ℕ) × (p ≡ i ∷ q)
 begins [] i e = absurd (cc)
@@ -66,8 +59,8 @@ all_relaxed net dest n rows t e h = record {
     walk_of i o r e w = rw e at w
 
     walks : HasWalks net dest rows
-    walks i r told = elim (cases_lt i (length net.nodes)) [
-      | inl within ↦ let w = walk_of i (route_at rows i) r told (h i (rw e at within)).walk in (w.walk, w.weight, w.begins)
+    walks i r reported = elim (cases_lt i (length net.nodes)) [
+      | inl within ↦ let w = walk_of i (route_at rows i) r reported (h i (rw e at within)).walk in (w.walk, w.weight, w.begins)
       | inr past ↦ absurd (let n = no_route_past net dest rows t i past in cc)
     ]
 

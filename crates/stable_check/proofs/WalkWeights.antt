@@ -1,14 +1,13 @@
 -- What arcs make of a value along a list of nodes.
-use Rattle.std.proofs.Common.{◌≡◌, ◌≢◌, ℕ, ◌+◌, ◌<◌, ◌≤◌, ◌*◌, ◌-◌, ◌==◌, Bor, zero, suc, List, [], ◌∷◌, Option, Some, None, IfSome, Bool, true, false, map, drop, option_map, Result, Ok, Err, IfOk, length, get_or, refl, ap, arith}
+use Rattle.std.proofs.Common.{◌≡◌, ℕ, ◌+◌, ◌<◌, ◌≤◌, ◌*◌, ◌-◌, ◌==◌, Bor, zero, suc, List, [], ◌∷◌, Option, Some, None, IfSome, true, false, drop, option_map, Result, Ok, Err, IfOk, length, get_or, refl, ap, arith}
 use Rattle.meta_base.specs.declared.ids.NodeId.{NodeId}
 use Rattle.meta_base.specs.NodePaths.{numbers}
 use Rattle.alg_model.specs.Expressions.{PureValue}
-use Rattle.net_graph.specs.Nets.{PureNet, IsNet, has_arc, has_origin, origin_value}
+use Rattle.net_graph.specs.Nets.{PureNet, IsNet, origin_value}
 use Rattle.net_graph.specs.Walks.{Walk, Weight, along}
-use Rattle.net_graph.specs.ArcLaws.{of_some, IsOrigin, origins_are, along_has, along_none, along_in, along_at_most}
+use Rattle.net_graph.specs.ArcLaws.{of_some, IsOrigin, origins_are, along_has, along_none, along_in, along_at_most, walk_within}
 use Rattle.std.specs.Option.{option_copied}
 use Rattle.std.proofs.lemmas.Bool.Decides.{nat_tests}
-use Rattle.alg_model.specs.Bounds.{AtMost}
 use Rattle.alg_model.specs.Carriers.{In}
 use Rattle.alg_model.specs.Laws.{at_most_more}
 use Rattle.alg_model.specs.declared.edition.TheConstants.{MAX_LABEL_NUMBER}
@@ -32,6 +31,16 @@ no_walk_no_weight net n dest p h = by (Weight net dest p) refl
     by : (o : Option PureValue) → Weight net dest p ≡ o → o ≡ None
     by None e = refl
     by (Some v) e = absurd (h (weighs_walk net n dest p v e))
+
+-- the nodes of a walk are the network's
+pub walk_nodes : (net : PureNet) → IsNet net → (dest : ℕ) (p : List ℕ) → Walk net dest p → AreNodesOf net p
+walk_nodes net n dest [] w = absurd w
+walk_nodes net n dest (i ∷ []) w = (walk_within net n dest i [] w, tt)
+walk_nodes net n dest (i ∷ j ∷ p) w = (walk_within net n dest i (j ∷ p) w, walk_nodes net n dest (j ∷ p) w.1)
+
+-- so a list with others weighs nothing
+pub others_no_weight : (net : PureNet) → IsNet net → (dest : ℕ) (p : List ℕ) → ¬ AreNodesOf net p → Weight net dest p ≡ None
+others_no_weight net n dest p h = no_walk_no_weight net n dest p (λ w. h (walk_nodes net n dest p w))
 
 -- the last of the nodes from i on
 abbrev pub last_from : ℕ → List ℕ → ℕ
@@ -127,3 +136,8 @@ none_of f (Some x) e = absurd (cc)
 
 pub not_empty : (n : ℕ) → false ≡ (n == 0) → 0 < n
 not_empty n e = grind (arith, nat_tests)
+
+-- an empty list weighs nothing
+pub empty_weight : (net : PureNet) (dest : ℕ) (nodes : List NodeId) → true ≡ (length nodes == 0) → None ≡ Weight net dest (numbers nodes)
+empty_weight net dest [] e = refl
+empty_weight net dest (x ∷ nodes) e = absurd (grind (arith, nat_tests))

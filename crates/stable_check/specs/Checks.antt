@@ -1,7 +1,7 @@
 -- What the checks of a table look at, walk by walk, node by node and arc by arc.
-use Rattle.std.specs.Prelude.{◌≡◌, ◌*◌, ℕ, ◌<◌, ◌==◌, Bool, List, [], ◌∷◌, Option, Some, None, true, false, option_map, option_and_then, length, slice_get, if◌then◌else◌, IfSome, IsSomeAnd}
+use Rattle.std.specs.Prelude.{◌≡◌, ◌*◌, ℕ, ◌==◌, Bool, List, [], ◌∷◌, Option, Some, None, false, option_map, option_and_then, length, slice_get, if◌then◌else◌, IfSome, IsSomeAnd}
 use Rattle.std.specs.Borrow.{Bor}
-use Rattle.alg_model.specs.declared.edition.TheConstants.{MAX_LABEL_NUMBER}
+use Rattle.alg_model.specs.Numbers.{max_label_number}
 use Rattle.alg_model.specs.declared.tree.Value.{Value}
 use Rattle.alg_model.specs.Bounds.{AtMost}
 use Rattle.alg_model.specs.Carriers.{In, IsPreferred}
@@ -9,7 +9,7 @@ use Rattle.alg_model.specs.Expressions.{PureCarrier, PureValue}
 use Rattle.alg_model.specs.Views.{pure_value}
 use Rattle.net_graph.specs.Nets.{PureNet, origin_value}
 use Rattle.net_graph.specs.Routes.{PureRoute, Better}
-use Rattle.net_graph.specs.Tables.{PureRow, Told, carrier, is_among, route_at, value_at, IsRouteOf, Offers}
+use Rattle.net_graph.specs.Tables.{PureRow, Reported, carrier, is_among, route_at, value_at, IsRouteOf, Offers}
 use Rattle.net_graph.specs.Walks.{Walk, Weight, along}
 
 -- what the arcs along the nodes make of the last node's value
@@ -36,7 +36,7 @@ pub record AreOwnValues (net : PureNet) (dest : ℕ) (values : List (Option (Bor
 -- a value of the network that so many labels may have made, one after the other
 pub record IsSmall (net : PureNet) (steps : ℕ) (v : PureValue) : Type 0 where
   pub value_in : In (carrier net) v
-  pub bound : AtMost (steps * MAX_LABEL_NUMBER) v
+  pub bound : AtMost (steps * max_label_number) v
 
 -- the path begins with the node
 abbrev pub begins_with : List ℕ → ℕ → Bool
@@ -68,8 +68,8 @@ abbrev pub passed_on : PureNet → ℕ → ℕ → PureRoute → Option PureRout
 passed_on net i j next = if is_among next.path i then None else option_map (λ (v : PureValue). record { value = v; path = i ∷ next.path }) (along net i j (Some next.value))
 
 -- what the arc from i to j offers of what is reported of j
-abbrev pub offer_by : PureNet → Told → ℕ → ℕ → Option PureRoute
-offer_by net told i j = option_and_then (passed_on net i j) (told j)
+abbrev pub offer_by : PureNet → Reported → ℕ → ℕ → Option PureRoute
+offer_by net reported i j = option_and_then (passed_on net i j) (reported j)
 
 -- what the node's own origin offers
 abbrev pub own_offer : PureNet → ℕ → ℕ → Option PureRoute
@@ -86,16 +86,16 @@ abbrev pub Makes : Option PureRoute → Option PureRoute → Type 0
 Makes offer row = IsSomeAnd row (λ (r : PureRoute). offer ≡ Some r)
 
 -- what the arc from i to j offers outdoes the row of i; and it is its route
-abbrev pub OutdoneBy : PureNet → Told → ℕ → ℕ → Type 0
-OutdoneBy net told i j = Outdoes (carrier net) (offer_by net told i j) (told i)
+abbrev pub OutdoneBy : PureNet → Reported → ℕ → ℕ → Type 0
+OutdoneBy net reported i j = Outdoes (carrier net) (offer_by net reported i j) (reported i)
 
-abbrev pub MadeBy : PureNet → Told → ℕ → ℕ → Type 0
-MadeBy net told i j = Makes (offer_by net told i j) (told i)
+abbrev pub MadeBy : PureNet → Reported → ℕ → ℕ → Type 0
+MadeBy net reported i j = Makes (offer_by net reported i j) (reported i)
 
 -- the row's route, if it has one, is an offer
-abbrev pub IsMade : PureNet → ℕ → Told → ℕ → Type 0
-IsMade net dest told i = IfSome (told i) (Offers net dest told i)
+abbrev pub IsMade : PureNet → ℕ → Reported → ℕ → Type 0
+IsMade net dest reported i = IfSome (reported i) (Offers net dest reported i)
 
 -- an offer is better than the row's route, or is there where the row has none
-abbrev pub IsOutdone : PureNet → ℕ → Told → ℕ → Type 0
-IsOutdone net dest told i = (s : PureRoute) × Offers net dest told i s × Outdoes (carrier net) (Some s) (told i)
+abbrev pub IsOutdone : PureNet → ℕ → Reported → ℕ → Type 0
+IsOutdone net dest reported i = (s : PureRoute) × Offers net dest reported i s × Outdoes (carrier net) (Some s) (reported i)

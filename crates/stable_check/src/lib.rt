@@ -17,5 +17,5 @@ pub use equality::is_same_route;
 pub use laws::relaxed_is_optimal;
 pub use relaxed::is_relaxed;
 pub use stable::is_stable;
-pub use table::{are_nodes_of, is_table_of};
-pub use weight::{MAX_WALK_NODES, weight_of};
+pub use table::is_table_of;
+pub use weight::{MAX_WALK_NODES, numbers_are_specified, weight_of};

@@ -1,5 +1,5 @@
 // What origins and arcs offer to nodes, and how offers compare with rows.
-ghost use Rattle.std.specs.Prelude.{◌≡◌, ◌==◌, ◌∷◌, ℕ, Some, length, option_map, IfOk, IfSome};
+ghost use Rattle.std.specs.Prelude.{◌≡◌, ◌==◌, ◌∷◌, ℕ, Some, option_map, IfOk, IfSome};
 ghost use Rattle.std.specs.Bool.{Decides};
 ghost use Rattle.std.specs.List.{list_any};
 ghost use Rattle.alg_model.specs.Carriers.{In};
@@ -21,12 +21,12 @@ use std::alloc::Global;
 use std::cmp::Ordering;
 
 // The path of the node and the nodes after it.
-fn path_from(alloc: Global, node: NodeId, behind: &[NodeId]) -> Result<List<NodeId>, NoMemory>
-    ensures { IfOk result (λ path. path ≡ node ∷ behind.now) }
+fn path_from(alloc: Global, node: NodeId, after: &[NodeId]) -> Result<List<NodeId>, NoMemory>
+    ensures { IfOk result (λ path. path ≡ node ∷ after.now) }
 {
-    let mut path = Vec::with_capacity(alloc, behind.len().saturating_add(1))?;
+    let mut path = Vec::with_capacity(alloc, after.len().saturating_add(1))?;
     path.push(node)?;
-    path.extend_from_slice(behind)?;
+    path.extend_from_slice(after)?;
     Ok(List::from_vec(path))
 }
 

@@ -1,17 +1,16 @@
-ghost use Rattle.std.specs.Prelude.{◌≡◌, ◌<◌, ℕ, Some, length, option_map, IfOk, IfSome};
+ghost use Rattle.std.specs.Prelude.{◌≡◌, ◌<◌, Some, length, option_map, IfOk, IfSome};
 ghost use Rattle.std.specs.Bool.{Decides};
 ghost use Rattle.meta_base.specs.NodePaths.{numbers};
 ghost use Rattle.alg_model.specs.Carriers.{In, IsPreferred};
 ghost use Rattle.alg_model.specs.Views.{pure_label, pure_value};
 ghost use Rattle.net_graph.specs.Nets.{IsNet, label_between};
-ghost use Rattle.net_graph.specs.RowTexts.{AreNodesOf};
 ghost use Rattle.net_graph.specs.Tables.{carrier, route_at, Relaxed, TableOf};
 ghost use Rattle.net_graph.specs.Views.{pure_route, rows_of};
 ghost use Rattle.stable_check.specs.Checks.{begins_with, AreOwnValues, ImprovedBy, IsImproved, IsRelaxedAt, IsWalkOf};
 
-use crate::are_nodes_of;
 use crate::lookup::route_at;
 use crate::own::OwnValues;
+use crate::table::are_nodes_of;
 use crate::weight::carry;
 use alg_model::{Value, apply, order, same_value};
 use meta_base::{NoMemory, NodeId};

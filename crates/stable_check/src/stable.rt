@@ -18,8 +18,8 @@ fn arc_outdoes(alloc: Global, net: &Net, table: &DestTable, arc: &Arc) -> Result
     requires net { IsNet net.now }
     requires table { TableOf net.now table.now.dest.0 (rows_of table.now) }
     requires arc { label_between net.now arc.now.tail.0 arc.now.head.0 ≡ Some (pure_label arc.now.label) }
-    ensures { let told = route_at (rows_of table.now) in IfOk result (λ r. Decides r
-        (OutdoneBy net.now told arc.now.tail.0 arc.now.head.0)) }
+    ensures { let reported = route_at (rows_of table.now) in IfOk result (λ r. Decides r
+        (OutdoneBy net.now reported arc.now.tail.0 arc.now.head.0)) }
 {
     let offer = arc_offer(alloc, net, table, arc)?;
     Ok(outdoes(net, offer.as_ref(), route_at(table, arc.tail)))
@@ -30,8 +30,8 @@ fn arc_makes(alloc: Global, net: &Net, table: &DestTable, arc: &Arc) -> Result<b
     requires net { IsNet net.now }
     requires table { TableOf net.now table.now.dest.0 (rows_of table.now) }
     requires arc { label_between net.now arc.now.tail.0 arc.now.head.0 ≡ Some (pure_label arc.now.label) }
-    ensures { let told = route_at (rows_of table.now) in IfOk result (λ r. Decides r
-        (MadeBy net.now told arc.now.tail.0 arc.now.head.0)) }
+    ensures { let reported = route_at (rows_of table.now) in IfOk result (λ r. Decides r
+        (MadeBy net.now reported arc.now.tail.0 arc.now.head.0)) }
 {
     let offer = arc_offer(alloc, net, table, arc)?;
     Ok(makes(offer.as_ref(), route_at(table, arc.tail)))
@@ -47,8 +47,8 @@ fn is_outdone_by_arc(
     requires net { IsNet net.now }
     requires table { TableOf net.now table.now.dest.0 (rows_of table.now) }
     requires node { node.0 < length net.now.nodes }
-    ensures { let told = route_at (rows_of table.now) in IfOk result (λ r. Decides r
-        ((j : ℕ) × OutdoneBy net.now told node.0 j)) }
+    ensures { let reported = route_at (rows_of table.now) in IfOk result (λ r. Decides r
+        ((j : ℕ) × OutdoneBy net.now reported node.0 j)) }
 {
     for arc in net.out_arcs(node) {
         if arc_outdoes(alloc, net, table, arc)? {
@@ -68,8 +68,8 @@ fn is_made_by_arc(
     requires net { IsNet net.now }
     requires table { TableOf net.now table.now.dest.0 (rows_of table.now) }
     requires node { node.0 < length net.now.nodes }
-    ensures { let told = route_at (rows_of table.now) in IfOk result (λ r. Decides r
-        ((j : ℕ) × MadeBy net.now told node.0 j)) }
+    ensures { let reported = route_at (rows_of table.now) in IfOk result (λ r. Decides r
+        ((j : ℕ) × MadeBy net.now reported node.0 j)) }
 {
     for arc in net.out_arcs(node) {
         if arc_makes(alloc, net, table, arc)? {
@@ -138,8 +138,8 @@ fn is_choice(
     requires table { TableOf net.now table.now.dest.0 (rows_of table.now) }
     requires own { AreOwnValues net.now table.now.dest.0 own.now.values.items }
     requires node { node.0 < length net.now.nodes }
-    ensures { let told = route_at (rows_of table.now) in IfOk result (λ r. Decides r
-        (IsChoice net.now table.now.dest.0 told node.0 (told node.0))) }
+    ensures { let reported = route_at (rows_of table.now) in IfOk result (λ r. Decides r
+        (IsChoice net.now table.now.dest.0 reported node.0 (reported node.0))) }
 {
     if is_outdone(alloc, net, table, own, node)? {
         return Ok(false);

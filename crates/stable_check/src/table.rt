@@ -20,9 +20,8 @@ fn are_below(nodes: &[NodeId], count: usize) -> bool
     nodes.iter().all(|node| (node.0 as usize) < count)
 }
 
-/// For whoever judges a given table; the program makes its own. Whether the nodes are the network's, as
-/// [`crate::weight_of`] asks. It takes no memory.
-pub fn are_nodes_of(net: &Net, nodes: &[NodeId]) -> bool
+/// Whether the nodes are the network's.
+pub(crate) fn are_nodes_of(net: &Net, nodes: &[NodeId]) -> bool
     ensures { Decides result (AreNodesOf net.now (numbers nodes.now)) }
 {
     are_below(nodes, net.node_count())

@@ -1,18 +1,15 @@
-ghost use Rattle.std.specs.Prelude.{◌≡◌, ◌<◌, ◌≤◌, ◌+◌, ℕ, None, length, option_map, IfOk, IfSome};
+ghost use Rattle.std.specs.Prelude.{◌≡◌, ◌<◌, ◌≤◌, None, length, option_map, IfOk, IfSome};
 ghost use Rattle.meta_base.specs.NodePaths.{numbers};
-ghost use Rattle.alg_model.specs.declared.alg.TheConstants.{MAX_VALUE_NUMBER};
-ghost use Rattle.alg_model.specs.declared.edition.TheConstants.{MAX_LABEL_NUMBER};
-ghost use Rattle.alg_model.specs.Bounds.{AtMost};
-ghost use Rattle.alg_model.specs.Carriers.{In};
 ghost use Rattle.alg_model.specs.Views.{pure_value};
 ghost use Rattle.net_graph.specs.Nets.{IsNet};
 ghost use Rattle.net_graph.specs.RowTexts.{AreNodesOf};
-ghost use Rattle.net_graph.specs.Tables.{carrier};
 ghost use Rattle.net_graph.specs.Walks.{Walk, Weight, along};
 ghost use Rattle.stable_check.specs.declared.weight.TheConstants.{MAX_WALK_NODES};
 ghost use Rattle.stable_check.specs.Checks.{carried, IsSmall};
+ghost use Rattle.stable_check.specs.Numbers.{max_walk_nodes};
 
 use crate::lookup::{label_between, origin_value};
+use crate::table::are_nodes_of;
 use alg_model::{Value, apply};
 use meta_base::{DestId, NoMemory, NodeId};
 use net_graph::Net;
@@ -21,6 +18,11 @@ use std::alloc::Global;
 /// How many nodes a walk may have whose weight is asked for: so many labels may be applied to a value of a
 /// network one after the other.
 pub const MAX_WALK_NODES: usize = 1 << 29;
+
+/// The bound of walks is the number of the specification.
+pub fn numbers_are_specified()
+    ensures { MAX_WALK_NODES ≡ max_walk_nodes }
+{}
 
 // What the arc from the tail to the head makes of the value; none where there is no arc or no value.
 fn along(
@@ -82,10 +84,10 @@ pub(crate) fn carry(
 
 /// For whoever judges a given table; the program makes its own. What the walk weighs for the destination: the value of
 /// the last node's origin, changed by the labels of the arcs from the last to the first, or `None` where a label
-/// prohibits it or the list isn't a walk (Griffin and Sobrinho 2005).
+/// prohibits it or the list isn't a walk (Griffin and Sobrinho 2005), as where it has nodes that aren't the network's.
 ///
-/// The destination and the nodes are the network's, and there are at most [`MAX_WALK_NODES`] of these. It is
-/// refused for want of memory alone.
+/// The destination is the network's, and there are at most [`MAX_WALK_NODES`] nodes. It is refused for want of
+/// memory alone.
 pub fn weight_of(
     alloc: Global,
     net: &Net,
@@ -93,16 +95,15 @@ pub fn weight_of(
     walk: &[NodeId],
 ) -> Result<Option<Value>, NoMemory>
     requires dest { dest.0 < length net.now.dests }
-    requires nodes { AreNodesOf net.now (numbers walk.now) }
     requires few { length walk.now ≤ MAX_WALK_NODES }
     ensures weight { IfOk result (λ weight. option_map pure_value weight ≡ Weight net.now dest.0 (numbers walk.now)) }
     ensures no_walk { ¬ Walk net.now dest.0 (numbers walk.now) → IfOk result (λ weight. weight ≡ None) }
 {
-    if walk.is_empty() {
-        return Ok(None);
-    }
     // To count the nodes is to know that the network meets its rules.
     let _count = net.node_count();
+    if walk.is_empty() || !are_nodes_of(net, walk) {
+        return Ok(None);
+    }
     let last = walk[walk.len() - 1];
     carry(alloc, net, walk, origin_value(net, dest, last))
 }

@@ -8,9 +8,9 @@ use Rattle.alg_classes.specs.Facts.{Holds, PureExample, at, between, FailsAt, Re
 use Rattle.alg_classes.specs.FactLaws.{Keeps, holds_unless}
 use Rattle.alg_classes.specs.Classes.{IsTruthOf}
 use Rattle.table_classes.specs.declared.fact.ValueFact.{ValueFact}
-use Rattle.table_classes.specs.declared.fact.ValueFact.TheVariants.{Total, Dead, Mono, Strict}
+use Rattle.table_classes.specs.declared.fact.ValueFact.TheVariants.{Total, Dead, Monotone, Strict}
 use Rattle.table_classes.specs.declared.fact.PairFact.{PairFact}
-use Rattle.table_classes.specs.declared.fact.PairFact.TheVariants.{Iso, Canc, Cond, Narrow}
+use Rattle.table_classes.specs.declared.fact.PairFact.TheVariants.{Isotone, Cancellative, Condensed, Narrow}
 use Rattle.table_classes.specs.Rows.{PureRow, IsRow, image_at, row_carrier, row_action, value_fact, pair_fact}
 use Rattle.table_classes.specs.Found.{FailsAtPlace, FailsBetween}
 
@@ -31,7 +31,7 @@ unrefuted_at row k none (at v) r =
     none v r.0 r.0 r.1
 unrefuted_at row Total none (between u v) r = absurd r.1
 unrefuted_at row Dead none (between u v) r = absurd r.1
-unrefuted_at row Mono none (between u v) r = absurd r.1
+unrefuted_at row Monotone none (between u v) r = absurd r.1
 unrefuted_at row Strict none (between u v) r = absurd r.1
 
 unrefuted_between : (row : PureRow) (k : PairFact)
@@ -41,9 +41,9 @@ unrefuted_between row k none (between u v) r =
     each_name row.names row.ranks (λ u. In (row_carrier row) u → ¬ FailsAt (row_carrier row) (row_action row) (pair_fact k) (between u v))
     (λ m i. each_name row.names row.ranks (λ v. In (row_carrier row) v → ¬ FailsAt (row_carrier row) (row_action row) (pair_fact k) (between (name m) v))
     (λ n j. none m i n j) v r.0.1 r.0.1) u r.0.0 r.0.0 r.1
-unrefuted_between row Iso none (at v) r = absurd r.1
-unrefuted_between row Canc none (at v) r = absurd r.1
-unrefuted_between row Cond none (at v) r = absurd r.1
+unrefuted_between row Isotone none (at v) r = absurd r.1
+unrefuted_between row Cancellative none (at v) r = absurd r.1
+unrefuted_between row Condensed none (at v) r = absurd r.1
 unrefuted_between row Narrow none (at v) r = absurd r.1
 
 pub holds_of_values : (row : PureRow) (k : ValueFact) → IsRow row

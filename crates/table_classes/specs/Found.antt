@@ -7,7 +7,8 @@ use Rattle.alg_model.specs.declared.tree.Label.{Label}
 use Rattle.alg_classes.specs.declared.profile.Profile.{Profile}
 use Rattle.alg_classes.specs.declared.class.Examples.{Examples}
 use Rattle.alg_classes.specs.declared.class.Class.{Class}
-use Rattle.alg_classes.specs.Facts.{Action, Fact, Holds, PureExample, at, between, FailsAt, Refutes}
+use Rattle.alg_classes.specs.declared.fact.Fact.{Fact}
+use Rattle.alg_classes.specs.Facts.{Action, Holds, PureExample, at, between, FailsAt, Refutes}
 use Rattle.alg_classes.specs.Classes.{pure_at, pure_between, PureExamples, pure_examples}
 use Rattle.table_classes.specs.declared.found.Found.{Found}
 use Rattle.table_classes.specs.Rows.{PureRow, row_carrier, row_action}

@@ -3,12 +3,14 @@ use Rattle.std.specs.Prelude.{◌≡◌, ℕ, ◌<◌, ◌≤◌, List, length, 
 use Rattle.alg_model.specs.Expressions.{Expression, table, PureCarrier, named, name, PureLabel}
 use Rattle.alg_model.specs.Carriers.{carrier_of}
 use Rattle.alg_model.specs.Application.{App}
-use Rattle.alg_model.specs.declared.alg.TheConstants.{MAX_TABLE_NAMES}
-use Rattle.alg_classes.specs.Facts.{Action, Fact, total, dead, mono, strict, iso, canc, cond, narrow}
+use Rattle.alg_model.specs.Numbers.{max_table_names}
+use Rattle.alg_classes.specs.declared.fact.Fact.{Fact}
+use Rattle.alg_classes.specs.declared.fact.Fact.TheVariants as fact
+use Rattle.alg_classes.specs.Facts.{Action}
 use Rattle.table_classes.specs.declared.fact.ValueFact.{ValueFact}
-use Rattle.table_classes.specs.declared.fact.ValueFact.TheVariants.{Total, Dead, Mono, Strict}
+use Rattle.table_classes.specs.declared.fact.ValueFact.TheVariants.{Total, Dead, Monotone, Strict}
 use Rattle.table_classes.specs.declared.fact.PairFact.{PairFact}
-use Rattle.table_classes.specs.declared.fact.PairFact.TheVariants.{Iso, Canc, Cond, Narrow}
+use Rattle.table_classes.specs.declared.fact.PairFact.TheVariants.{Isotone, Cancellative, Condensed, Narrow}
 
 -- the algebra is a table
 abbrev pub IsTable : Expression → Type 0
@@ -27,7 +29,7 @@ image_at images k = option_and_then (λ image. image) (slice_get images k)
 
 -- the values are few, and each image is one of them
 pub record IsRow (row : PureRow) : Type 0 where
-  pub few : length row.names ≤ MAX_TABLE_NAMES
+  pub few : length row.names ≤ max_table_names
   pub within : (k place : ℕ) → image_at row.images k ≡ Some place → place < length row.names
 
 -- the values that the row acts on
@@ -46,13 +48,13 @@ pub record IsRowOf (a : Expression) (l : PureLabel) (row : PureRow) : Type 0 whe
 
 -- the facts of the program
 abbrev pub value_fact : ValueFact → Fact
-value_fact Total = total
-value_fact Dead = dead
-value_fact Mono = mono
-value_fact Strict = strict
+value_fact Total = fact.Total
+value_fact Dead = fact.Dead
+value_fact Monotone = fact.Monotone
+value_fact Strict = fact.Strict
 
 abbrev pub pair_fact : PairFact → Fact
-pair_fact Iso = iso
-pair_fact Canc = canc
-pair_fact Cond = cond
-pair_fact Narrow = narrow
+pair_fact Isotone = fact.Isotone
+pair_fact Cancellative = fact.Cancellative
+pair_fact Condensed = fact.Condensed
+pair_fact Narrow = fact.Narrow

@@ -1,18 +1,17 @@
-ghost use Rattle.std.specs.Prelude.{◌≡◌, IfOk};
+ghost use Rattle.std.specs.Prelude.{◌≡◌, IfOk, option_map};
 ghost use Rattle.alg_model.specs.Views.{expression_of, pure_label};
 ghost use Rattle.alg_model.specs.Application.{IsLabel, App};
 ghost use Rattle.alg_model.specs.Carriers.{carrier_of};
 ghost use Rattle.alg_model.specs.Formation.{MeetsRanges};
 ghost use Rattle.alg_model.specs.declared.alg.TheConstants.{MAX_INSTANCE_NUMBER};
-ghost use Rattle.alg_classes.specs.Facts.{Fact};
 ghost use Rattle.alg_classes.specs.Profiles.{ProfileOf};
-ghost use Rattle.alg_classes.specs.Classes.{ClassOf, ExamplesAtMost, pure_examples};
+ghost use Rattle.alg_classes.specs.Classes.{ClassOf, ExampleAtMost, pure_example};
 ghost use Rattle.table_classes.specs.Found.{IsAnswer};
 ghost use Rattle.table_classes.specs.Rows.{IsTable};
 
 use crate::found::Found;
 use crate::row::Row;
-use alg_classes::{Class, Examples, Profile};
+use alg_classes::{Class, Example, Fact, Profile};
 use alg_model::{Alg, Label, Tree};
 use meta_base::NoMemory;
 use std::alloc::Global;
@@ -38,17 +37,17 @@ pub fn table_tree_profile(tree: &Tree, label: &Label) -> Profile
     Found::of(&Row::of(tree, label)).profile()
 }
 
-/// The first examples of the facts that fail of a label of a table, which is the whole tree. It takes no memory, and
-/// time in proportion to the pairs of the table's values.
-pub fn table_examples(tree: &Tree, label: &Label) -> Examples
+/// The first example against the fact of a label of a table, which is the whole tree, or `None` where the label has it.
+/// It takes no memory, and time in proportion to the pairs of the table's values at most.
+pub fn table_example(tree: &Tree, label: &Label, fact: Fact) -> Option<Example>
     requires table { IsTable (expression_of tree.now) }
     requires formed { MeetsRanges (expression_of tree.now) }
     requires label { IsLabel (expression_of tree.now) (pure_label label.now) }
-    ensures answers { (k : Fact) → IsAnswer (carrier_of (expression_of tree.now))
-        (App (expression_of tree.now) (pure_label label.now)) k (pure_examples result k) }
-    ensures bound { ExamplesAtMost MAX_INSTANCE_NUMBER (pure_examples result) }
+    ensures answer { IsAnswer (carrier_of (expression_of tree.now))
+        (App (expression_of tree.now) (pure_label label.now)) fact (option_map pure_example result) }
+    ensures bound { ExampleAtMost MAX_INSTANCE_NUMBER (option_map pure_example result) }
 {
-    Found::of(&Row::of(tree, label)).examples()
+    Row::of(tree, label).example(fact)
 }
 
 /// For whoever wants classes with their examples; the program needs none. The class of a label of a table algebra: an

@@ -5,15 +5,15 @@
 pub(crate) enum ValueFact {
     Total,
     Dead,
-    Mono,
+    Monotone,
     Strict,
 }
 
 // A fact that two values refute.
 #[derive(Clone, Copy, Debug, PartialEq, Eq)]
 pub(crate) enum PairFact {
-    Iso,
-    Canc,
-    Cond,
+    Isotone,
+    Cancellative,
+    Condensed,
     Narrow,
 }

@@ -1,10 +1,13 @@
 ghost use Rattle.std.specs.Prelude.{◌≡◌, option_map};
 ghost use Rattle.alg_model.specs.declared.tree.Value.{Name};
-ghost use Rattle.table_classes.specs.Found.{AreAnswersOf, found_examples, found_profile, found_class, named_pair};
+ghost use Rattle.alg_model.specs.declared.alg.TheConstants.{MAX_INSTANCE_NUMBER};
+ghost use Rattle.alg_classes.specs.Classes.{ExampleAtMost, pure_example};
+ghost use Rattle.table_classes.specs.Rows.{pair_fact, value_fact};
+ghost use Rattle.table_classes.specs.Found.{AreAnswersOf, IsAnswerOf, found_examples, found_profile, found_class, named_pair};
 
 use crate::fact::{PairFact, ValueFact};
 use crate::row::Row;
-use alg_classes::{Class, Examples, Profile};
+use alg_classes::{Class, Example, Examples, Fact, Profile};
 use alg_model::{Label, Value};
 
 // Where each fact of a row fails: the places of an example, and none where the fact holds.
@@ -28,11 +31,11 @@ impl Found {
         Found {
             outside: row.find_value(ValueFact::Total),
             inside: row.find_value(ValueFact::Dead),
-            not_mono: row.find_value(ValueFact::Mono),
+            not_mono: row.find_value(ValueFact::Monotone),
             not_strict: row.find_value(ValueFact::Strict),
-            not_iso: row.find_pair(PairFact::Iso),
-            not_canc: row.find_pair(PairFact::Canc),
-            not_cond: row.find_pair(PairFact::Cond),
+            not_iso: row.find_pair(PairFact::Isotone),
+            not_canc: row.find_pair(PairFact::Cancellative),
+            not_cond: row.find_pair(PairFact::Condensed),
             not_narrow: row.find_pair(PairFact::Narrow),
         }
     }
@@ -78,6 +81,41 @@ impl Found {
             not_cond: values_at(self.not_cond),
             not_narrow: values_at(self.not_narrow),
         }
+    }
+}
+
+impl Row<'_> {
+    // The first example against the fact, if there is one.
+    pub(crate) fn example(&self, fact: Fact) -> Option<Example>
+        ensures answer { IsAnswerOf self.now fact (option_map pure_example result) }
+        ensures bound { ExampleAtMost MAX_INSTANCE_NUMBER (option_map pure_example result) }
+    {
+        match fact {
+            Fact::Total => self.value_example(ValueFact::Total),
+            Fact::Dead => self.value_example(ValueFact::Dead),
+            Fact::Monotone => self.value_example(ValueFact::Monotone),
+            Fact::Strict => self.value_example(ValueFact::Strict),
+            Fact::Isotone => self.pair_example(PairFact::Isotone),
+            Fact::Cancellative => self.pair_example(PairFact::Cancellative),
+            Fact::Condensed => self.pair_example(PairFact::Condensed),
+            Fact::Narrow => self.pair_example(PairFact::Narrow),
+        }
+    }
+
+    // The first value that refutes the fact.
+    fn value_example(&self, fact: ValueFact) -> Option<Example>
+        ensures answer { IsAnswerOf self.now (value_fact fact) (option_map pure_example result) }
+        ensures bound { ExampleAtMost MAX_INSTANCE_NUMBER (option_map pure_example result) }
+    {
+        Example::at(value_at(self.find_value(fact)))
+    }
+
+    // The first pair of values that refutes the fact.
+    fn pair_example(&self, fact: PairFact) -> Option<Example>
+        ensures answer { IsAnswerOf self.now (pair_fact fact) (option_map pure_example result) }
+        ensures bound { ExampleAtMost MAX_INSTANCE_NUMBER (option_map pure_example result) }
+    {
+        Example::between(values_at(self.find_pair(fact)))
     }
 }
 

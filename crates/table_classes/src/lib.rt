@@ -10,5 +10,5 @@ mod list;
 mod row;
 mod search;
 
-pub use class::{table_class, table_examples, table_profile, table_tree_profile};
+pub use class::{table_class, table_example, table_profile, table_tree_profile};
 pub use list::{table_class_list, table_row_count};

@@ -105,7 +105,7 @@ impl<'a> Row<'a> {
         match (fact, self.image(u)) {
             (ValueFact::Total, image) => image.is_none(),
             (ValueFact::Dead, image) => image.is_some(),
-            (ValueFact::Mono, image) => self.is_preferred(image, Some(u)),
+            (ValueFact::Monotone, image) => self.is_preferred(image, Some(u)),
             (ValueFact::Strict, Some(image)) => !self.is_preferred(Some(u), Some(image)),
             (ValueFact::Strict, None) => false,
         }
@@ -116,17 +116,17 @@ impl<'a> Row<'a> {
         ensures { IsTruthOf result (FailsBetween self.now (pair_fact fact) u v) }
     {
         match (fact, self.image(u), self.image(v)) {
-            (PairFact::Iso, first, second) => {
+            (PairFact::Isotone, first, second) => {
                 !self.is_preferred(Some(v), Some(u)) && self.is_preferred(second, first)
             }
-            (PairFact::Canc, first, second) => {
+            (PairFact::Cancellative, first, second) => {
                 self.are_equivalent(first, second) && self.is_preferred(Some(u), Some(v))
             }
-            (PairFact::Cond, Some(first), Some(second)) => {
+            (PairFact::Condensed, Some(first), Some(second)) => {
                 self.is_preferred(Some(first), Some(second))
             }
             (PairFact::Narrow, Some(_), Some(_)) => self.is_preferred(Some(u), Some(v)),
-            (PairFact::Cond | PairFact::Narrow, _, _) => false,
+            (PairFact::Condensed | PairFact::Narrow, _, _) => false,
         }
     }
 }

@@ -9,9 +9,9 @@ use Rattle.path_vector.specs.Node.{PvState, PureUpdate, node_rows}
 use Rattle.path_vector.specs.Nodes.{PureNode, state_of}
 use Rattle.testkit_nodes.proofs.Rows.{same_places}
 
-pub rows_told : {E : Type 0} (net : PureNet) (c : Machine PvState PureUpdate) (nodes : List PureNode) (r : Result (List RouteRow) E) → ((i : ℕ) → c.node i ≡ option_map state_of (slice_get nodes i))
+pub rows_reported : {E : Type 0} (net : PureNet) (c : Machine PvState PureUpdate) (nodes : List PureNode) (r : Result (List RouteRow) E) → ((i : ℕ) → c.node i ≡ option_map state_of (slice_get nodes i))
     → IfOk r (λ rows. map pure_row rows ≡ node_rows net (map state_of nodes))
     → IfOk r (λ rows. (states : List PvState) → ((i : ℕ) → c.node i ≡ slice_get states i) → map pure_row rows ≡ node_rows net states)
-rows_told net c nodes (Err x) at told = tt
-rows_told net c nodes (Ok rows) at told = λ states are.
-    told ∙ ap (node_rows net) (same_places (map state_of nodes) states (λ i. slice_get-map state_of nodes i ∙ (sym (at i) ∙ are i)))
+rows_reported net c nodes (Err x) at reported = tt
+rows_reported net c nodes (Ok rows) at reported = λ states are.
+    reported ∙ ap (node_rows net) (same_places (map state_of nodes) states (λ i. slice_get-map state_of nodes i ∙ (sym (at i) ∙ are i)))

@@ -18,7 +18,7 @@ const WAIT_TURNS: u64 = 100_000_000;
 const HOPS: &str = "add(1..1)";
 
 // Runs the network of these lines and reports to the gate.
-fn run_told<G: Gate, R: Threads + Wait + Sync>(
+fn run_reported<G: Gate, R: Threads + Wait + Sync>(
     rt: &R,
     alloc: Global,
     lines: &[u8],
@@ -105,7 +105,7 @@ origin v at d : 0
 fn workers_run_at_once(rt: HostRuntime) -> Result<(), Fail> {
     for _ in 0..RUNS {
         let gate = Meeting::new();
-        run_told(&rt, rt.alloc(), APART, 2, &gate)?;
+        run_reported(&rt, rt.alloc(), APART, 2, &gate)?;
         assert!(rt; !gate.has_given_up.load(Ordering::SeqCst));
         assert_eq!(rt; gate.counts(), (2, 2, 0));
     }
@@ -161,7 +161,7 @@ const C_TO_D: ArcId = ArcId(3);
 fn rings_carry_what_is_sent(rt: HostRuntime) -> Result<(), Fail> {
     for _ in 0..RUNS {
         let gate = Witness::new(C_TO_D);
-        run_told(&rt, rt.alloc(), DIAMOND, 2, &gate)?;
+        run_reported(&rt, rt.alloc(), DIAMOND, 2, &gate)?;
         assert_eq!(rt; gate.maker.load(Ordering::SeqCst), 0);
     }
     Ok(())
@@ -171,7 +171,7 @@ fn rings_carry_what_is_sent(rt: HostRuntime) -> Result<(), Fail> {
 fn one_worker_makes_all(rt: HostRuntime) -> Result<(), Fail> {
     for _ in 0..RUNS {
         let gate = Witness::new(C_TO_D);
-        run_told(&rt, rt.alloc(), DIAMOND, 1, &gate)?;
+        run_reported(&rt, rt.alloc(), DIAMOND, 1, &gate)?;
         assert_eq!(rt; gate.first.load(Ordering::SeqCst), 4);
         assert_eq!(rt; gate.others.load(Ordering::SeqCst), 0);
     }

@@ -87,7 +87,7 @@ fn ends_look_again(rt: HostRuntime) -> Result<(), Fail> {
 }
 
 // Sends the numbers from 0 on, and flushes until a report says that they came, at most LOOKS times.
-fn send_numbers(mut out: OutEnd<u64>, told: &AtomicBool) -> OutEnd<u64>
+fn send_numbers(mut out: OutEnd<u64>, reported: &AtomicBool) -> OutEnd<u64>
     requires { ITEMS ≤ spare_of out }
     ensures { out_link result ≡ out_link out }
 {
@@ -96,7 +96,7 @@ fn send_numbers(mut out: OutEnd<u64>, told: &AtomicBool) -> OutEnd<u64>
         out.flush();
     }
     for _ in 0..LOOKS {
-        if told.load(Ordering::SeqCst) {
+        if reported.load(Ordering::SeqCst) {
             break;
         }
         out.flush();
@@ -106,7 +106,7 @@ fn send_numbers(mut out: OutEnd<u64>, told: &AtomicBool) -> OutEnd<u64>
 }
 
 // Takes the numbers in order, and tells so. It gives up at another number, or after LOOKS looks.
-fn take_numbers(mut into: InEnd<u64>, told: &AtomicBool) -> (InEnd<u64>, u64)
+fn take_numbers(mut into: InEnd<u64>, reported: &AtomicBool) -> (InEnd<u64>, u64)
     ensures { in_link result.0 ≡ in_link into }
 {
     let mut next = 0;
@@ -120,7 +120,7 @@ fn take_numbers(mut into: InEnd<u64>, told: &AtomicBool) -> (InEnd<u64>, u64)
             break;
         }
     }
-    told.store(true, Ordering::SeqCst);
+    reported.store(true, Ordering::SeqCst);
     (into, next)
 }
 
@@ -128,11 +128,11 @@ fn take_numbers(mut into: InEnd<u64>, told: &AtomicBool) -> (InEnd<u64>, u64)
 fn numbers_across_threads(rt: HostRuntime) -> Result<(), Fail> {
     let (mut out, into) = link(rt.alloc(), 4)?;
     out.reserve(1000)?;
-    let told = AtomicBool::new(false);
+    let reported = AtomicBool::new(false);
     let (out, (into, taken)) = thread::join(
         &rt,
-        || send_numbers(out, &told),
-        || take_numbers(into, &told),
+        || send_numbers(out, &reported),
+        || take_numbers(into, &reported),
     );
     assert_eq!(rt; taken, ITEMS);
     let waiting = settle_pair(rt.alloc(), out, into)?;

@@ -238,7 +238,7 @@ const PHASES: &[Phase] = &[
 ];
 
 #[test]
-fn phases_end_as_told(rt: HostRuntime) -> Result<(), Fail> {
+fn phases_end_as_reported(rt: HostRuntime) -> Result<(), Fail> {
     for phase in PHASES {
         for workers in phase.workers {
             let are_right = runs_so(&rt, rt.alloc(), *workers, phase)?;

@@ -51,7 +51,7 @@ impl<'a> Tally<'a> {
     }
 
     // Whether such deliveries, and of no others.
-    fn was_told(&self, journal: &[Delivery]) -> bool {
+    fn was_reported(&self, journal: &[Delivery]) -> bool {
         let clocks = journal
             .iter()
             .fold(0u64, |sum, made| sum.wrapping_add(made.clock));
@@ -140,7 +140,7 @@ fn keeps_turns(ran: &Ran, turns: u64) -> bool {
 }
 
 // Whether a run on the network is quiet; none where it isn't as its journal tells.
-fn quiet_as_told<R: Threads + Wait + Sync>(
+fn quiet_as_reported<R: Threads + Wait + Sync>(
     rt: &R,
     alloc: Global,
     net: &Net,
@@ -151,7 +151,7 @@ fn quiet_as_told<R: Threads + Wait + Sync>(
     let ran = run(rt, alloc, net, workers, turns, &tally)?;
     let journal = ran.journal.as_slice();
     let is_right = keeps_turns(&ran, turns)
-        && tally.was_told(journal)
+        && tally.was_reported(journal)
         && ascends(net, journal)
         && is_replayed(alloc, net, &ran)?;
     Ok(if is_right { Some(ran.is_quiet) } else { None })
@@ -167,7 +167,7 @@ fn quiet_over<R: Threads + Wait + Sync>(
     turns: u64,
 ) -> Result<Option<bool>, Fail> {
     let net = network(alloc, kind.expression, lines.as_bytes())?;
-    let answer = quiet_as_told(rt, alloc, &net, workers, turns);
+    let answer = quiet_as_reported(rt, alloc, &net, workers, turns);
     drop(net);
     answer
 }

@@ -4,7 +4,7 @@ use Rattle.std.proofs.Common.{◌≡◌, ◌≤◌, ◌<◌, ◌+◌, ℕ, Bool,
 use Rattle.std.proofs.lemmas.List.{length_push}
 use Rattle.std.proofs.lemmas.Bool.Decides.{nat_tests}
 use Rattle.std.specs.Option.{ok_or}
-use Rattle.alg_model.specs.Expressions.{Expression, PureAlg, PureLabel, PureValue}
+use Rattle.alg_model.specs.Expressions.{PureAlg, PureLabel, PureValue}
 use Rattle.alg_model.specs.Application.{IsLabel}
 use Rattle.alg_model.specs.Bounds.{LabelAtMost, greatest_number}
 use Rattle.net_graph.specs.declared.limits.TheConstants.{MAX_ARCS}
@@ -14,8 +14,7 @@ use Rattle.net_graph.specs.Lines.{with_node, with_arc, with_origin, with_origin_
 use Rattle.net_graph.specs.Changes.{PureChange, link, drop, MayChange, AreChanges}
 use Rattle.net_graph.specs.Laws.{are_changes_more}
 use Rattle.sig_text.specs.declared.faults.LitFault.{LitFault}
-use Rattle.sig_text.specs.Literals.{LabelText, LabelTextTo, IsLabelFaultTo}
-use Rattle.sig_text.specs.Spelled.{Tells, spelled_label, spelled_label_to}
+use Rattle.sig_text.specs.Literals.{LabelText, Spelling, SpellsLabel, IsSpelling}
 use Rattle.topology_file.specs.declared.faults.NetKind.{NetKind}
 use Rattle.topology_file.specs.declared.faults.NetKind.TheVariants.{BadLine, UnknownNode, NodeTwice, ArcTwice, SelfArc, OriginTwice, TooMany, AfterThen, NoArc}
 use Rattle.topology_file.specs.declared.faults.What.TheVariants.{Nodes, Arcs, Dests, Changes}
@@ -59,15 +58,15 @@ one_arc_keeps net tail head l = if_keeps (HasAlg net.alg) (leb (length net.arcs 
 two_arcs_keep : (net : PureNet) (tail head : ℕ) (l : PureLabel) → IfOk (two_arcs net tail head l) (HasAlg net.alg)
 two_arcs_keep net tail head l = if_keeps (HasAlg net.alg) (leb (length net.arcs + 2) MAX_ARCS) (Ok (with_arc (with_arc net tail head l) head tail l)) (Err (TooMany Arcs)) (λ _. refl) (λ _. tt)
 
-link_keeps : (net : PureNet) (a b text : List ℕ) → IfOk (after_link net a b text) (HasAlg net.alg)
-link_keeps net a b text = then_keeps (HasAlg net.alg) (ends_in net a b) (λ ends. link_between net text ends.0 ends.1) (λ ends _.
-    if_keeps (HasAlg net.alg) (has_arc net ends.0 ends.1) (Err ArcTwice) (and_then (label_in net.alg text) (one_arc net ends.0 ends.1)) (λ _. tt)
-    (λ _. then_keeps (HasAlg net.alg) (label_in net.alg text) (one_arc net ends.0 ends.1) (λ l _. one_arc_keeps net ends.0 ends.1 l)))
+link_keeps : (s : Spelling) (net : PureNet) (a b text : List ℕ) → IfOk (after_link s net a b text) (HasAlg net.alg)
+link_keeps s net a b text = then_keeps (HasAlg net.alg) (ends_in net a b) (λ ends. link_between s net text ends.0 ends.1) (λ ends _.
+    if_keeps (HasAlg net.alg) (has_arc net ends.0 ends.1) (Err ArcTwice) (and_then (label_in s net.alg text) (one_arc net ends.0 ends.1)) (λ _. tt)
+    (λ _. then_keeps (HasAlg net.alg) (label_in s net.alg text) (one_arc net ends.0 ends.1) (λ l _. one_arc_keeps net ends.0 ends.1 l)))
 
-both_keeps : (net : PureNet) (a b text : List ℕ) → IfOk (after_both net a b text) (HasAlg net.alg)
-both_keeps net a b text = then_keeps (HasAlg net.alg) (ends_in net a b) (λ ends. both_between net text ends.0 ends.1) (λ ends _.
-    if_keeps (HasAlg net.alg) (has_arc net ends.0 ends.1 || has_arc net ends.1 ends.0) (Err ArcTwice) (and_then (label_in net.alg text) (two_arcs net ends.0 ends.1)) (λ _. tt)
-    (λ _. then_keeps (HasAlg net.alg) (label_in net.alg text) (two_arcs net ends.0 ends.1) (λ l _. two_arcs_keep net ends.0 ends.1 l)))
+both_keeps : (s : Spelling) (net : PureNet) (a b text : List ℕ) → IfOk (after_both s net a b text) (HasAlg net.alg)
+both_keeps s net a b text = then_keeps (HasAlg net.alg) (ends_in net a b) (λ ends. both_between s net text ends.0 ends.1) (λ ends _.
+    if_keeps (HasAlg net.alg) (has_arc net ends.0 ends.1 || has_arc net ends.1 ends.0) (Err ArcTwice) (and_then (label_in s net.alg text) (two_arcs net ends.0 ends.1)) (λ _. tt)
+    (λ _. then_keeps (HasAlg net.alg) (label_in s net.alg text) (two_arcs net ends.0 ends.1) (λ l _. two_arcs_keep net ends.0 ends.1 l)))
 
 one_origin_keeps : (net : PureNet) (dest : List ℕ) (node : ℕ) (v : PureValue) → IfOk (one_origin net dest node v) (HasAlg net.alg)
 one_origin_keeps net dest node v = if_keeps (HasAlg net.alg) (has_room_for net (number_of net.dests dest)) (Ok (with_origin net dest node v)) (Err (TooMany Dests)) (λ _. by (number_of net.dests dest)) (λ _. tt)
@@ -76,10 +75,10 @@ one_origin_keeps net dest node v = if_keeps (HasAlg net.alg) (has_room_for net (
     by None = refl
     by (Some d) = refl
 
-origin_keeps : (net : PureNet) (dest a text : List ℕ) → IfOk (after_origin net dest a text) (HasAlg net.alg)
-origin_keeps net dest a text = then_keeps (HasAlg net.alg) (node_in net a) (origin_at net dest text) (λ node _.
-    if_keeps (HasAlg net.alg) (has_origin_of net (number_of net.dests dest) node) (Err OriginTwice) (and_then (value_in net.alg text) (one_origin net dest node)) (λ _. tt)
-    (λ _. then_keeps (HasAlg net.alg) (value_in net.alg text) (one_origin net dest node) (λ v _. one_origin_keeps net dest node v)))
+origin_keeps : (s : Spelling) (net : PureNet) (dest a text : List ℕ) → IfOk (after_origin s net dest a text) (HasAlg net.alg)
+origin_keeps s net dest a text = then_keeps (HasAlg net.alg) (node_in net a) (origin_at s net dest text) (λ node _.
+    if_keeps (HasAlg net.alg) (has_origin_of net (number_of net.dests dest) node) (Err OriginTwice) (and_then (value_in s net.alg text) (one_origin net dest node)) (λ _. tt)
+    (λ _. then_keeps (HasAlg net.alg) (value_in s net.alg text) (one_origin net dest node) (λ v _. one_origin_keeps net dest node v)))
 
 -- what is kept of all that was given so far
 pub record IsKept (alg : PureAlg) (f : PureNetFile) : Type 0 where
@@ -138,28 +137,29 @@ ends_are net a b tail head e = by (number_of net.nodes a) (number_of net.nodes b
         rw (← is.0, ← is.1) (record { tail_in = first; head_in = second; apart = grind (arith, nat_tests) })
 
 -- what a text spells as a label is one, with numbers that its edition allows
-abbrev pub SpellLabels : Type 0
-SpellLabels = (a : PureAlg) (text : List ℕ) (l : PureLabel) → spelled_label a text ≡ Ok l → IsLabel a.expression l × LabelAtMost (greatest_number a.edition) l
+abbrev pub AreLabels : Type 0
+AreLabels = (a : PureAlg) (text : List ℕ) (l : PureLabel) → LabelText a text l → IsLabel a.expression l × LabelAtMost (greatest_number a.edition) l
 
--- so it is where the functions of texts say what texts spell
-pub spell_labels : ((greatest : ℕ) (a : Expression) (text : List ℕ) → Tells (spelled_label_to greatest a text) (LabelTextTo greatest a text) (IsLabelFaultTo greatest a text))
-    → ((a : PureAlg) (text : List ℕ) (l : PureLabel) → LabelText a text l → IsLabel a.expression l × LabelAtMost (greatest_number a.edition) l) → SpellLabels
-spell_labels told good a text l e = good a text l ((told (greatest_number a.edition) a.expression text).is_spelled l e)
+abbrev SpellLabels : Spelling → Type 0
+SpellLabels s = (a : PureAlg) (text : List ℕ) (l : PureLabel) → s.label a text ≡ Ok l → IsLabel a.expression l × LabelAtMost (greatest_number a.edition) l
 
-label_is : (alg : PureAlg) (text : List ℕ) (l : PureLabel) → label_in alg text ≡ Ok l → spelled_label alg text ≡ Ok l
-label_is alg text l e = by (spelled_label alg text) e
+spell_labels : AreLabels → (s : Spelling) → IsSpelling s → SpellLabels s
+spell_labels good s i a text l e = good a text l (subst (SpellsLabel a text) e (i.labels a text))
+
+label_is : (s : Spelling) (alg : PureAlg) (text : List ℕ) (l : PureLabel) → label_in s alg text ≡ Ok l → s.label alg text ≡ Ok l
+label_is s alg text l e = by (s.label alg text) e
   where
     by : (r : Result PureLabel LitFault) → as_label r ≡ Ok l → r ≡ Ok l
     by (Ok m) g = cc
     by (Err fault) g = absurd (cc)
 
-then_link_keeps : SpellLabels → (alg : PureAlg) (f : PureNetFile) (a b text : List ℕ) → IsKept alg f → IfOk (after_then_link f a b text) (IsKept alg)
-then_link_keeps labels alg f a b text k =
-    then_keeps (IsKept alg) (ends_in f.net a b) (λ ends. and_then (label_in f.net.alg text) (one_link f ends.0 ends.1)) (λ ends is.
-    then_keeps (IsKept alg) (label_in f.net.alg text) (one_link f ends.0 ends.1) (λ l spells.
+then_link_keeps : (s : Spelling) → SpellLabels s → (alg : PureAlg) (f : PureNetFile) (a b text : List ℕ) → IsKept alg f → IfOk (after_then_link s f a b text) (IsKept alg)
+then_link_keeps s labels alg f a b text k =
+    then_keeps (IsKept alg) (ends_in f.net a b) (λ ends. and_then (label_in s f.net.alg text) (one_link f ends.0 ends.1)) (λ ends is.
+    then_keeps (IsKept alg) (label_in s f.net.alg text) (one_link f ends.0 ends.1) (λ l spells.
     if_keeps (IsKept alg) (has_room_to_link f ends.0 ends.1) (with_change f (link ends.0 ends.1 l)) (Err (TooMany Arcs))
     (λ room.
-    let good = labels f.net.alg text l (label_is f.net.alg text l spells) in
+    let good = labels f.net.alg text l (label_is s f.net.alg text l spells) in
     change_keeps alg f (link ends.0 ends.1 l) k (may_link f ends.0 ends.1 l (ends_are f.net a b ends.0 ends.1 is) good.0 good.1 room))
     (λ _. tt)))
 
@@ -169,23 +169,24 @@ then_drop_keeps alg f a b k =
     if_keeps (IsKept alg) (has_arc (changed_net f) ends.0 ends.1) (with_change f (drop ends.0 ends.1)) (Err NoArc)
     (λ there. change_keeps alg f (drop ends.0 ends.1) k there) (λ _. tt))
 
-form_keeps : SpellLabels → (alg : PureAlg) (f : PureNetFile) (line : forms.PureLine) → IsKept alg f → IfOk (after_form f line) (IsKept alg)
-form_keeps labels alg f forms.silent k = k
-form_keeps labels alg f (forms.nodes names) k = before_keeps alg f (after_nodes f.net names) k (nodes_keep f.net names)
-form_keeps labels alg f (forms.link a b text) k = before_keeps alg f (after_link f.net a b text) k (link_keeps f.net a b text)
-form_keeps labels alg f (forms.both a b text) k = before_keeps alg f (after_both f.net a b text) k (both_keeps f.net a b text)
-form_keeps labels alg f (forms.origin dest a text) k = before_keeps alg f (after_origin f.net dest a text) k (origin_keeps f.net dest a text)
-form_keeps labels alg f (forms.then_link a b text) k = then_link_keeps labels alg f a b text k
-form_keeps labels alg f (forms.then_drop a b) k = then_drop_keeps alg f a b k
-form_keeps labels alg f forms.bad k = tt
+form_keeps : (s : Spelling) → SpellLabels s → (alg : PureAlg) (f : PureNetFile) (line : forms.PureLine) → IsKept alg f → IfOk (after_form s f line) (IsKept alg)
+form_keeps s labels alg f forms.silent k = k
+form_keeps s labels alg f (forms.nodes names) k = before_keeps alg f (after_nodes f.net names) k (nodes_keep f.net names)
+form_keeps s labels alg f (forms.link a b text) k = before_keeps alg f (after_link s f.net a b text) k (link_keeps s f.net a b text)
+form_keeps s labels alg f (forms.both a b text) k = before_keeps alg f (after_both s f.net a b text) k (both_keeps s f.net a b text)
+form_keeps s labels alg f (forms.origin dest a text) k = before_keeps alg f (after_origin s f.net dest a text) k (origin_keeps s f.net dest a text)
+form_keeps s labels alg f (forms.then_link a b text) k = then_link_keeps s labels alg f a b text k
+form_keeps s labels alg f (forms.then_drop a b) k = then_drop_keeps alg f a b k
+form_keeps s labels alg f forms.bad k = tt
 
-line_keeps : SpellLabels → (alg : PureAlg) (f : PureNetFile) (line : List ℕ) → IsKept alg f → IfOk (after_line f line) (IsKept alg)
-line_keeps labels alg f line k =
-    if_keeps (IsKept alg) (leb (length line) MAX_LINE_BYTES) (after_form f (forms.line_of (said_of line))) (Err BadLine) (λ _. form_keeps labels alg f (forms.line_of (said_of line)) k) (λ _. tt)
+line_keeps : (s : Spelling) → SpellLabels s → (alg : PureAlg) (f : PureNetFile) (line : List ℕ) → IsKept alg f → IfOk (after_line s f line) (IsKept alg)
+line_keeps s labels alg f line k =
+    if_keeps (IsKept alg) (leb (length line) MAX_LINE_BYTES) (after_form s f (forms.line_of (said_of line))) (Err BadLine) (λ _. form_keeps s labels alg f (forms.line_of (said_of line)) k) (λ _. tt)
 
-lines_keep : SpellLabels → (alg : PureAlg) (f : PureNetFile) (lines : List (List ℕ)) (last : PureNetFile) → IsKept alg f → Lead f lines last → IsKept alg last
-lines_keep labels alg f [] last k h = rw h k
-lines_keep labels alg f (line ∷ lines) last k h = lines_keep labels alg h.0 lines last (subst (λ r. IfOk r (IsKept alg)) h.1 (line_keeps labels alg f line k)) h.2
+lines_keep : (s : Spelling) → SpellLabels s → (alg : PureAlg) (f : PureNetFile) (lines : List (List ℕ)) (last : PureNetFile) → IsKept alg f → Lead s f lines last → IsKept alg last
+lines_keep s labels alg f [] last k h = rw h k
+lines_keep s labels alg f (line ∷ lines) last k h = lines_keep s labels alg h.0 lines last (subst (λ r. IfOk r (IsKept alg)) h.1 (line_keeps s labels alg f line k)) h.2
 
-pub kept : SpellLabels → (text : List ℕ) (alg : PureAlg) (f : PureNetFile) → NetText text alg f → IsKept alg f
-kept labels text alg f h = lines_keep labels alg (empty_file alg) (lines_of text) f (record { alg_is = refl; few = omega arith; may = tt }) h
+pub kept : AreLabels → (text : List ℕ) (alg : PureAlg) (f : PureNetFile) → NetText text alg f → IsKept alg f
+kept good text alg f h =
+    lines_keep h.0 (spell_labels good h.0 h.1) alg (empty_file alg) (lines_of text) f (record { alg_is = refl; few = omega arith; may = tt }) h.2

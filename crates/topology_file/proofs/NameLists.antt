@@ -12,7 +12,7 @@ use Rattle.topology_file.specs.declared.faults.What.TheVariants.{Nodes}
 use Rattle.topology_file.specs.declared.faults.NetKind.{NetKind}
 use Rattle.topology_file.specs.declared.faults.NetKind.TheVariants.{BadLine, NodeTwice, TooMany}
 use Rattle.topology_file.specs.NetText.{names_twice}
-use Rattle.topology_file.specs.LineErrors.{after_names, fault_behind}
+use Rattle.topology_file.specs.LineErrors.{after_names, fault_after}
 
 -- the number of a name is that of one of them
 pub named_within : (names : List (List ℕ)) (name : List ℕ) (n : ℕ) → number_of names name ≡ Some n → n < length names
@@ -73,9 +73,9 @@ twice_more there new (name ∷ names) =
 pub twice_first : (there : List (List ℕ)) (name : List ℕ) (names : List (List ℕ)) → names_twice there (name ∷ names) ≡ (is_some (number_of there name) || (list_any (λ w. bytes_eq w name) names || names_twice there names))
 twice_first there name names = rw (twice_more there name names) refl
 
-behind : (b : Bool) (kind : NetKind) (r : Result PureNet NetKind) → r ≡ Err kind → cond b r (Err BadLine) ≡ Err (cond b kind BadLine)
-behind true kind r e = e
-behind false kind r e = refl
+after : (b : Bool) (kind : NetKind) (r : Result PureNet NetKind) → r ≡ Err kind → cond b r (Err BadLine) ≡ Err (cond b kind BadLine)
+after true kind r e = e
+after false kind r e = refl
 
 -- the first of these nodes is added, and then the others
 pub names_more : (net : PureNet) (name : List ℕ) (names : List (List ℕ)) → is_name name ≡ true → number_of net.nodes name ≡ None → after_names net (name ∷ names) ≡ after_names (with_node net name) names
@@ -84,21 +84,21 @@ names_more net name names named absent =
     rw (named, absent, count) refl
 
 -- the first is there
-pub names_there : (net : PureNet) (name : List ℕ) (names : List (List ℕ)) (k : ℕ) → is_name name ≡ true → number_of net.nodes name ≡ Some k → after_names net (name ∷ names) ≡ Err (fault_behind NodeTwice names)
-names_there net name names k named e = rw (named, e) (behind (list_all is_name names) NodeTwice (Err NodeTwice) refl)
+pub names_there : (net : PureNet) (name : List ℕ) (names : List (List ℕ)) (k : ℕ) → is_name name ≡ true → number_of net.nodes name ≡ Some k → after_names net (name ∷ names) ≡ Err (fault_after NodeTwice names)
+names_there net name names k named e = rw (named, e) (after (list_all is_name names) NodeTwice (Err NodeTwice) refl)
 
 -- no node may be added, and a name stands twice
 pub full_twice : (net : PureNet) (name : List ℕ) (names : List (List ℕ)) → is_name name ≡ true → number_of net.nodes name ≡ None
-    → (list_any (λ w. bytes_eq w name) names || names_twice net.nodes names) ≡ true → after_names net (name ∷ names) ≡ Err (fault_behind NodeTwice names)
-full_twice net name names named absent twice = rw (named, absent, twice_more net.nodes name names, twice) (behind (list_all is_name names) NodeTwice (Err NodeTwice) refl)
+    → (list_any (λ w. bytes_eq w name) names || names_twice net.nodes names) ≡ true → after_names net (name ∷ names) ≡ Err (fault_after NodeTwice names)
+full_twice net name names named absent twice = rw (named, absent, twice_more net.nodes name names, twice) (after (list_all is_name names) NodeTwice (Err NodeTwice) refl)
 
 -- or none does
 pub full_once : (net : PureNet) (name : List ℕ) (names : List (List ℕ)) → is_name name ≡ true → number_of net.nodes name ≡ None → max_nodes net.alg.edition ≤ length net.nodes
-    → (list_any (λ w. bytes_eq w name) names || names_twice net.nodes names) ≡ false → after_names net (name ∷ names) ≡ Err (fault_behind (TooMany Nodes) names)
+    → (list_any (λ w. bytes_eq w name) names || names_twice net.nodes names) ≡ false → after_names net (name ∷ names) ≡ Err (fault_after (TooMany Nodes) names)
 full_once net name names named absent full once =
     let above : ltb (max_nodes net.alg.edition) (length net.nodes + length (name ∷ names)) ≡ true = grind (arith, nat_tests) in
     let room : leb (length net.nodes + length (name ∷ names)) (max_nodes net.alg.edition) ≡ false = grind (arith, nat_tests) in
-    rw (named, absent, twice_more net.nodes name names, once, room) (behind (list_all is_name names) (TooMany Nodes) (Err (TooMany Nodes)) refl)
+    rw (named, absent, twice_more net.nodes name names, once, room) (after (list_all is_name names) (TooMany Nodes) (Err (TooMany Nodes)) refl)
 
 -- no name adds nothing
 pub names_none : (net : PureNet) → IsNet net → after_names net [] ≡ Ok net

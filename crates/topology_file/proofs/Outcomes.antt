@@ -1,22 +1,24 @@
 -- What the lines of a text come to is what the text means.
 use Rattle.std.proofs.Common.{◌≡◌, ℕ, List, [], ◌∷◌, refl, ◌∙◌}
 use Rattle.alg_model.specs.Expressions.{PureAlg}
+use Rattle.sig_text.specs.Literals.{IsSpelling}
+use Rattle.sig_text.specs.Spelled.{spelled}
 use Rattle.topology_file.specs.declared.errors.LineError.{LineError}
 use Rattle.topology_file.specs.declared.errors.LineError.TheVariants.{Bad, NoMemory}
 use Rattle.topology_file.specs.Texts.{lines_of}
 use Rattle.topology_file.specs.NetText.{PureNetFile, empty_file, after_line, NetText, IsRefusedBy}
 use Rattle.topology_file.specs.LineErrors.{IsRefusedAs, error_at}
-use Rattle.topology_file.proofs.Runs.{outcome, lead_outcome, outcome_is_fault}
+use Rattle.topology_file.proofs.Runs.{outcome, outcome_is_text, outcome_is_fault}
 
 -- the network is that of the text where no line is left
-pub read_to_end : (source : List ℕ) (alg : PureAlg) (file : PureNetFile) (n : ℕ) (lines : List (List ℕ))
+pub read_to_end : IsSpelling spelled → (source : List ℕ) (alg : PureAlg) (file : PureNetFile) (n : ℕ) (lines : List (List ℕ))
     → outcome (empty_file alg) 1 (lines_of source) ≡ outcome file n lines → lines ≡ [] → NetText source alg file
-read_to_end source alg file n [] e f = lead_outcome (lines_of source) (empty_file alg) file 1 e
-read_to_end source alg file n (line ∷ lines) e f = absurd (cc)
+read_to_end is source alg file n [] e f = outcome_is_text is source alg file e
+read_to_end is source alg file n (line ∷ lines) e f = absurd (cc)
 
 -- the text is refused where the next line is
-pub refused_at : (source : List ℕ) (alg : PureAlg) (file : PureNetFile) (n : ℕ) (line : List ℕ) (lines others : List (List ℕ)) (error : LineError)
-    → outcome (empty_file alg) 1 (lines_of source) ≡ outcome file n lines → lines ≡ line ∷ others → IsRefusedAs (after_line file line) error → IsRefusedBy source alg (error_at n error)
-refused_at source alg file n line lines others (Bad kind) e f h =
-    outcome_is_fault source alg (record { line = n; kind = kind }) (e ∙ rw (f, h) refl)
-refused_at source alg file n line lines others NoMemory e f h = tt
+pub refused_at : IsSpelling spelled → (source : List ℕ) (alg : PureAlg) (file : PureNetFile) (n : ℕ) (line : List ℕ) (lines others : List (List ℕ)) (error : LineError)
+    → outcome (empty_file alg) 1 (lines_of source) ≡ outcome file n lines → lines ≡ line ∷ others → IsRefusedAs (after_line spelled file line) error → IsRefusedBy source alg (error_at n error)
+refused_at is source alg file n line lines others (Bad kind) e f h =
+    outcome_is_fault is source alg (record { line = n; kind = kind }) (e ∙ rw (f, h) refl)
+refused_at is source alg file n line lines others NoMemory e f h = tt

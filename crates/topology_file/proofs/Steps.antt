@@ -12,9 +12,10 @@ use Rattle.net_graph.specs.Nets.{PureNet, IsNet, has_arc, has_origin, is_name}
 use Rattle.net_graph.specs.NetLaws.{none_past}
 use Rattle.net_graph.specs.Lines.{with_dest}
 use Rattle.net_graph.specs.Changes.{PureChange, link, drop, changed, MayChange}
-use Rattle.net_graph.specs.ChangeSteps.{is_there_behind_all}
+use Rattle.net_graph.specs.ChangeSteps.{is_there_after_all}
 use Rattle.net_graph.specs.Laws.{after_all_is_net, after_all_has_arc, linked_count, added_count, dropped_count, after_all_more, are_changes_more, after_all_keeps}
 use Rattle.net_graph.specs.Views.{pure_change}
+use Rattle.sig_text.specs.Spelled.{spelled}
 use Rattle.topology_file.specs.declared.faults.NetKind.TheVariants.{AfterThen, BadLine, TooMany}
 use Rattle.topology_file.specs.declared.faults.What.TheVariants.{Arcs}
 use Rattle.topology_file.specs.declared.errors.LineError.{LineError}
@@ -33,7 +34,7 @@ new_dest_has_none net name dest node n e = rw e (none_past net.alg (length net.n
 
 -- what the changes say of an arc
 pub draft_has_arc : (net : PureNet) (changes : List Change) (tail head : ℕ)
-    → is_there_behind_all tail head (map pure_change changes) (has_arc net tail head) ≡ has_arc (changed_net (file_with net changes)) tail head
+    → is_there_after_all tail head (map pure_change changes) (has_arc net tail head) ≡ has_arc (changed_net (file_with net changes)) tail head
 draft_has_arc net changes tail head = sym (after_all_has_arc net (map pure_change changes) tail head)
 
 pub draft_is_net : (net : PureNet) (changes : List Change) (count : ℕ) → IsNet net → IsDraft (file_with net changes) count → IsNet (changed_net (file_with net changes))
@@ -64,16 +65,16 @@ dropped f count tail head d n e =
     (omega arith, omega arith)
 
 -- `then link`
-pub link_refused : (f : PureNetFile) (a b text : List ℕ) (tail head : ℕ) (e : LineError) → ends_in f.net a b ≡ Ok (tail, head) → IsRefusedAs (label_in f.net.alg text) e → IsRefusedAs (after_then_link f a b text) e
+pub link_refused : (f : PureNetFile) (a b text : List ℕ) (tail head : ℕ) (e : LineError) → ends_in f.net a b ≡ Ok (tail, head) → IsRefusedAs (label_in spelled f.net.alg text) e → IsRefusedAs (after_then_link spelled f a b text) e
 link_refused f a b text tail head (Bad kind) n h = rw (n, h) refl
 link_refused f a b text tail head NoMemory n h = tt
 
-pub link_full : (f : PureNetFile) (a b text : List ℕ) (tail head : ℕ) (l : PureLabel) → ends_in f.net a b ≡ Ok (tail, head) → label_in f.net.alg text ≡ Ok l → has_room_to_link f tail head ≡ false
-    → after_then_link f a b text ≡ Err (TooMany Arcs)
+pub link_full : (f : PureNetFile) (a b text : List ℕ) (tail head : ℕ) (l : PureLabel) → ends_in f.net a b ≡ Ok (tail, head) → label_in spelled f.net.alg text ≡ Ok l → has_room_to_link f tail head ≡ false
+    → after_then_link spelled f a b text ≡ Err (TooMany Arcs)
 link_full f a b text tail head l n h r = rw (n, h, r) refl
 
-pub link_made : (f : PureNetFile) (a b text : List ℕ) (tail head : ℕ) (l : PureLabel) → ends_in f.net a b ≡ Ok (tail, head) → label_in f.net.alg text ≡ Ok l → has_room_to_link f tail head ≡ true
-    → after_then_link f a b text ≡ with_change f (link tail head l)
+pub link_made : (f : PureNetFile) (a b text : List ℕ) (tail head : ℕ) (l : PureLabel) → ends_in f.net a b ≡ Ok (tail, head) → label_in spelled f.net.alg text ≡ Ok l → has_room_to_link f tail head ≡ true
+    → after_then_link spelled f a b text ≡ with_change f (link tail head l)
 link_made f a b text tail head l n h r = rw (n, h, r) refl
 
 pub may_link : (f : PureNetFile) (tail head : ℕ) (l : PureLabel) → AreEnds f.net tail head → IsLabel f.net.alg.expression l → LabelAtMost (greatest_number f.net.alg.edition) l → has_room_to_link f tail head ≡ true
@@ -99,10 +100,10 @@ pub drop_made : (f : PureNetFile) (a b : List ℕ) (tail head : ℕ) → ends_in
 drop_made f a b tail head n h = rw (n, h) refl
 
 -- a line of the network after a change
-pub late : (f : PureNetFile) (c : PureChange) (cs : List PureChange) (line : NetLine) → f.changes ≡ c ∷ cs → after_form f (pure_net_line line) ≡ Err (late_fault line)
+pub late : (f : PureNetFile) (c : PureChange) (cs : List PureChange) (line : NetLine) → f.changes ≡ c ∷ cs → after_form spelled f (pure_net_line line) ≡ Err (late_fault line)
 late f c cs (lines.Nodes names) e = by (list_all is_name (words_of names.now))
   where
-    by : (b : Bool) → after_form f (cond b (nodes (words_of names.now)) bad) ≡ Err (cond b AfterThen BadLine)
+    by : (b : Bool) → after_form spelled f (cond b (nodes (words_of names.now)) bad) ≡ Err (cond b AfterThen BadLine)
     by true = rw e refl
     by false = refl
 late f c cs (lines.Link listener speaker label) e = rw e refl
@@ -110,19 +111,19 @@ late f c cs (lines.Both listener speaker label) e = rw e refl
 late f c cs (lines.Origin dest node value) e = rw e refl
 
 -- and before all of them
-pub early : (f : PureNetFile) (line : NetLine) → f.changes ≡ [] → after_form f (pure_net_line line) ≡ and_then (after_net_line f.net line) (with_net f)
+pub early : (f : PureNetFile) (line : NetLine) → f.changes ≡ [] → after_form spelled f (pure_net_line line) ≡ and_then (after_net_line f.net line) (with_net f)
 early f (lines.Nodes names) e = by (list_all is_name (words_of names.now))
   where
-    by : (b : Bool) → after_form f (cond b (nodes (words_of names.now)) bad) ≡ and_then (cond b (after_nodes f.net (words_of names.now)) (Err BadLine)) (with_net f)
+    by : (b : Bool) → after_form spelled f (cond b (nodes (words_of names.now)) bad) ≡ and_then (cond b (after_nodes f.net (words_of names.now)) (Err BadLine)) (with_net f)
     by true = rw e refl
     by false = refl
 early f (lines.Link listener speaker label) e = rw e refl
 early f (lines.Both listener speaker label) e = rw e refl
 early f (lines.Origin dest node value) e = rw e refl
 
-pub early_ok : (f : PureNetFile) (line : NetLine) (net : PureNet) → f.changes ≡ [] → after_net_line f.net line ≡ Ok net → after_form f (pure_net_line line) ≡ Ok (record f { net = net })
+pub early_ok : (f : PureNetFile) (line : NetLine) (net : PureNet) → f.changes ≡ [] → after_net_line f.net line ≡ Ok net → after_form spelled f (pure_net_line line) ≡ Ok (record f { net = net })
 early_ok f line net e made = early f line e ∙ rw made refl
 
-pub early_bad : (f : PureNetFile) (line : NetLine) (e : LineError) → f.changes ≡ [] → IsRefusedAs (after_net_line f.net line) e → IsRefusedAs (after_form f (pure_net_line line)) e
+pub early_bad : (f : PureNetFile) (line : NetLine) (e : LineError) → f.changes ≡ [] → IsRefusedAs (after_net_line f.net line) e → IsRefusedAs (after_form spelled f (pure_net_line line)) e
 early_bad f line (Bad kind) none made = early f line none ∙ rw made refl
 early_bad f line NoMemory none made = tt

@@ -10,6 +10,7 @@ use Rattle.topology_file.specs.declared.errors.LineError.{LineError}
 use Rattle.topology_file.specs.declared.errors.LineError.TheVariants.{Bad, NoMemory}
 use Rattle.topology_file.specs.declared.forms.NetLine.{NetLine}
 use Rattle.topology_file.specs.declared.forms.NetLine.TheVariants as lines
+use Rattle.sig_text.specs.Spelled.{spelled}
 use Rattle.topology_file.specs.Texts.{words_of}
 use Rattle.topology_file.specs.NetText.{after_nodes, after_link, after_both, after_origin}
 
@@ -30,8 +31,8 @@ pub record AreEnds (net : PureNet) (tail head : ℕ) : Type 0 where
   pub apart : tail ≢ head
 
 -- a fault of a line with these words for names: a word that is no name comes before any other fault
-abbrev pub fault_behind : NetKind → List (List ℕ) → NetKind
-fault_behind kind words = if list_all is_name words then kind else BadLine
+abbrev pub fault_after : NetKind → List (List ℕ) → NetKind
+fault_after kind words = if list_all is_name words then kind else BadLine
 
 -- what words after `node` make of a network
 abbrev pub after_names : PureNet → List (List ℕ) → Result PureNet NetKind
@@ -40,13 +41,13 @@ after_names net words = if list_all is_name words then after_nodes net words els
 -- what a line of the network makes of it
 abbrev pub after_net_line : PureNet → NetLine → Result PureNet NetKind
 after_net_line net (lines.Nodes names) = after_names net (words_of names.now)
-after_net_line net (lines.Link listener speaker label) = after_link net listener.now speaker.now label.now
-after_net_line net (lines.Both listener speaker label) = after_both net listener.now speaker.now label.now
-after_net_line net (lines.Origin dest node value) = after_origin net dest.now node.now value.now
+after_net_line net (lines.Link listener speaker label) = after_link spelled net listener.now speaker.now label.now
+after_net_line net (lines.Both listener speaker label) = after_both spelled net listener.now speaker.now label.now
+after_net_line net (lines.Origin dest node value) = after_origin spelled net dest.now node.now value.now
 
 -- the fault of a line of the network after a change
 abbrev pub late_fault : NetLine → NetKind
-late_fault (lines.Nodes names) = fault_behind AfterThen (words_of names.now)
+late_fault (lines.Nodes names) = fault_after AfterThen (words_of names.now)
 late_fault (lines.Link listener speaker label) = AfterThen
 late_fault (lines.Both listener speaker label) = AfterThen
 late_fault (lines.Origin dest node value) = AfterThen

@@ -6,9 +6,10 @@ use Rattle.std.specs.List.{list_all, onto_first, AllByRecursion}
 use Rattle.std.proofs.lemmas.Bool.Decides.{nat_tests}
 use Rattle.std.proofs.lemmas.Fmt.{decimal_by_steps_wide}
 use Rattle.std.proofs.lemmas.List.{append-nil}
-use Rattle.meta_base.specs.Bytes.{is_blank, front, behind}
+use Rattle.meta_base.specs.Bytes.{is_blank, front, after_front}
 use Rattle.net_graph.specs.Nets.{is_name_byte}
-use Rattle.topology_file.specs.declared.network.TheConstants.{MAX_LINE_BYTES}
+use Rattle.sig_text.specs.Literals.{Spelling}
+use Rattle.topology_file.specs.Numbers.{max_line_bytes}
 use Rattle.topology_file.specs.Texts.{is_not, lines_of, without_return, said_of, ends_word, words_of}
 use Rattle.topology_file.specs.Forms.{line_from, plain_line, colon_line, line_of}
 use Rattle.topology_file.specs.NetText.{PureNetFile, after_form, after_line}
@@ -40,11 +41,11 @@ front_through p (c ∷ cs) rest h =
     let t = both_true (p c) (list_all p cs) h in
     rw t.0 (ap (λ xs. c ∷ xs) (front_through p cs rest t.1))
 
-pub behind_through : (p : ℕ → Bool) (w rest : List ℕ) → list_all p w ≡ true → behind p (w ++ rest) ≡ behind p rest
-behind_through p [] rest h = refl
-behind_through p (c ∷ cs) rest h =
+pub after_through : (p : ℕ → Bool) (w rest : List ℕ) → list_all p w ≡ true → after_front p (w ++ rest) ≡ after_front p rest
+after_through p [] rest h = refl
+after_through p (c ∷ cs) rest h =
     let t = both_true (p c) (list_all p cs) h in
-    rw t.0 (behind_through p cs rest t.1)
+    rw t.0 (after_through p cs rest t.1)
 
 -- Lines.
 
@@ -68,7 +69,7 @@ plain_is c h =
 -- a line of such bytes that isn't too long
 pub record IsLine (line : List ℕ) : Type 0 where
   pub plain : list_all is_plain line ≡ true
-  pub short : length line ≤ MAX_LINE_BYTES
+  pub short : length line ≤ max_line_bytes
 
 pub lines_again : (lines : List (List ℕ)) → AllByRecursion IsLine lines → lines_of (text_of lines) ≡ lines
 lines_again [] a = refl
@@ -92,10 +93,10 @@ says_itself line h =
     ∙ front_through (is_not 35) line [] (all_pass is_plain (is_not 35) line (λ c k. (plain_is c k).2) h) ∙ append-nil line
 
 -- what such a line makes is by its form
-pub line_after : (f : PureNetFile) (line : List ℕ) → IsLine line → after_line f line ≡ after_form f (line_of line)
-line_after f line i =
+pub line_after : (s : Spelling) (f : PureNetFile) (line : List ℕ) → IsLine line → after_line s f line ≡ after_form s f (line_of line)
+line_after s f line i =
     let short = i.short in
-    let fits : leb (length line) MAX_LINE_BYTES ≡ true = grind (arith, nat_tests) in
+    let fits : leb (length line) max_line_bytes ≡ true = grind (arith, nat_tests) in
     rw (fits, says_itself line i.plain) refl
 
 -- a line that begins with # says nothing, whatever it goes on with
@@ -108,9 +109,9 @@ silent_comment (c ∷ cs) = by (eqb (get_or (35 ∷ c ∷ cs) (length (35 ∷ c 
     by false = refl
 
 -- and adds nothing
-pub comment_after : (f : PureNetFile) (rest : List ℕ) → length (35 ∷ rest) ≤ MAX_LINE_BYTES → after_line f (35 ∷ rest) ≡ Ok f
-comment_after f rest short =
-    let fits : leb (length (35 ∷ rest)) MAX_LINE_BYTES ≡ true = grind (arith, nat_tests) in
+pub comment_after : (s : Spelling) (f : PureNetFile) (rest : List ℕ) → length (35 ∷ rest) ≤ max_line_bytes → after_line s f (35 ∷ rest) ≡ Ok f
+comment_after s f rest short =
+    let fits : leb (length (35 ∷ rest)) max_line_bytes ≡ true = grind (arith, nat_tests) in
     rw (fits, silent_comment rest) refl
 
 -- Words.
@@ -157,8 +158,8 @@ words_one w i = ap words_of (sym (append-nil w)) ∙ words_first w [] i refl
 pub word_front : (w rest : List ℕ) → IsWord w → front (is_not 58) (w ++ rest) ≡ w ++ front (is_not 58) rest
 word_front w rest i = front_through (is_not 58) w rest (all_pass is_name_byte (is_not 58) w no_colon i.bytes)
 
-pub word_behind : (w rest : List ℕ) → IsWord w → behind (is_not 58) (w ++ rest) ≡ behind (is_not 58) rest
-word_behind w rest i = behind_through (is_not 58) w rest (all_pass is_name_byte (is_not 58) w no_colon i.bytes)
+pub word_after : (w rest : List ℕ) → IsWord w → after_front (is_not 58) (w ++ rest) ≡ after_front (is_not 58) rest
+word_after w rest i = after_through (is_not 58) w rest (all_pass is_name_byte (is_not 58) w no_colon i.bytes)
 
 pub word_plain : (w : List ℕ) → IsWord w → list_all is_plain w ≡ true
 word_plain w i = all_pass is_name_byte is_plain w name_plain i.bytes
@@ -190,15 +191,15 @@ number_word n h =
 pub plain_form : (said : List ℕ) → list_all (is_not 58) said ≡ true → line_of said ≡ plain_line (words_of said)
 plain_form said h =
     let f : front (is_not 58) said ≡ said = ap (front (is_not 58)) (sym (append-nil said)) ∙ front_through (is_not 58) said [] h ∙ append-nil said in
-    let b : behind (is_not 58) said ≡ [] = ap (behind (is_not 58)) (sym (append-nil said)) ∙ behind_through (is_not 58) said [] h in
-    ap (λ xs. line_from (words_of xs) (behind (is_not 58) said)) f ∙ ap (line_from (words_of said)) b
+    let b : after_front (is_not 58) said ≡ [] = ap (after_front (is_not 58)) (sym (append-nil said)) ∙ after_through (is_not 58) said [] h in
+    ap (λ xs. line_from (words_of xs) (after_front (is_not 58) said)) f ∙ ap (line_from (words_of said)) b
 
 -- a line with one
 pub colon_form : (before literal : List ℕ) → list_all (is_not 58) before ≡ true → line_of (before ++ 58 ∷ literal) ≡ colon_line (words_of before) literal
 colon_form before literal h =
     let f : front (is_not 58) (before ++ 58 ∷ literal) ≡ before = front_through (is_not 58) before (58 ∷ literal) h ∙ append-nil before in
-    let b : behind (is_not 58) (before ++ 58 ∷ literal) ≡ 58 ∷ literal = behind_through (is_not 58) before (58 ∷ literal) h in
-    ap (λ xs. line_from (words_of xs) (behind (is_not 58) (before ++ 58 ∷ literal))) f ∙ ap (line_from (words_of before)) b
+    let b : after_front (is_not 58) (before ++ 58 ∷ literal) ≡ 58 ∷ literal = after_through (is_not 58) before (58 ∷ literal) h in
+    ap (λ xs. line_from (words_of xs) (after_front (is_not 58) (before ++ 58 ∷ literal))) f ∙ ap (line_from (words_of before)) b
 
 pub colonless : (w : List ℕ) → IsWord w → list_all (is_not 58) w ≡ true
 colonless w i = all_pass is_name_byte (is_not 58) w no_colon i.bytes

@@ -1,14 +1,13 @@
 -- Which network a text means over an algebra, with which changes, and which fault refuses it.
 use Rattle.std.specs.Prelude.{◌≡◌, ◌⊎◌, ℕ, ◌+◌, List, [], ◌∷◌, ◌++◌, Bool, true, false, ◌==◌, ◌||◌, nat_lt, nat_le, if◌then◌else◌, is_some, ok_or, Option, Some, None, Result, Ok, Err, length}
 use Rattle.alg_model.specs.Expressions.{PureAlg, PureLabel, PureValue}
-use Rattle.net_graph.specs.declared.limits.TheConstants.{MAX_ARCS}
-use Rattle.net_graph.specs.Limits.{max_nodes, max_dests, max_changes}
+use Rattle.net_graph.specs.Limits.{max_arcs, max_nodes, max_dests, max_changes}
 use Rattle.net_graph.specs.Nets.{PureNet, number_of, has_arc, has_origin}
 use Rattle.net_graph.specs.Lines.{empty_net, with_node, with_arc, with_origin}
 use Rattle.net_graph.specs.Changes.{PureChange, after_all}
 use Rattle.net_graph.specs.Changes as changes
 use Rattle.sig_text.specs.declared.faults.LitFault.{LitFault}
-use Rattle.sig_text.specs.Spelled.{spelled_label, spelled_value}
+use Rattle.sig_text.specs.Literals.{Spelling, IsSpelling}
 use Rattle.topology_file.specs.declared.faults.What.{What}
 use Rattle.topology_file.specs.declared.faults.What.TheVariants.{Nodes, Arcs, Dests, Changes}
 use Rattle.topology_file.specs.declared.faults.NetKind.{NetKind}
@@ -16,7 +15,7 @@ use Rattle.topology_file.specs.declared.faults.NetKind.TheVariants.{BadLine, Unk
 use Rattle.topology_file.specs.declared.faults.NetFault.{NetFault}
 use Rattle.topology_file.specs.declared.faults.NetError.{NetError}
 use Rattle.topology_file.specs.declared.faults.NetError.TheVariants.{Bad, NoMemory}
-use Rattle.topology_file.specs.declared.network.TheConstants.{MAX_LINE_BYTES}
+use Rattle.topology_file.specs.Numbers.{max_line_bytes}
 use Rattle.topology_file.specs.Texts.{lines_of, said_of}
 use Rattle.topology_file.specs.Forms.{PureLine, silent, nodes, link, both, origin, then_link, then_drop, bad, line_of}
 
@@ -53,20 +52,20 @@ apart tail head = if tail == head then Err SelfArc else Ok (tail, head)
 abbrev pub ends_in : PureNet → List ℕ → List ℕ → Result (ℕ × ℕ) NetKind
 ends_in net a b = and_then (node_in net a) (λ tail. and_then (node_in net b) (apart tail))
 
--- the label, and the value, that a text spells: laws of `sig_text` say which texts spell which
+-- the label, and the value, that a text spells
 abbrev pub as_label : Result PureLabel LitFault → Result PureLabel NetKind
 as_label (Ok l) = Ok l
 as_label (Err fault) = Err (BadLabel fault)
 
-abbrev pub label_in : PureAlg → List ℕ → Result PureLabel NetKind
-label_in alg text = as_label (spelled_label alg text)
+abbrev pub label_in : Spelling → PureAlg → List ℕ → Result PureLabel NetKind
+label_in s alg text = as_label (s.label alg text)
 
 abbrev pub as_value : Result PureValue LitFault → Result PureValue NetKind
 as_value (Ok v) = Ok v
 as_value (Err fault) = Err (BadValue fault)
 
-abbrev pub value_in : PureAlg → List ℕ → Result PureValue NetKind
-value_in alg text = as_value (spelled_value alg text)
+abbrev pub value_in : Spelling → PureAlg → List ℕ → Result PureValue NetKind
+value_in s alg text = as_value (s.value alg text)
 
 -- `node A ..`: a name is there already, or stands in the list twice
 abbrev pub names_twice : List (List ℕ) → List (List ℕ) → Bool
@@ -84,28 +83,28 @@ after_nodes net names =
 
 -- `link A B : LABEL`
 abbrev pub one_arc : PureNet → ℕ → ℕ → PureLabel → Result PureNet NetKind
-one_arc net tail head l = if_room (nat_le (length net.arcs + 1) MAX_ARCS) Arcs (with_arc net tail head l)
+one_arc net tail head l = if_room (nat_le (length net.arcs + 1) max_arcs) Arcs (with_arc net tail head l)
 
-abbrev pub link_between : PureNet → List ℕ → ℕ → ℕ → Result PureNet NetKind
-link_between net text tail head =
+abbrev pub link_between : Spelling → PureNet → List ℕ → ℕ → ℕ → Result PureNet NetKind
+link_between s net text tail head =
     if has_arc net tail head then Err ArcTwice
-    else and_then (label_in net.alg text) (one_arc net tail head)
+    else and_then (label_in s net.alg text) (one_arc net tail head)
 
-abbrev pub after_link : PureNet → List ℕ → List ℕ → List ℕ → Result PureNet NetKind
-after_link net a b text = and_then (ends_in net a b) (λ ends. link_between net text ends.0 ends.1)
+abbrev pub after_link : Spelling → PureNet → List ℕ → List ℕ → List ℕ → Result PureNet NetKind
+after_link s net a b text = and_then (ends_in net a b) (λ ends. link_between s net text ends.0 ends.1)
 
 -- `both A B : LABEL`
 abbrev pub two_arcs : PureNet → ℕ → ℕ → PureLabel → Result PureNet NetKind
 two_arcs net tail head l =
-    if_room (nat_le (length net.arcs + 2) MAX_ARCS) Arcs (with_arc (with_arc net tail head l) head tail l)
+    if_room (nat_le (length net.arcs + 2) max_arcs) Arcs (with_arc (with_arc net tail head l) head tail l)
 
-abbrev pub both_between : PureNet → List ℕ → ℕ → ℕ → Result PureNet NetKind
-both_between net text tail head =
+abbrev pub both_between : Spelling → PureNet → List ℕ → ℕ → ℕ → Result PureNet NetKind
+both_between s net text tail head =
     if has_arc net tail head || has_arc net head tail then Err ArcTwice
-    else and_then (label_in net.alg text) (two_arcs net tail head)
+    else and_then (label_in s net.alg text) (two_arcs net tail head)
 
-abbrev pub after_both : PureNet → List ℕ → List ℕ → List ℕ → Result PureNet NetKind
-after_both net a b text = and_then (ends_in net a b) (λ ends. both_between net text ends.0 ends.1)
+abbrev pub after_both : Spelling → PureNet → List ℕ → List ℕ → List ℕ → Result PureNet NetKind
+after_both s net a b text = and_then (ends_in net a b) (λ ends. both_between s net text ends.0 ends.1)
 
 -- `origin D at A : VALUE`: the destination, if it is there, has an origin at the node
 abbrev pub has_origin_of : PureNet → Option ℕ → ℕ → Bool
@@ -120,13 +119,13 @@ has_room_for net (Some dest) = true
 abbrev pub one_origin : PureNet → List ℕ → ℕ → PureValue → Result PureNet NetKind
 one_origin net dest node v = if_room (has_room_for net (number_of net.dests dest)) Dests (with_origin net dest node v)
 
-abbrev pub origin_at : PureNet → List ℕ → List ℕ → ℕ → Result PureNet NetKind
-origin_at net dest text node =
+abbrev pub origin_at : Spelling → PureNet → List ℕ → List ℕ → ℕ → Result PureNet NetKind
+origin_at s net dest text node =
     if has_origin_of net (number_of net.dests dest) node then Err OriginTwice
-    else and_then (value_in net.alg text) (one_origin net dest node)
+    else and_then (value_in s net.alg text) (one_origin net dest node)
 
-abbrev pub after_origin : PureNet → List ℕ → List ℕ → List ℕ → Result PureNet NetKind
-after_origin net dest a text = and_then (node_in net a) (origin_at net dest text)
+abbrev pub after_origin : Spelling → PureNet → List ℕ → List ℕ → List ℕ → Result PureNet NetKind
+after_origin s net dest a text = and_then (node_in net a) (origin_at s net dest text)
 
 -- one change more
 abbrev pub with_change : PureNetFile → PureChange → Result PureNetFile NetKind
@@ -135,13 +134,13 @@ with_change f c =
 
 -- `then link A B : LABEL`: after the changes before it the arc is there, or there is room for it
 abbrev pub has_room_to_link : PureNetFile → ℕ → ℕ → Bool
-has_room_to_link f tail head = has_arc (changed_net f) tail head || nat_lt (length (changed_net f).arcs) MAX_ARCS
+has_room_to_link f tail head = has_arc (changed_net f) tail head || nat_lt (length (changed_net f).arcs) max_arcs
 
 abbrev pub one_link : PureNetFile → ℕ → ℕ → PureLabel → Result PureNetFile NetKind
 one_link f tail head l = if has_room_to_link f tail head then with_change f (changes.link tail head l) else Err (TooMany Arcs)
 
-abbrev pub after_then_link : PureNetFile → List ℕ → List ℕ → List ℕ → Result PureNetFile NetKind
-after_then_link f a b text = and_then (ends_in f.net a b) (λ ends. and_then (label_in f.net.alg text) (one_link f ends.0 ends.1))
+abbrev pub after_then_link : Spelling → PureNetFile → List ℕ → List ℕ → List ℕ → Result PureNetFile NetKind
+after_then_link s f a b text = and_then (ends_in f.net a b) (λ ends. and_then (label_in s f.net.alg text) (one_link f ends.0 ends.1))
 
 -- `then drop A B`
 abbrev pub one_drop : PureNetFile → ℕ → ℕ → Result PureNetFile NetKind
@@ -161,29 +160,29 @@ with_net f net = Ok (record f { net = net })
 abbrev pub before_changes : PureNetFile → Result PureNet NetKind → Result PureNetFile NetKind
 before_changes f made = if has_changes f.changes then Err AfterThen else and_then made (with_net f)
 
-abbrev pub after_form : PureNetFile → PureLine → Result PureNetFile NetKind
-after_form f silent = Ok f
-after_form f (nodes names) = before_changes f (after_nodes f.net names)
-after_form f (link a b text) = before_changes f (after_link f.net a b text)
-after_form f (both a b text) = before_changes f (after_both f.net a b text)
-after_form f (origin dest a text) = before_changes f (after_origin f.net dest a text)
-after_form f (then_link a b text) = after_then_link f a b text
-after_form f (then_drop a b) = after_then_drop f a b
-after_form f bad = Err BadLine
+abbrev pub after_form : Spelling → PureNetFile → PureLine → Result PureNetFile NetKind
+after_form s f silent = Ok f
+after_form s f (nodes names) = before_changes f (after_nodes f.net names)
+after_form s f (link a b text) = before_changes f (after_link s f.net a b text)
+after_form s f (both a b text) = before_changes f (after_both s f.net a b text)
+after_form s f (origin dest a text) = before_changes f (after_origin s f.net dest a text)
+after_form s f (then_link a b text) = after_then_link s f a b text
+after_form s f (then_drop a b) = after_then_drop f a b
+after_form s f bad = Err BadLine
 
-abbrev pub after_line : PureNetFile → List ℕ → Result PureNetFile NetKind
-after_line f line = if nat_le (length line) MAX_LINE_BYTES then after_form f (line_of (said_of line)) else Err BadLine
+abbrev pub after_line : Spelling → PureNetFile → List ℕ → Result PureNetFile NetKind
+after_line s f line = if nat_le (length line) max_line_bytes then after_form s f (line_of (said_of line)) else Err BadLine
 
 -- What a text means.
 
 -- the lines in turn make the last of the first
-abbrev pub Lead : PureNetFile → List (List ℕ) → PureNetFile → Type 0
-Lead f [] last = last ≡ f
-Lead f (line ∷ lines) last = (next : PureNetFile) × (after_line f line ≡ Ok next) × Lead next lines last
+abbrev pub Lead : Spelling → PureNetFile → List (List ℕ) → PureNetFile → Type 0
+Lead s f [] last = last ≡ f
+Lead s f (line ∷ lines) last = (next : PureNetFile) × (after_line s f line ≡ Ok next) × Lead s next lines last
 
--- the text means the network over the algebra, with these changes
+-- the text means the network over the algebra, with these changes, where its literals are what they spell
 abbrev pub NetText : List ℕ → PureAlg → PureNetFile → Type 0
-NetText text alg f = Lead (empty_file alg) (lines_of text) f
+NetText text alg f = (s : Spelling) × IsSpelling s × Lead s (empty_file alg) (lines_of text) f
 
 -- the line of that number breaks a rule, which is of that kind, and no line before it breaks one
 pub record IsNetFault (text : List ℕ) (alg : PureAlg) (fault : NetFault) : Type 0 where
@@ -192,9 +191,11 @@ pub record IsNetFault (text : List ℕ) (alg : PureAlg) (fault : NetFault) : Typ
   pub others : List (List ℕ)
   pub cut : lines_of text ≡ before ++ line ∷ others
   pub number : fault.line ≡ length before + 1
+  pub spelling : Spelling
+  pub is_spelling : IsSpelling spelling
   pub file : PureNetFile
-  pub good : Lead (empty_file alg) before file
-  pub broken : after_line file line ≡ Err fault.kind
+  pub good : Lead spelling (empty_file alg) before file
+  pub broken : after_line spelling file line ≡ Err fault.kind
 
 -- the error's cause
 abbrev pub IsRefusedBy : List ℕ → PureAlg → NetError → Type 0

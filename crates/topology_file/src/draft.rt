@@ -3,8 +3,9 @@ ghost use Rattle.std.specs.Prelude.{◌≡◌, true, false, length, map, Ok, IfO
 ghost use Rattle.alg_model.specs.Expressions.{PureLabel};
 ghost use Rattle.net_graph.specs.Nets.{IsNet, has_arc};
 ghost use Rattle.net_graph.specs.Changes.{AreChanges, MayChange, changed, link};
-ghost use Rattle.net_graph.specs.ChangeSteps.{is_there_behind, is_there_behind_all};
+ghost use Rattle.net_graph.specs.ChangeSteps.{is_there_after, is_there_after_all};
 ghost use Rattle.net_graph.specs.Views.{pure_change};
+ghost use Rattle.sig_text.specs.Spelled.{spelled};
 ghost use Rattle.topology_file.specs.NetText.{changed_net, empty_file, has_room_to_link, with_change, after_then_link, after_then_drop, after_form, after_line};
 ghost use Rattle.topology_file.specs.LineErrors.{IsRefusedAs, late_fault as late_fault_of};
 ghost use Rattle.topology_file.specs.Views.{NamesDest, pure_net_line, pure_file};
@@ -14,7 +15,7 @@ ghost use Rattle.topology_file.specs.declared.faults.What.TheVariants.{Arcs};
 
 use crate::errors::{LineError, label_of};
 use crate::forms::{Line, NetLine, line_form};
-use crate::lines::{add_net_line, fault_behind, nodes_of};
+use crate::lines::{add_net_line, fault_after, nodes_of};
 use crate::texts::said;
 use crate::{MAX_LINE_BYTES, NetFile, NetKind, What};
 use alg_model::Alg;
@@ -74,8 +75,8 @@ impl FileDraft {
 
     /// Adds what the line asks for. After an error some of it may have been added.
     pub fn add_line(&mut self, line: &[u8]) -> Result<(), LineError>
-        ensures ok { OnOk result (after_line self.old line.now ≡ Ok self.new) }
-        ensures bad { IfErr result (IsRefusedAs (after_line self.old line.now)) }
+        ensures ok { OnOk result (after_line spelled self.old line.now ≡ Ok self.new) }
+        ensures bad { IfErr result (IsRefusedAs (after_line spelled self.old line.now)) }
     {
         if line.len() > MAX_LINE_BYTES {
             return Err(LineError::Bad(NetKind::BadLine));
@@ -97,8 +98,8 @@ impl FileDraft {
     #[tactic(auto, using(crate::proofs::Steps::late, crate::proofs::Steps::early_ok, crate::proofs::Steps::early_bad))]
     fn add_to_network(&mut self, line: NetLine<'_>) -> Result<(), LineError>
         requires { NamesDest line }
-        ensures ok { OnOk result (after_form self.old (pure_net_line line.entry) ≡ Ok self.new) }
-        ensures bad { IfErr result (IsRefusedAs (after_form self.old (pure_net_line line.entry))) }
+        ensures ok { OnOk result (after_form spelled self.old (pure_net_line line.entry) ≡ Ok self.new) }
+        ensures bad { IfErr result (IsRefusedAs (after_form spelled self.old (pure_net_line line.entry))) }
     {
         if !self.changes.as_slice().is_empty() {
             return Err(late_fault(line));
@@ -117,8 +118,8 @@ impl FileDraft {
         speaker: &[u8],
         label: &[u8],
     ) -> Result<(), LineError>
-        ensures ok { OnOk result (after_then_link self.old listener.now speaker.now label.now ≡ Ok self.new) }
-        ensures bad { IfErr result (IsRefusedAs (after_then_link self.old listener.now speaker.now label.now)) }
+        ensures ok { OnOk result (after_then_link spelled self.old listener.now speaker.now label.now ≡ Ok self.new) }
+        ensures bad { IfErr result (IsRefusedAs (after_then_link spelled self.old listener.now speaker.now label.now)) }
     {
         let (tail, head) = nodes_of(&self.draft, listener, speaker)?;
         let label = label_of(self.alloc, self.draft.alg(), label)?;
@@ -178,7 +179,7 @@ impl FileDraft {
         ensures there { result ≡ has_arc (changed_net self.now) tail.0 head.0 }
         ensures net { IsNet (changed_net self.now) }
     {
-        is_there_behind_all(
+        is_there_after_all(
             self.draft.has_arc(tail, head),
             self.changes.as_slice(),
             tail,
@@ -188,21 +189,21 @@ impl FileDraft {
 }
 
 // Whether the arc is there after these changes, by whether it is there before them.
-fn is_there_behind_all(is_there: bool, changes: &[Change], tail: NodeId, head: NodeId) -> bool
-    ensures { result ≡ is_there_behind_all tail.0 head.0 (map pure_change changes.now) is_there }
+fn is_there_after_all(is_there: bool, changes: &[Change], tail: NodeId, head: NodeId) -> bool
+    ensures { result ≡ is_there_after_all tail.0 head.0 (map pure_change changes.now) is_there }
 {
     let mut is_there = is_there;
     let mut rest = changes;
     while let [change, later @ ..] = rest {
-        is_there = is_there_behind(is_there, change, tail, head);
+        is_there = is_there_after(is_there, change, tail, head);
         rest = later;
     }
     is_there
 }
 
 // The same of one change.
-fn is_there_behind(is_there: bool, change: &Change, tail: NodeId, head: NodeId) -> bool
-    ensures { result ≡ is_there_behind tail.0 head.0 (pure_change change.now) is_there }
+fn is_there_after(is_there: bool, change: &Change, tail: NodeId, head: NodeId) -> bool
+    ensures { result ≡ is_there_after tail.0 head.0 (pure_change change.now) is_there }
 {
     match change {
         Change::Link {
@@ -219,7 +220,7 @@ fn late_fault(line: NetLine<'_>) -> LineError
     ensures { result ≡ Bad (late_fault_of line.entry) }
 {
     match line {
-        NetLine::Nodes(names) => fault_behind(NetKind::AfterThen, names),
+        NetLine::Nodes(names) => fault_after(NetKind::AfterThen, names),
         NetLine::Link { .. } | NetLine::Both { .. } | NetLine::Origin { .. } => {
             LineError::Bad(NetKind::AfterThen)
         }

@@ -4,6 +4,7 @@ ghost use Rattle.alg_model.specs.Application.{IsLabel};
 ghost use Rattle.alg_model.specs.Bounds.{AtMost, LabelAtMost, greatest_number};
 ghost use Rattle.alg_model.specs.Carriers.{carrier_of, In};
 ghost use Rattle.alg_model.specs.Views.{pure_value, pure_label};
+ghost use Rattle.sig_text.specs.Spelled.{spelled};
 ghost use Rattle.topology_file.specs.LineErrors.{error_at, IsRefusedAs};
 ghost use Rattle.topology_file.specs.NetText.{label_in, value_in};
 ghost use Rattle.topology_file.specs.declared.errors.LineError.TheVariants.{NoMemory as NoMemoryLeft};
@@ -45,10 +46,10 @@ impl LineError {
 
 /// The label that the text spells in the algebra.
 pub fn label_of(alloc: Global, alg: &Alg, text: &[u8]) -> Result<Label, LineError>
-    ensures ok { IfOk result (λ l. label_in alg.now text.now ≡ Ok (pure_label l)) }
+    ensures ok { IfOk result (λ l. label_in spelled alg.now text.now ≡ Ok (pure_label l)) }
     ensures is_label { IfOk result (λ l. IsLabel alg.now.expression (pure_label l)) }
     ensures bound { IfOk result (λ l. LabelAtMost (greatest_number alg.now.edition) (pure_label l)) }
-    ensures bad { IfErr result (IsRefusedAs (label_in alg.now text.now)) }
+    ensures bad { IfErr result (IsRefusedAs (label_in spelled alg.now text.now)) }
 {
     match read_label(alloc, alg, text) {
         Ok(label) => Ok(label),
@@ -59,10 +60,10 @@ pub fn label_of(alloc: Global, alg: &Alg, text: &[u8]) -> Result<Label, LineErro
 
 /// The value that the text spells in the algebra.
 pub fn value_of(alloc: Global, alg: &Alg, text: &[u8]) -> Result<Value, LineError>
-    ensures ok { IfOk result (λ v. value_in alg.now text.now ≡ Ok (pure_value v)) }
+    ensures ok { IfOk result (λ v. value_in spelled alg.now text.now ≡ Ok (pure_value v)) }
     ensures is_value { IfOk result (λ v. In (carrier_of alg.now.expression) (pure_value v)) }
     ensures bound { IfOk result (λ v. AtMost (greatest_number alg.now.edition) (pure_value v)) }
-    ensures bad { IfErr result (IsRefusedAs (value_in alg.now text.now)) }
+    ensures bad { IfErr result (IsRefusedAs (value_in spelled alg.now text.now)) }
 {
     match read_value(alloc, alg, text) {
         Ok(value) => Ok(value),

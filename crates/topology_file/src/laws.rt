@@ -4,20 +4,22 @@ ghost use Rattle.net_graph.specs.Changes.{AreChanges};
 ghost use Rattle.net_graph.specs.Limits.{max_changes};
 ghost use Rattle.topology_file.specs.NetText.{PureNetFile, NetText, HasOneOutcome};
 
-use sig_text::{labels_are_told, spelled_labels_are_labels};
+use sig_text::{spelled_labels_are_labels, texts_have_one_spelling};
 
 /// Each text means one network with its changes over an algebra, or has one fault there, and not both. So
 /// what [`crate::read_net`] answers, where it isn't for want of memory, is the only answer.
 pub fn one_text_one_network()
     ensures { (text : List ℕ) (alg : PureAlg) → HasOneOutcome text alg }
-{}
+{
+    // All literals spell what they spell.
+    texts_have_one_spelling();
+}
 
 /// The network of a text is over the algebra that it was read over.
 pub fn networks_keep_their_algebra()
     ensures { (text : List ℕ) (alg : PureAlg) (f : PureNetFile) → NetText text alg f → f.net.alg ≡ alg }
 {
     // The labels of changes are the algebra's.
-    labels_are_told();
     spelled_labels_are_labels();
 }
 
@@ -30,6 +32,5 @@ pub fn changes_of_texts_may_be_made()
         AreChanges f.net f.changes }
 {
     // The labels of changes are the algebra's.
-    labels_are_told();
     spelled_labels_are_labels();
 }

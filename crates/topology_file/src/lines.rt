@@ -5,9 +5,10 @@ ghost use Rattle.alg_model.specs.Carriers.{carrier_of, In};
 ghost use Rattle.alg_model.specs.Views.{pure_value};
 ghost use Rattle.net_graph.specs.Nets.{number_of, is_name};
 ghost use Rattle.net_graph.specs.Limits.{max_nodes};
+ghost use Rattle.sig_text.specs.Spelled.{spelled};
 ghost use Rattle.topology_file.specs.Texts.{words_of};
 ghost use Rattle.topology_file.specs.NetText.{ends_in, node_in, names_twice, has_origin_of, one_origin, after_link, after_both, after_origin};
-ghost use Rattle.topology_file.specs.LineErrors.{AreEnds, IsRefusedAs, fault_behind as fault_behind_names, after_names, after_net_line};
+ghost use Rattle.topology_file.specs.LineErrors.{AreEnds, IsRefusedAs, fault_after as fault_after_names, after_names, after_net_line};
 ghost use Rattle.topology_file.specs.Views.{NamesDest};
 ghost use Rattle.topology_file.specs.declared.errors.LineError.TheVariants.{Bad};
 
@@ -75,8 +76,8 @@ pub fn nodes_of(
 }
 
 /// The fault of a line with these names, if they are names: else it is a bad line.
-pub fn fault_behind(kind: NetKind, names: &[u8]) -> LineError
-    ensures { result ≡ Bad (fault_behind_names kind (words_of names.now)) }
+pub fn fault_after(kind: NetKind, names: &[u8]) -> LineError
+    ensures { result ≡ Bad (fault_after_names kind (words_of names.now)) }
 {
     if are_all_names(names) {
         LineError::Bad(kind)
@@ -108,9 +109,9 @@ fn fault_of_full(draft: &NetDraft, name: &[u8], others: &[u8]) -> LineError
     ensures { IsRefusedAs (after_names draft.now (name.now ∷ words_of others.now)) result }
 {
     if has_word(others, name) || has_twice(draft, others) {
-        fault_behind(NetKind::NodeTwice, others)
+        fault_after(NetKind::NodeTwice, others)
     } else {
-        fault_behind(NetKind::TooMany(What::Nodes), others)
+        fault_after(NetKind::TooMany(What::Nodes), others)
     }
 }
 
@@ -125,7 +126,7 @@ fn add_first(draft: &mut NetDraft, name: &[u8], others: &[u8]) -> Result<(), Lin
         return Err(LineError::Bad(NetKind::BadLine));
     }
     if draft.node_named(name).is_some() {
-        return Err(fault_behind(NetKind::NodeTwice, others));
+        return Err(fault_after(NetKind::NodeTwice, others));
     }
     if draft.node_count() >= max_nodes(draft.edition()) {
         return Err(fault_of_full(draft, name, others));
@@ -157,8 +158,8 @@ fn add_link(
     speaker: &[u8],
     label: &[u8],
 ) -> Result<(), LineError>
-    ensures ok { OnOk result (after_link draft.old listener.now speaker.now label.now ≡ Ok draft.new) }
-    ensures bad { IfErr result (IsRefusedAs (after_link draft.old listener.now speaker.now label.now)) }
+    ensures ok { OnOk result (after_link spelled draft.old listener.now speaker.now label.now ≡ Ok draft.new) }
+    ensures bad { IfErr result (IsRefusedAs (after_link spelled draft.old listener.now speaker.now label.now)) }
 {
     let (tail, head) = nodes_of(draft, listener, speaker)?;
     if draft.has_arc(tail, head) {
@@ -180,8 +181,8 @@ fn add_both(
     speaker: &[u8],
     label: &[u8],
 ) -> Result<(), LineError>
-    ensures ok { OnOk result (after_both draft.old listener.now speaker.now label.now ≡ Ok draft.new) }
-    ensures bad { IfErr result (IsRefusedAs (after_both draft.old listener.now speaker.now label.now)) }
+    ensures ok { OnOk result (after_both spelled draft.old listener.now speaker.now label.now ≡ Ok draft.new) }
+    ensures bad { IfErr result (IsRefusedAs (after_both spelled draft.old listener.now speaker.now label.now)) }
 {
     let (tail, head) = nodes_of(draft, listener, speaker)?;
     if draft.has_arc(tail, head) || draft.has_arc(head, tail) {
@@ -206,8 +207,8 @@ fn add_origin(
     value: &[u8],
 ) -> Result<(), LineError>
     requires { is_name dest.now ≡ true }
-    ensures ok { OnOk result (after_origin draft.old dest.now node.now value.now ≡ Ok draft.new) }
-    ensures bad { IfErr result (IsRefusedAs (after_origin draft.old dest.now node.now value.now)) }
+    ensures ok { OnOk result (after_origin spelled draft.old dest.now node.now value.now ≡ Ok draft.new) }
+    ensures bad { IfErr result (IsRefusedAs (after_origin spelled draft.old dest.now node.now value.now)) }
 {
     let node = node_of(draft, node)?;
     let known = draft.dest_named(dest);

@@ -1,8 +1,9 @@
-ghost use Rattle.std.specs.Prelude.{◌≤◌, length, map, IfOk, IfErr};
+ghost use Rattle.std.specs.Prelude.{◌≡◌, ◌≤◌, length, map, IfOk, IfErr};
 ghost use Rattle.meta_base.specs.declared.limits.TheConstants.{MAX_FILE_BYTES};
 ghost use Rattle.net_graph.specs.Changes.{AreChanges};
 ghost use Rattle.net_graph.specs.Views.{pure_change};
 ghost use Rattle.topology_file.specs.NetText.{NetText, IsRefusedBy};
+ghost use Rattle.topology_file.specs.Numbers.{max_line_bytes};
 ghost use Rattle.topology_file.specs.Views.{pure_file};
 
 use crate::NetError;
@@ -11,10 +12,16 @@ use crate::texts::split_line;
 use alg_model::Alg;
 use meta_base::{List, MAX_FILE_BYTES};
 use net_graph::{Change, Net};
+use sig_text::texts_have_one_spelling;
 use std::alloc::Global;
 
 /// The most bytes of a line as it is cut, before a carriage return or a comment is dropped.
 pub const MAX_LINE_BYTES: usize = 4_096;
+
+/// The bound of lines is the number of the specification.
+pub fn numbers_are_specified()
+    ensures { MAX_LINE_BYTES ≡ max_line_bytes }
+{}
 
 /// What a network file means: a network, and the changes that come after it.
 #[derive(Debug, Drop)]
@@ -54,6 +61,8 @@ pub fn read_net(alloc: Global, alg: Alg, source: &[u8]) -> Result<NetFile, NetEr
     ensures changes { IfOk result (λ file. AreChanges file.net (map pure_change file.changes)) }
     ensures fault { IfErr result (IsRefusedBy source.now alg) }
 {
+    // What is read of a literal is what it spells.
+    texts_have_one_spelling();
     let mut file = FileDraft::new(alloc, alg);
     let mut number: u32 = 1;
     let mut rest = source;

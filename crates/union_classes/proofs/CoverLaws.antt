@@ -15,24 +15,27 @@ use Rattle.alg_model.specs.Laws.{formed_plus}
 use Rattle.alg_classes.specs.declared.profile.Profile.{Profile}
 use Rattle.alg_classes.specs.declared.class.Examples.{Examples}
 use Rattle.alg_classes.specs.declared.class.Class.{Class}
-use Rattle.alg_classes.specs.Facts.{Action, Fact, total, dead, mono, strict, iso, canc, cond, narrow, PureExample, at, between}
+use Rattle.alg_classes.specs.declared.fact.Fact.{Fact}
+use Rattle.alg_classes.specs.declared.fact.Fact.TheVariants.{Total, Dead, Monotone, Strict, Isotone, Cancellative, Condensed, Narrow}
+use Rattle.alg_classes.specs.Facts.{Action, PureExample, at, between}
 use Rattle.alg_classes.specs.Classes.{PureExamples, pure_examples, pure_at, Settles, IsSettledBy, ExampleAtMost, ExamplesAtMost, ClassOf, alg_in, IsCovered, Covers}
 use Rattle.alg_classes.specs.Growth.{Grown, Only, Over}
 use Rattle.alg_classes.specs.RuleLaws.{class_from}
 use Rattle.alg_classes.specs.Inhabited.{carrier_inhabited, labels_inhabited}
-use Rattle.union_classes.specs.Sums.{of_either, across, or_else, beside_profile, first_profile, second_profile, beside_examples, denied_examples}
+use Rattle.alg_classes.specs.Constants.{denied_examples}
+use Rattle.union_classes.specs.Sums.{of_either, across, or_else, beside_profile, first_profile, second_profile, beside_examples}
 use Rattle.union_classes.specs.Made.{AreExamples, IsSumOf, IsFirstOf, IsSecondOf, IsValueOf, SomeValueOf, either_value, shown_value}
 use Rattle.union_classes.specs.LabelLaws.{sum_settled, union_first_settled, union_second_settled, plus_first_settled, plus_second_settled, sum_profile_of, first_profile_of, second_profile_of, plus_first_profile_of, plus_second_profile_of}
 
 each_example : (x : Examples) (w : PureExamples) → AreExamples x w → (k : Fact) → pure_examples x k ≡ w k
-each_example x w are total = are.outside
-each_example x w are dead = are.inside
-each_example x w are mono = are.not_mono
-each_example x w are strict = are.not_strict
-each_example x w are iso = are.not_iso
-each_example x w are canc = are.not_canc
-each_example x w are cond = are.not_cond
-each_example x w are narrow = are.not_narrow
+each_example x w are Total = are.outside
+each_example x w are Dead = are.inside
+each_example x w are Monotone = are.not_mono
+each_example x w are Strict = are.not_strict
+each_example x w are Isotone = are.not_iso
+each_example x w are Cancellative = are.not_canc
+each_example x w are Condensed = are.not_cond
+each_example x w are Narrow = are.not_narrow
 
 -- bounds on the examples of composed labels
 either_at_most : (n : ℕ) (o p : Option PureExample) → ExampleAtMost n o → ExampleAtMost n p → ExampleAtMost n (of_either o p)
@@ -54,27 +57,27 @@ or_else_at_most n (Some e) p i j = i
 or_else_at_most n None p i j = j
 
 beside_at_most : (n : ℕ) (x y : PureExamples) → ExamplesAtMost n x → ExamplesAtMost n y → ExamplesAtMost n (beside_examples x y)
-beside_at_most n x y i j total = either_at_most n (x total) (y total) (i total) (j total)
-beside_at_most n x y i j dead = either_at_most n (x dead) (y dead) (i dead) (j dead)
-beside_at_most n x y i j mono = either_at_most n (x mono) (y mono) (i mono) (j mono)
-beside_at_most n x y i j strict = either_at_most n (x strict) (y strict) (i strict) (j strict)
-beside_at_most n x y i j canc = either_at_most n (x canc) (y canc) (i canc) (j canc)
-beside_at_most n x y i j iso = or_else_at_most n (of_either (x iso) (y iso)) (across (x total) (y dead))
-    (either_at_most n (x iso) (y iso) (i iso) (j iso)) (across_at_most n (x total) (y dead) (i total) (j dead))
-beside_at_most n x y i j cond = or_else_at_most n (of_either (x cond) (y cond)) (across (x dead) (y dead))
-    (either_at_most n (x cond) (y cond) (i cond) (j cond)) (across_at_most n (x dead) (y dead) (i dead) (j dead))
-beside_at_most n x y i j narrow = or_else_at_most n (of_either (x narrow) (y narrow)) (across (x dead) (y dead))
-    (either_at_most n (x narrow) (y narrow) (i narrow) (j narrow)) (across_at_most n (x dead) (y dead) (i dead) (j dead))
+beside_at_most n x y i j Total = either_at_most n (x Total) (y Total) (i Total) (j Total)
+beside_at_most n x y i j Dead = either_at_most n (x Dead) (y Dead) (i Dead) (j Dead)
+beside_at_most n x y i j Monotone = either_at_most n (x Monotone) (y Monotone) (i Monotone) (j Monotone)
+beside_at_most n x y i j Strict = either_at_most n (x Strict) (y Strict) (i Strict) (j Strict)
+beside_at_most n x y i j Cancellative = either_at_most n (x Cancellative) (y Cancellative) (i Cancellative) (j Cancellative)
+beside_at_most n x y i j Isotone = or_else_at_most n (of_either (x Isotone) (y Isotone)) (across (x Total) (y Dead))
+    (either_at_most n (x Isotone) (y Isotone) (i Isotone) (j Isotone)) (across_at_most n (x Total) (y Dead) (i Total) (j Dead))
+beside_at_most n x y i j Condensed = or_else_at_most n (of_either (x Condensed) (y Condensed)) (across (x Dead) (y Dead))
+    (either_at_most n (x Condensed) (y Condensed) (i Condensed) (j Condensed)) (across_at_most n (x Dead) (y Dead) (i Dead) (j Dead))
+beside_at_most n x y i j Narrow = or_else_at_most n (of_either (x Narrow) (y Narrow)) (across (x Dead) (y Dead))
+    (either_at_most n (x Narrow) (y Narrow) (i Narrow) (j Narrow)) (across_at_most n (x Dead) (y Dead) (i Dead) (j Dead))
 
 denied_at_most : (v : PureValue) (a : PureAlg) → IsValueOf a v → ExamplesAtMost MAX_INSTANCE_NUMBER (denied_examples v)
-denied_at_most v a is total = is.1
-denied_at_most v a is dead = tt
-denied_at_most v a is mono = tt
-denied_at_most v a is strict = tt
-denied_at_most v a is iso = tt
-denied_at_most v a is canc = tt
-denied_at_most v a is cond = tt
-denied_at_most v a is narrow = tt
+denied_at_most v a is Total = is.1
+denied_at_most v a is Dead = tt
+denied_at_most v a is Monotone = tt
+denied_at_most v a is Strict = tt
+denied_at_most v a is Isotone = tt
+denied_at_most v a is Cancellative = tt
+denied_at_most v a is Condensed = tt
+denied_at_most v a is Narrow = tt
 
 -- a class that the program makes of a label, a profile and examples that settle each other
 class_made : (a : PureAlg) (z : Class) (l : PureLabel) (p : Profile) (w : PureExamples)
@@ -195,7 +198,7 @@ pluses_cover a b e xs ys mid zs formed cx cy g h = record {
 
 -- a class that is settled over a carrier with a value shows one
 value_of_examples : (a : PureAlg) (f : Action) (b1 b2 : Bool) (inside outside : Option Value) → IsFormed a.expression
-    → Settles (carrier_of a.expression) f dead b1 (option_map pure_at inside) → Settles (carrier_of a.expression) f total b2 (option_map pure_at outside)
+    → Settles (carrier_of a.expression) f Dead b1 (option_map pure_at inside) → Settles (carrier_of a.expression) f Total b2 (option_map pure_at outside)
     → ExampleAtMost MAX_INSTANCE_NUMBER (option_map pure_at inside) → ExampleAtMost MAX_INSTANCE_NUMBER (option_map pure_at outside)
     → SomeValueOf a (option_map pure_value (either_value inside outside))
 value_of_examples a f false b2 (Some v) o formed s t i j = (s.0, i)
@@ -217,7 +220,7 @@ value_shown a [] formed covers = let l = labels_inhabited a.expression formed in
 value_shown a (z ∷ zs) formed covers =
     let is = covers.each.0 in
     value_of_examples a (App a.expression (pure_label z.label)) z.profile.dead z.profile.total z.examples.inside z.examples.outside formed
-    (is.settled dead) (is.settled total) (is.bound dead) (is.bound total)
+    (is.settled Dead) (is.settled Total) (is.bound Dead) (is.bound Total)
 
 pub never_unshown : (a : PureAlg) (classes : List Class) → IsFormed a.expression → Covers a classes → ¬ (shown_value classes ≡ None)
 never_unshown a classes formed covers e = subst (λ o. SomeValueOf a (option_map pure_value o)) e (value_shown a classes formed covers)

@@ -13,7 +13,8 @@ use Rattle.alg_classes.specs.Profiles.{IsProfile, ProfileOf}
 use Rattle.alg_classes.specs.Classes.{PureExamples, IsSettledBy}
 use Rattle.alg_classes.specs.ClassLaws.{images_kept, composed_profile, composed_profile_of_two}
 use Rattle.alg_classes.specs.Inhabited.{carrier_inhabited}
-use Rattle.union_classes.specs.Sums.{beside, denied, beside_profile, first_profile, second_profile, beside_examples, denied_examples}
+use Rattle.alg_classes.specs.Constants.{denied, denied_examples}
+use Rattle.union_classes.specs.Sums.{beside, beside_profile, first_profile, second_profile, beside_examples}
 use Rattle.union_classes.specs.SumLaws.{beside_settled, first_settled, second_settled}
 
 sum_acts : (a b : Expression) (l m : PureLabel) (v : PureValue) → App (sum a b) (both_label l m) v ≡ beside (App a l) (App b m) v

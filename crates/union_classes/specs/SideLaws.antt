@@ -5,7 +5,9 @@ use Rattle.std.specs.declared.cmp.Ordering.TheVariants.{Equal}
 use Rattle.alg_model.specs.Expressions.{PureCarrier, sides, PureValue, first, second}
 use Rattle.alg_model.specs.Carriers.{In, Order, OrderOrNone, IsPreferred, AreEquivalent}
 use Rattle.alg_model.specs.PreferenceLaws.{each_side}
-use Rattle.alg_classes.specs.Facts.{Action, Fact, total, dead, mono, strict, iso, canc, cond, narrow, Holds, PureExample, at, between, Refutes}
+use Rattle.alg_classes.specs.declared.fact.Fact.{Fact}
+use Rattle.alg_classes.specs.declared.fact.Fact.TheVariants.{Total, Dead, Monotone, Strict, Isotone, Cancellative, Condensed, Narrow}
+use Rattle.alg_classes.specs.Facts.{Action, Holds, PureExample, at, between, Refutes}
 use Rattle.union_classes.specs.Sums.{beside, on_first, on_second}
 
 -- comparisons within a side are those of its carrier
@@ -61,61 +63,61 @@ image_of side (Some x) w e = (x, refl, cc)
 
 -- an example of a part, as values of its side, refutes the fact of the whole
 pub refuted_on_first : (c d : PureCarrier) (f g : Action) (k : Fact) (e : PureExample) → Refutes c f k e → Refutes (sides c d) (beside f g) k (on_first e)
-refuted_on_first c d f g total (at u) r = (r.0, ap (option_map first) r.1)
-refuted_on_first c d f g dead (at u) r = (r.0, (first r.1.0, ap (option_map first) r.1.1))
-refuted_on_first c d f g mono (at u) r = (r.0, firsts_compare c d (f u) (Some u) ∙ r.1)
-refuted_on_first c d f g strict (at u) r = (r.0, (first r.1.0, ap (option_map first) r.1.1, r.1.2))
-refuted_on_first c d f g iso (between u v) r = (r.0, (r.1.0, firsts_compare c d (f v) (f u) ∙ r.1.1))
-refuted_on_first c d f g canc (between u v) r = (r.0, ((firsts_equivalent c d (f u) (f v)).0 r.1.0, r.1.1))
-refuted_on_first c d f g cond (between u v) r = (r.0, (first r.1.0, first r.1.1, ap (option_map first) r.1.2, ap (option_map first) r.1.3, r.1.4))
-refuted_on_first c d f g narrow (between u v) r = (r.0, (first r.1.0, first r.1.1, ap (option_map first) r.1.2, ap (option_map first) r.1.3, r.1.4))
+refuted_on_first c d f g Total (at u) r = (r.0, ap (option_map first) r.1)
+refuted_on_first c d f g Dead (at u) r = (r.0, (first r.1.0, ap (option_map first) r.1.1))
+refuted_on_first c d f g Monotone (at u) r = (r.0, firsts_compare c d (f u) (Some u) ∙ r.1)
+refuted_on_first c d f g Strict (at u) r = (r.0, (first r.1.0, ap (option_map first) r.1.1, r.1.2))
+refuted_on_first c d f g Isotone (between u v) r = (r.0, (r.1.0, firsts_compare c d (f v) (f u) ∙ r.1.1))
+refuted_on_first c d f g Cancellative (between u v) r = (r.0, ((firsts_equivalent c d (f u) (f v)).0 r.1.0, r.1.1))
+refuted_on_first c d f g Condensed (between u v) r = (r.0, (first r.1.0, first r.1.1, ap (option_map first) r.1.2, ap (option_map first) r.1.3, r.1.4))
+refuted_on_first c d f g Narrow (between u v) r = (r.0, (first r.1.0, first r.1.1, ap (option_map first) r.1.2, ap (option_map first) r.1.3, r.1.4))
 refuted_on_first c d f g _ _ r = absurd r.1
 
 pub refuted_on_second : (c d : PureCarrier) (f g : Action) (k : Fact) (e : PureExample) → Refutes d g k e → Refutes (sides c d) (beside f g) k (on_second e)
-refuted_on_second c d f g total (at u) r = (r.0, ap (option_map second) r.1)
-refuted_on_second c d f g dead (at u) r = (r.0, (second r.1.0, ap (option_map second) r.1.1))
-refuted_on_second c d f g mono (at u) r = (r.0, seconds_compare c d (g u) (Some u) ∙ r.1)
-refuted_on_second c d f g strict (at u) r = (r.0, (second r.1.0, ap (option_map second) r.1.1, r.1.2))
-refuted_on_second c d f g iso (between u v) r = (r.0, (r.1.0, seconds_compare c d (g v) (g u) ∙ r.1.1))
-refuted_on_second c d f g canc (between u v) r = (r.0, ((seconds_equivalent c d (g u) (g v)).0 r.1.0, r.1.1))
-refuted_on_second c d f g cond (between u v) r = (r.0, (second r.1.0, second r.1.1, ap (option_map second) r.1.2, ap (option_map second) r.1.3, r.1.4))
-refuted_on_second c d f g narrow (between u v) r = (r.0, (second r.1.0, second r.1.1, ap (option_map second) r.1.2, ap (option_map second) r.1.3, r.1.4))
+refuted_on_second c d f g Total (at u) r = (r.0, ap (option_map second) r.1)
+refuted_on_second c d f g Dead (at u) r = (r.0, (second r.1.0, ap (option_map second) r.1.1))
+refuted_on_second c d f g Monotone (at u) r = (r.0, seconds_compare c d (g u) (Some u) ∙ r.1)
+refuted_on_second c d f g Strict (at u) r = (r.0, (second r.1.0, ap (option_map second) r.1.1, r.1.2))
+refuted_on_second c d f g Isotone (between u v) r = (r.0, (r.1.0, seconds_compare c d (g v) (g u) ∙ r.1.1))
+refuted_on_second c d f g Cancellative (between u v) r = (r.0, ((seconds_equivalent c d (g u) (g v)).0 r.1.0, r.1.1))
+refuted_on_second c d f g Condensed (between u v) r = (r.0, (second r.1.0, second r.1.1, ap (option_map second) r.1.2, ap (option_map second) r.1.3, r.1.4))
+refuted_on_second c d f g Narrow (between u v) r = (r.0, (second r.1.0, second r.1.1, ap (option_map second) r.1.2, ap (option_map second) r.1.3, r.1.4))
 refuted_on_second c d f g _ _ r = absurd r.1
 
 -- examples across the sides
-pub refuted_iso : (c d : PureCarrier) (f g : Action) (u v : PureValue) → Refutes c f total (at u) → Refutes d g dead (at v)
-    → Refutes (sides c d) (beside f g) iso (between (first u) (second v))
-refuted_iso c d f g u v r s = let a = r.1 in let b = s.1.1 in ((r.0, s.0), ((λ e. cc), rw (b, a) refl))
+pub refuted_isotone : (c d : PureCarrier) (f g : Action) (u v : PureValue) → Refutes c f Total (at u) → Refutes d g Dead (at v)
+    → Refutes (sides c d) (beside f g) Isotone (between (first u) (second v))
+refuted_isotone c d f g u v r s = let a = r.1 in let b = s.1.1 in ((r.0, s.0), ((λ e. cc), rw (b, a) refl))
 
-pub refuted_cond : (c d : PureCarrier) (f g : Action) (u v : PureValue) → Refutes c f dead (at u) → Refutes d g dead (at v)
-    → Refutes (sides c d) (beside f g) cond (between (first u) (second v))
-refuted_cond c d f g u v r s = ((r.0, s.0), (first r.1.0, second s.1.0, ap (option_map first) r.1.1, ap (option_map second) s.1.1, refl))
+pub refuted_condensed : (c d : PureCarrier) (f g : Action) (u v : PureValue) → Refutes c f Dead (at u) → Refutes d g Dead (at v)
+    → Refutes (sides c d) (beside f g) Condensed (between (first u) (second v))
+refuted_condensed c d f g u v r s = ((r.0, s.0), (first r.1.0, second s.1.0, ap (option_map first) r.1.1, ap (option_map second) s.1.1, refl))
 
-pub refuted_narrow : (c d : PureCarrier) (f g : Action) (u v : PureValue) → Refutes c f dead (at u) → Refutes d g dead (at v)
-    → Refutes (sides c d) (beside f g) narrow (between (first u) (second v))
+pub refuted_narrow : (c d : PureCarrier) (f g : Action) (u v : PureValue) → Refutes c f Dead (at u) → Refutes d g Dead (at v)
+    → Refutes (sides c d) (beside f g) Narrow (between (first u) (second v))
 refuted_narrow c d f g u v r s = ((r.0, s.0), (first r.1.0, second s.1.0, ap (option_map first) r.1.1, ap (option_map second) s.1.1, refl))
 
 -- what holds of both
-pub both_total : (c d : PureCarrier) (f g : Action) → Holds c f total → Holds d g total → Holds (sides c d) (beside f g) total
+pub both_total : (c d : PureCarrier) (f g : Action) → Holds c f Total → Holds d g Total → Holds (sides c d) (beside f g) Total
 both_total c d f g h k = each_side c d (λ v. (w : PureValue) × (beside f g v ≡ Some w))
     (λ u i. let s = h u i in (first s.0, ap (option_map first) s.1))
     (λ v i. let s = k v i in (second s.0, ap (option_map second) s.1))
 
-pub both_dead : (c d : PureCarrier) (f g : Action) → Holds c f dead → Holds d g dead → Holds (sides c d) (beside f g) dead
+pub both_dead : (c d : PureCarrier) (f g : Action) → Holds c f Dead → Holds d g Dead → Holds (sides c d) (beside f g) Dead
 both_dead c d f g h k = each_side c d (λ v. beside f g v ≡ None) (λ u i. ap (option_map first) (h u i)) (λ v i. ap (option_map second) (k v i))
 
-pub both_mono : (c d : PureCarrier) (f g : Action) → Holds c f mono → Holds d g mono → Holds (sides c d) (beside f g) mono
-both_mono c d f g h k = each_side c d (λ v. ¬ IsPreferred (sides c d) (beside f g v) (Some v))
+pub both_monotone : (c d : PureCarrier) (f g : Action) → Holds c f Monotone → Holds d g Monotone → Holds (sides c d) (beside f g) Monotone
+both_monotone c d f g h k = each_side c d (λ v. ¬ IsPreferred (sides c d) (beside f g v) (Some v))
     (λ u i p. h u i (sym (firsts_compare c d (f u) (Some u)) ∙ p))
     (λ v i p. k v i (sym (seconds_compare c d (g v) (Some v)) ∙ p))
 
-pub both_strict : (c d : PureCarrier) (f g : Action) → Holds c f strict → Holds d g strict → Holds (sides c d) (beside f g) strict
+pub both_strict : (c d : PureCarrier) (f g : Action) → Holds c f Strict → Holds d g Strict → Holds (sides c d) (beside f g) Strict
 both_strict c d f g h k = each_side c d (λ v. IsPreferred (sides c d) (Some v) (beside f g v))
     (λ u i. firsts_compare c d (Some u) (f u) ∙ h u i)
     (λ v i. seconds_compare c d (Some v) (g v) ∙ k v i)
 
-pub both_canc : (c d : PureCarrier) (f g : Action) → Holds c f canc → Holds d g canc → Holds (sides c d) (beside f g) canc
-both_canc c d f g h k = λ u v i j. each_side c d
+pub both_cancellative : (c d : PureCarrier) (f g : Action) → Holds c f Cancellative → Holds d g Cancellative → Holds (sides c d) (beside f g) Cancellative
+both_cancellative c d f g h k = λ u v i j. each_side c d
     (λ u. AreEquivalent (sides c d) (beside f g u) (beside f g v) → AreEquivalent (sides c d) (Some u) (Some v))
     (λ s i. each_side c d
     (λ v. AreEquivalent (sides c d) (option_map first (f s)) (beside f g v) → AreEquivalent (sides c d) (Some (first s)) (Some v))
@@ -127,16 +129,16 @@ both_canc c d f g h k = λ u v i j. each_side c d
     (λ t j e. k s t i j ((seconds_equivalent c d (g s) (g t)).1 e)) v j) u i
 
 -- an image of the second side isn't preferred to that of the first
-order_across : (c d : PureCarrier) (f g : Action) → Holds c f total ⊎ Holds d g dead → (u v : PureValue) → In c u → In d v
+order_across : (c d : PureCarrier) (f g : Action) → Holds c f Total ⊎ Holds d g Dead → (u v : PureValue) → In c u → In d v
     → ¬ IsPreferred (sides c d) (option_map second (g v)) (option_map first (f u))
 order_across c d f g either u v i j p = ⊎_elim
     (λ h. let s = h u i in second_not_preferred c d (g v) s.0 (subst (λ o. IsPreferred (sides c d) (option_map second (g v)) (option_map first o)) s.1 p))
     (λ h. none_not_preferred (sides c d) (option_map first (f u)) (subst (λ o. IsPreferred (sides c d) (option_map second o) (option_map first (f u))) (h v j) p))
     either
 
-pub both_iso : (c d : PureCarrier) (f g : Action) → Holds c f iso → Holds d g iso → Holds c f total ⊎ Holds d g dead
-    → Holds (sides c d) (beside f g) iso
-both_iso c d f g h k either = λ u v i j. each_side c d
+pub both_isotone : (c d : PureCarrier) (f g : Action) → Holds c f Isotone → Holds d g Isotone → Holds c f Total ⊎ Holds d g Dead
+    → Holds (sides c d) (beside f g) Isotone
+both_isotone c d f g h k either = λ u v i j. each_side c d
     (λ u. ¬ IsPreferred (sides c d) (Some v) (Some u) → ¬ IsPreferred (sides c d) (beside f g v) (beside f g u))
     (λ s i. each_side c d
     (λ v. ¬ IsPreferred (sides c d) (Some v) (Some (first s)) → ¬ IsPreferred (sides c d) (beside f g v) (option_map first (f s)))
@@ -148,16 +150,16 @@ both_iso c d f g h k either = λ u v i j. each_side c d
     (λ t j n p. k s t i j n (sym (seconds_compare c d (g t) (g s)) ∙ p)) v j) u i
 
 -- where one side is dead, there are no images of both
-not_across : (c d : PureCarrier) (f g : Action) → Holds c f dead ⊎ Holds d g dead → (u v w x : PureValue) → In c u → In d v
+not_across : (c d : PureCarrier) (f g : Action) → Holds c f Dead ⊎ Holds d g Dead → (u v w x : PureValue) → In c u → In d v
     → option_map first (f u) ≡ Some w → option_map second (g v) ≡ Some x → ⊥
 not_across c d f g either u v w x i j p q = ⊎_elim
     (λ h. let e = h u i in let a = image_of first (f u) w p in let s = a.1 in cc)
     (λ h. let e = h v j in let a = image_of second (g v) x q in let s = a.1 in cc)
     either
 
-pub both_cond : (c d : PureCarrier) (f g : Action) → Holds c f cond → Holds d g cond → Holds c f dead ⊎ Holds d g dead
-    → Holds (sides c d) (beside f g) cond
-both_cond c d f g h k either = λ u v w x i j. each_side c d
+pub both_condensed : (c d : PureCarrier) (f g : Action) → Holds c f Condensed → Holds d g Condensed → Holds c f Dead ⊎ Holds d g Dead
+    → Holds (sides c d) (beside f g) Condensed
+both_condensed c d f g h k either = λ u v w x i j. each_side c d
     (λ u. beside f g u ≡ Some w → beside f g v ≡ Some x → Order (sides c d) w x ≡ Equal)
     (λ s i. each_side c d (λ v. option_map first (f s) ≡ Some w → beside f g v ≡ Some x → Order (sides c d) w x ≡ Equal)
     (λ t j p q.
@@ -172,8 +174,8 @@ both_cond c d f g h k either = λ u v w x i j. each_side c d
     let b = image_of second (g t) x q in
     rw (a.2, b.2) (k s t a.0 b.0 i j a.1 b.1)) v j) u i
 
-pub both_narrow : (c d : PureCarrier) (f g : Action) → Holds c f narrow → Holds d g narrow → Holds c f dead ⊎ Holds d g dead
-    → Holds (sides c d) (beside f g) narrow
+pub both_narrow : (c d : PureCarrier) (f g : Action) → Holds c f Narrow → Holds d g Narrow → Holds c f Dead ⊎ Holds d g Dead
+    → Holds (sides c d) (beside f g) Narrow
 both_narrow c d f g h k either = λ u v w x i j. each_side c d
     (λ u. beside f g u ≡ Some w → beside f g v ≡ Some x → Order (sides c d) u v ≡ Equal)
     (λ s i. each_side c d (λ v. option_map first (f s) ≡ Some w → beside f g v ≡ Some x → Order (sides c d) (first s) v ≡ Equal)
@@ -190,5 +192,5 @@ both_narrow c d f g h k either = λ u v w x i j. each_side c d
     k s t a.0 b.0 i j a.1 b.1) v j) u i
 
 -- what is sent to none keeps its order
-pub iso_of_dead : (c : PureCarrier) (f : Action) → Holds c f dead → Holds c f iso
-iso_of_dead c f h = λ u v i j n p. none_not_preferred c (f u) (subst (λ o. IsPreferred c o (f u)) (h v j) p)
+pub isotone_of_dead : (c : PureCarrier) (f : Action) → Holds c f Dead → Holds c f Isotone
+isotone_of_dead c f h = λ u v i j n p. none_not_preferred c (f u) (subst (λ o. IsPreferred c o (f u)) (h v j) p)

@@ -3,11 +3,14 @@ use Rattle.std.proofs.Common.{◌≡◌, refl, subst, Bool, true, false, ◌&&�
 use Rattle.alg_model.specs.Expressions.{PureCarrier, sides, PureValue, first, second}
 use Rattle.alg_model.specs.Carriers.{In}
 use Rattle.alg_classes.specs.declared.profile.Profile.{Profile}
-use Rattle.alg_classes.specs.Facts.{Action, Fact, total, dead, mono, strict, iso, canc, cond, narrow, Holds, PureExample, at, between, Refutes}
+use Rattle.alg_classes.specs.declared.fact.Fact.{Fact}
+use Rattle.alg_classes.specs.declared.fact.Fact.TheVariants.{Total, Dead, Monotone, Strict, Isotone, Cancellative, Condensed, Narrow}
+use Rattle.alg_classes.specs.Facts.{Action, Holds, PureExample, at, between, Refutes}
 use Rattle.alg_classes.specs.Classes.{PureExamples, Settles, IsSettledBy}
 use Rattle.alg_classes.specs.ClassLaws.{settled_profile}
-use Rattle.union_classes.specs.Sums.{beside, denied, beside_profile, denied_profile, first_profile, second_profile, on_first, on_second, of_either, across, or_else, beside_examples, denied_examples}
-use Rattle.union_classes.specs.SideLaws.{refuted_on_first, refuted_on_second, refuted_iso, refuted_cond, refuted_narrow, both_total, both_dead, both_mono, both_strict, both_canc, both_iso, both_cond, both_narrow, iso_of_dead}
+use Rattle.alg_classes.specs.Constants.{denied, denied_profile, denied_examples, denied_settled}
+use Rattle.union_classes.specs.Sums.{beside, beside_profile, first_profile, second_profile, on_first, on_second, of_either, across, or_else, beside_examples}
+use Rattle.union_classes.specs.SideLaws.{refuted_on_first, refuted_on_second, refuted_isotone, refuted_condensed, refuted_narrow, both_total, both_dead, both_monotone, both_strict, both_cancellative, both_isotone, both_condensed, both_narrow, isotone_of_dead}
 
 -- as Settles, of any claim and what refutes it
 abbrev SettledAs : Type 0 → (PureExample → Type 0) → Bool → Option PureExample → Type 0
@@ -92,28 +95,17 @@ guarded c d f g k i j holds one one' cross a b x y o p q r s t s' t' =
 -- the facts of one action beside another are settled by those of both
 pub beside_settled : (c d : PureCarrier) (f g : Action) (p q : Profile) (x y : PureExamples) → IsSettledBy c f p x → IsSettledBy d g q y
     → IsSettledBy (sides c d) (beside f g) (beside_profile p q) (beside_examples x y)
-beside_settled c d f g p q x y s t total = plain c d f g total (both_total c d f g) p.total q.total (x total) (y total) (s total) (t total)
-beside_settled c d f g p q x y s t dead = plain c d f g dead (both_dead c d f g) p.dead q.dead (x dead) (y dead) (s dead) (t dead)
-beside_settled c d f g p q x y s t mono = plain c d f g mono (both_mono c d f g) p.mono q.mono (x mono) (y mono) (s mono) (t mono)
-beside_settled c d f g p q x y s t strict = plain c d f g strict (both_strict c d f g) p.strict q.strict (x strict) (y strict) (s strict) (t strict)
-beside_settled c d f g p q x y s t iso = guarded c d f g iso total dead (both_iso c d f g) (λ u v r. r.1) (λ u v r. r.1) (refuted_iso c d f g)
-    p.iso q.iso p.total q.dead (x iso) (y iso) (x total) (y dead) (s iso) (t iso) (s total) (t dead)
-beside_settled c d f g p q x y s t canc = plain c d f g canc (both_canc c d f g) p.canc q.canc (x canc) (y canc) (s canc) (t canc)
-beside_settled c d f g p q x y s t cond = guarded c d f g cond dead dead (both_cond c d f g) (λ u v r. r.1) (λ u v r. r.1) (refuted_cond c d f g)
-    p.cond q.cond p.dead q.dead (x cond) (y cond) (x dead) (y dead) (s cond) (t cond) (s dead) (t dead)
-beside_settled c d f g p q x y s t narrow = guarded c d f g narrow dead dead (both_narrow c d f g) (λ u v r. r.1) (λ u v r. r.1) (refuted_narrow c d f g)
-    p.narrow q.narrow p.dead q.dead (x narrow) (y narrow) (x dead) (y dead) (s narrow) (t narrow) (s dead) (t dead)
-
--- what denies all has every fact but that it is total
-pub denied_settled : (c : PureCarrier) (v : PureValue) → In c v → IsSettledBy c denied denied_profile (denied_examples v)
-denied_settled c v i total = (i, refl)
-denied_settled c v i dead = λ w j. refl
-denied_settled c v i mono = λ w j e. cc
-denied_settled c v i strict = λ w j. refl
-denied_settled c v i iso = λ u w j k n e. cc
-denied_settled c v i canc = λ u w j k e. absurd e
-denied_settled c v i cond = λ u w x y j k e g. absurd (cc)
-denied_settled c v i narrow = λ u w x y j k e g. absurd (cc)
+beside_settled c d f g p q x y s t Total = plain c d f g Total (both_total c d f g) p.total q.total (x Total) (y Total) (s Total) (t Total)
+beside_settled c d f g p q x y s t Dead = plain c d f g Dead (both_dead c d f g) p.dead q.dead (x Dead) (y Dead) (s Dead) (t Dead)
+beside_settled c d f g p q x y s t Monotone = plain c d f g Monotone (both_monotone c d f g) p.mono q.mono (x Monotone) (y Monotone) (s Monotone) (t Monotone)
+beside_settled c d f g p q x y s t Strict = plain c d f g Strict (both_strict c d f g) p.strict q.strict (x Strict) (y Strict) (s Strict) (t Strict)
+beside_settled c d f g p q x y s t Isotone = guarded c d f g Isotone Total Dead (both_isotone c d f g) (λ u v r. r.1) (λ u v r. r.1) (refuted_isotone c d f g)
+    p.iso q.iso p.total q.dead (x Isotone) (y Isotone) (x Total) (y Dead) (s Isotone) (t Isotone) (s Total) (t Dead)
+beside_settled c d f g p q x y s t Cancellative = plain c d f g Cancellative (both_cancellative c d f g) p.canc q.canc (x Cancellative) (y Cancellative) (s Cancellative) (t Cancellative)
+beside_settled c d f g p q x y s t Condensed = guarded c d f g Condensed Dead Dead (both_condensed c d f g) (λ u v r. r.1) (λ u v r. r.1) (refuted_condensed c d f g)
+    p.cond q.cond p.dead q.dead (x Condensed) (y Condensed) (x Dead) (y Dead) (s Condensed) (t Condensed) (s Dead) (t Dead)
+beside_settled c d f g p q x y s t Narrow = guarded c d f g Narrow Dead Dead (both_narrow c d f g) (λ u v r. r.1) (λ u v r. r.1) (refuted_narrow c d f g)
+    p.narrow q.narrow p.dead q.dead (x Narrow) (y Narrow) (x Dead) (y Dead) (s Narrow) (t Narrow) (s Dead) (t Dead)
 
 -- the profiles where one of both denies
 abbrev made : Bool → Bool → Bool → Bool → Bool → Bool → Bool → Bool → Profile
@@ -175,5 +167,5 @@ pub second_settled : (c d : PureCarrier) (g : Action) (q : Profile) (y : PureExa
 second_settled c d g q y u i t =
     let is = settled_profile d g q y t in
     subst (λ r. IsSettledBy (sides c d) (beside denied g) r (beside_examples (denied_examples u) y))
-    (second_denied_beside q (λ e. (is iso).1 (iso_of_dead d g ((is dead).0 e))))
+    (second_denied_beside q (λ e. (is Isotone).1 (isotone_of_dead d g ((is Dead).0 e))))
     (beside_settled c d denied g denied_profile q (denied_examples u) y (denied_settled c u i) t)

@@ -1,9 +1,10 @@
 -- Actions on the two sides of a sum's or a union's values, and how facts and examples come from those of the
 -- two sides.
-use Rattle.std.specs.Prelude.{true, false, ◌&&◌, ◌||◌, Option, Some, None, option_map}
-use Rattle.alg_model.specs.Expressions.{PureValue, first, second}
+use Rattle.std.specs.Prelude.{false, ◌&&◌, ◌||◌, Option, Some, None, option_map}
+use Rattle.alg_model.specs.Expressions.{first, second}
 use Rattle.alg_classes.specs.declared.profile.Profile.{Profile}
-use Rattle.alg_classes.specs.Facts.{Action, total, dead, mono, strict, iso, canc, cond, narrow, PureExample, at, between}
+use Rattle.alg_classes.specs.declared.fact.Fact.TheVariants.{Total, Dead, Monotone, Strict, Isotone, Cancellative, Condensed, Narrow}
+use Rattle.alg_classes.specs.Facts.{Action, PureExample, at, between}
 use Rattle.alg_classes.specs.Classes.{PureExamples}
 
 -- one action on the values of the first side, and another on those of the second
@@ -11,10 +12,6 @@ abbrev pub beside : Action → Action → Action
 beside f g (first u) = option_map first (f u)
 beside f g (second v) = option_map second (g v)
 beside f g _ = None
-
--- sends every value to none
-abbrev pub denied : Action
-denied v = None
 
 -- each fact that both have
 abbrev pub all_of_both : Profile → Profile → Profile
@@ -42,18 +39,6 @@ beside_profile p q = record {
   canc = p.canc && q.canc;
   cond = (p.cond && q.cond) && (p.dead || q.dead);
   narrow = (p.narrow && q.narrow) && (p.dead || q.dead);
-}
-
-abbrev pub denied_profile : Profile
-denied_profile = record {
-  total = false;
-  dead = true;
-  mono = true;
-  strict = true;
-  iso = true;
-  canc = true;
-  cond = true;
-  narrow = true;
 }
 
 -- the profile of an action beside one that denies, and of one that denies beside it
@@ -105,16 +90,11 @@ or_else (Some e) o = Some e
 or_else None o = o
 
 abbrev pub beside_examples : PureExamples → PureExamples → PureExamples
-beside_examples x y total = of_either (x total) (y total)
-beside_examples x y dead = of_either (x dead) (y dead)
-beside_examples x y mono = of_either (x mono) (y mono)
-beside_examples x y strict = of_either (x strict) (y strict)
-beside_examples x y iso = or_else (of_either (x iso) (y iso)) (across (x total) (y dead))
-beside_examples x y canc = of_either (x canc) (y canc)
-beside_examples x y cond = or_else (of_either (x cond) (y cond)) (across (x dead) (y dead))
-beside_examples x y narrow = or_else (of_either (x narrow) (y narrow)) (across (x dead) (y dead))
-
--- where all values are sent to none, any value shows that the action isn't total
-abbrev pub denied_examples : PureValue → PureExamples
-denied_examples v total = Some (at v)
-denied_examples v _ = None
+beside_examples x y Total = of_either (x Total) (y Total)
+beside_examples x y Dead = of_either (x Dead) (y Dead)
+beside_examples x y Monotone = of_either (x Monotone) (y Monotone)
+beside_examples x y Strict = of_either (x Strict) (y Strict)
+beside_examples x y Isotone = or_else (of_either (x Isotone) (y Isotone)) (across (x Total) (y Dead))
+beside_examples x y Cancellative = of_either (x Cancellative) (y Cancellative)
+beside_examples x y Condensed = or_else (of_either (x Condensed) (y Condensed)) (across (x Dead) (y Dead))
+beside_examples x y Narrow = or_else (of_either (x Narrow) (y Narrow)) (across (x Dead) (y Dead))

@@ -3,6 +3,7 @@ ghost use Rattle.std.specs.Prelude.{◌≡◌, option_map, IfOk};
 ghost use Rattle.alg_model.specs.Expressions as pure;
 ghost use Rattle.alg_model.specs.Views.{pure_value};
 ghost use Rattle.alg_classes.specs.Classes.{pure_at, pure_between, pure_examples};
+ghost use Rattle.alg_classes.specs.Constants.{denied_examples};
 ghost use Rattle.union_classes.specs.Made.{AreExamples};
 ghost use Rattle.union_classes.specs.Sums as rule;
 
@@ -124,7 +125,7 @@ pub fn beside(alloc: Global, x: &Examples, y: &Examples) -> Result<Examples, NoM
 /// The examples of a label that sends all values of a side to none, of which this is one. They are refused
 /// for want of memory alone.
 pub fn denied(alloc: Global, value: &Value) -> Result<Examples, NoMemory>
-    ensures { IfOk result (λ z. AreExamples z (rule.denied_examples (pure_value value.now))) }
+    ensures { IfOk result (λ z. AreExamples z (denied_examples (pure_value value.now))) }
 {
     Ok(Examples {
         inside: None,

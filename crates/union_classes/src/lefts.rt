@@ -13,10 +13,8 @@ ghost use Rattle.alg_classes.specs.Growth.{Grown, Only};
 ghost use Rattle.alg_classes.specs.Profiles.{ProfileOf};
 ghost use Rattle.union_classes.specs.Made.{OfConstants};
 
-use alg_classes::{
-    Class, ClassList, Profile, Shaped, best, constant_examples, constant_profile, worst,
-};
-use alg_model::{Carrier, Label, Value};
+use alg_classes::{Class, ClassList, Profile, best, constant_examples, constant_profile, worst};
+use alg_model::{Carrier, Label, Shaped, Value};
 use meta_base::NoMemory;
 use std::alloc::Global;
 

@@ -8,8 +8,8 @@ ghost use Rattle.alg_classes.specs.Classes.{ClassOf, Covers, alg_in};
 ghost use Rattle.alg_classes.specs.Constants.{kept_profile};
 ghost use Rattle.alg_classes.specs.Profiles.{ProfileOf};
 
-use alg_classes::{Class, ClassList, Profile, Shaped, kept_examples, kept_profile};
-use alg_model::{Carrier, Label};
+use alg_classes::{Class, ClassList, Profile, kept_examples, kept_profile};
+use alg_model::{Carrier, Label, Shaped};
 use meta_base::NoMemory;
 use std::alloc::Global;
 

@@ -11,7 +11,7 @@ use Rattle.alg_model.specs.Laws.{total_preorder}
 use Rattle.alg_model.specs.Properties.{monotone}
 use Rattle.net_graph.specs.Nets.{PureNet}
 use Rattle.net_graph.specs.Routes.{PureRoute, Better, is_less}
-use Rattle.net_graph.specs.Tables.{Told, NetHas, carrier, IsOfferBy}
+use Rattle.net_graph.specs.Tables.{Reported, NetHas, carrier, IsOfferBy}
 use Rattle.net_graph.specs.Unbeaten.{IsUnbeatenBy, unbeaten_trans}
 use Rattle.net_graph.specs.ArcLaws.{along_monotone}
 use Rattle.path_vector.specs.Items.{IsItem, unfiltered}
@@ -75,8 +75,8 @@ module _ (net : PureNet) (mono : NetHas monotone net) (values : List PureValue) 
   value_in r h = are_in r.value h.among
 
   -- an arc raises the level
-  extends : (told : Told) (i j : ℕ) (r : PureRoute) → (o : IsOfferBy net told i j r) → Has o.next → Has r → level c values n (Some o.next) < level c values n (Some r)
-  extends told i j r o h k =
+  extends : (reported : Reported) (i j : ℕ) (r : PureRoute) → (o : IsOfferBy net reported i j r) → Has o.next → Has r → level c values n (Some o.next) < level c values n (Some r)
+  extends reported i j r o h k =
       let unbeaten : IsUnbeatenBy c (Some o.next.value) (Some r.value) =
       subst (λ x. IsUnbeatenBy c (Some o.next.value) x) o.weighs (along_monotone net mono i j (Some o.next.value) (value_in o.next h)) in
       let more = rank_more c values are_in o.next.value r.value (value_in o.next h) (value_in r k) unbeaten in

@@ -1,14 +1,15 @@
 -- Levels of routes, what is known on an arc, and the budget of an update.
-use Rattle.std.specs.Prelude.{◌≡◌, ◌≢◌, ℕ, ◌+◌, ◌-◌, ◌*◌, ◌<◌, ◌≤◌, ◌==◌, false, min, List, ◌∷◌, Option, Some, None, cond, filter, length, option_and_then}
+use Rattle.std.specs.Prelude.{◌≡◌, ◌≢◌, ℕ, ◌+◌, ◌-◌, ◌*◌, ◌<◌, ◌≤◌, ◌==◌, false, min, List, Option, Some, None, cond, filter, length, option_and_then}
 use Rattle.alg_model.specs.Expressions.{PureCarrier, PureValue}
 use Rattle.alg_model.specs.Carriers.{In, Order}
 use Rattle.net_graph.specs.Nets.{PureNet}
 use Rattle.net_graph.specs.Routes.{PureRoute, Better, is_less}
-use Rattle.net_graph.specs.Tables.{Told, carrier, IsOfferBy, IsChoice}
+use Rattle.net_graph.specs.Tables.{Reported, carrier, IsOfferBy, IsChoice}
 use Rattle.node_core.specs.Kinds.{listener}
 use Rattle.node_core.specs.Machine.{Machine}
 use Rattle.path_vector.specs.Items.{IsItem}
 use Rattle.path_vector.specs.Node.{PvState, PureUpdate}
+use Rattle.settled_laws.specs.Offers.{ReportsOwnPaths}
 use Rattle.vector_rest.specs.Reached.{reached, start_values}
 
 -- how many of the values are preferred to this one
@@ -28,21 +29,17 @@ pub record Occurs (values : List PureValue) (n : ℕ) (r : PureRoute) : Type 0 w
   pub few : length r.path ≤ n
 
 -- each route that a neighbour reports is one of these
-abbrev pub ReportsOnly : (PureRoute → Type 0) → Told → Type 0
-ReportsOnly Has told = (j : ℕ) (next : PureRoute) → told j ≡ Some next → Has next
-
--- the path of each route that a neighbour reports begins with the neighbour
-abbrev pub ReportsOwnPaths : Told → Type 0
-ReportsOwnPaths told = (j : ℕ) (next : PureRoute) → told j ≡ Some next → (p : List ℕ) × (next.path ≡ j ∷ p)
+abbrev pub ReportsOnly : (PureRoute → Type 0) → Reported → Type 0
+ReportsOnly Has reported = (j : ℕ) (next : PureRoute) → reported j ≡ Some next → Has next
 
 -- What the neighbours of node i report changes for one neighbour, j, and its choice changes from r to s. All routes are
 -- of these, and begin with the node that reports them.
-pub record ChangesByOne (net : PureNet) (Has : PureRoute → Type 0) (dest i j : ℕ) (told other : Told) (r s : Option PureRoute) : Type 0 where
-  pub has : ReportsOnly Has told
+pub record ChangesByOne (net : PureNet) (Has : PureRoute → Type 0) (dest i j : ℕ) (reported other : Reported) (r s : Option PureRoute) : Type 0 where
+  pub has : ReportsOnly Has reported
   pub has_other : ReportsOnly Has other
-  pub own_paths : ReportsOwnPaths told
-  pub one : (m : ℕ) → (m == j) ≡ false → told m ≡ other m
-  pub choice : IsChoice net dest told i r
+  pub own_paths : ReportsOwnPaths reported
+  pub one : (m : ℕ) → (m == j) ≡ false → reported m ≡ other m
+  pub choice : IsChoice net dest reported i r
   pub choice_other : IsChoice net dest other i s
   pub is : (x : PureRoute) → r ≡ Some x → Has x
   pub is_other : (x : PureRoute) → s ≡ Some x → Has x
@@ -52,7 +49,7 @@ pub record ChangesByOne (net : PureNet) (Has : PureRoute → Type 0) (dest i j :
 -- none has the highest.
 pub record AreLevels (net : PureNet) (Has : PureRoute → Type 0) (level : Option PureRoute → ℕ) : Type 0 where
   pub values : (r : PureRoute) → Has r → In (carrier net) r.value
-  pub extends : (told : Told) (i j : ℕ) (r : PureRoute) → (o : IsOfferBy net told i j r) → Has o.next → Has r → level (Some o.next) < level (Some r)
+  pub extends : (reported : Reported) (i j : ℕ) (r : PureRoute) → (o : IsOfferBy net reported i j r) → Has o.next → Has r → level (Some o.next) < level (Some r)
   pub orders : (r s : PureRoute) → Has r → Has s → ¬ Better (carrier net) s r → level (Some r) ≤ level (Some s)
   pub tops : (r : PureRoute) → Has r → level (Some r) ≤ level None
 

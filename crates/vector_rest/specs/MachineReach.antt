@@ -13,10 +13,10 @@ use Rattle.net_graph.specs.Tables.{Offers, IsChoice}
 use Rattle.node_core.specs.Kinds.{on_arc}
 use Rattle.node_core.specs.Machine.{Machine, changed_at, clock_after, step_of, Deliver, replay_from}
 use Rattle.node_core.specs.MachineLaws.{same_test, all_join, on_arc_all, option_from, option_then, IsDelivery, delivery_of, replay_keeps}
-use Rattle.path_vector.specs.Node.{PvState, PureUpdate, same_row, choice, fits, told_on, heard_with, taken, path_vector}
+use Rattle.path_vector.specs.Node.{PvState, PureUpdate, same_row, choice, fits, reported_on, heard_with, taken, path_vector}
 use Rattle.path_vector.specs.Coherent.{heard_of, IsCoherent}
 use Rattle.path_vector.specs.Items.{IsItem, item_at}
-use Rattle.path_vector.specs.Telling.{id_is_place, told_all}
+use Rattle.path_vector.specs.Reporting.{id_is_place, reported_all}
 use Rattle.path_vector.specs.Choosing.{IsArcThere, found_there, arc_is_found}
 use Rattle.path_vector.specs.Delivering.{node_is, delivery_keeps}
 use Rattle.vector_rest.specs.Reached.{reached, start_values}
@@ -37,10 +37,10 @@ pub heard_from : (net : PureNet) → IsNet net → (c : Machine PvState PureUpda
     → (j : ℕ) (next : PureRoute) → heard_of s dest j ≡ Some next → IsHeard net s i j dest next
 heard_from net n c k i dest s node j next e =
     let is = node_is net c k i s node in
-    let told = option_then (λ (a : PureArc). s.heard a.id dest) (find (is_arc_between s.number j) s.net.arcs) next e in
-    let on_net : find (is_arc_between s.number j) net.arcs ≡ Some told.0 = subst (λ (z : PureNet). find (is_arc_between s.number j) z.arcs ≡ Some told.0) is.0 told.1 in
-    let found : find (is_arc_between i j) net.arcs ≡ Some told.0 = subst (λ z. find (is_arc_between z j) net.arcs ≡ Some told.0) is.1 on_net in
-    record { arc = told.0; there = found_there net i j told.0 n found; heard = told.2 }
+    let reported = option_then (λ (a : PureArc). s.heard a.id dest) (find (is_arc_between s.number j) s.net.arcs) next e in
+    let on_net : find (is_arc_between s.number j) net.arcs ≡ Some reported.0 = subst (λ (z : PureNet). find (is_arc_between s.number j) z.arcs ≡ Some reported.0) is.0 reported.1 in
+    let found : find (is_arc_between i j) net.arcs ≡ Some reported.0 = subst (λ z. find (is_arc_between z j) net.arcs ≡ Some reported.0) is.1 on_net in
+    record { arc = reported.0; there = found_there net i j reported.0 n found; heard = reported.2 }
 
 -- a delivery to a coherent machine, in words of path-vector nodes
 module _ (net : PureNet) (n : IsNet net) (c d : Machine PvState PureUpdate) (a : ℕ) (kc : IsCoherent net c) (w : IsDelivery path_vector net c a d) where
@@ -105,7 +105,7 @@ module _ (net : PureNet) (n : IsNet net) (start : Machine PvState PureUpdate) (k
       → (r : PureRoute) → Offers net dest (heard_of s dest) i r → IsReached net start dest r
   offered c kc heard i dest s node r (inl own) = reached_start net (start_values net start dest) (length r.path) r.value (origin_there net n start k dest i r.value own.0)
   offered c kc heard i dest s node r (inr (j, o)) =
-      let from = heard_from net n c kc i dest s node j o.next o.is_told in
+      let from = heard_from net n c kc i dest s node j o.next o.is_reported in
       let before = heard from.arc s dest o.next from.there.stands (subst (λ z. c.node z ≡ Some s) (sym from.there.tail) node) from.heard in
       let longer : length r.path ≡ length (i ∷ o.next.path) = ap (λ (p : List ℕ). length p) o.path in
       let steps : suc (length o.next.path) ≡ length r.path = omega (arith, longer) in
@@ -169,9 +169,9 @@ module _ (net : PureNet) (n : IsNet net) (start : Machine PvState PureUpdate) (k
         says r e = rows_reached d kd heard_next w.number w.message.dest (after net n c d a kc w) r (here_after net n c d a kc w) (row_after net n c d a kc w ∙ e)
 
         puts : (t : Bool) → AllByRecursion (λ (p : ℕ × PureUpdate). SaysReached net start p.1)
-            (cond t [] (told_on (arcs_to w.node.net w.node.number) (record { dest = w.message.dest; route = row net n c d a kc w; stamp = clock net n c d a kc w })))
+            (cond t [] (reported_on (arcs_to w.node.net w.node.number) (record { dest = w.message.dest; route = row net n c d a kc w; stamp = clock net n c d a kc w })))
         puts true = tt
-        puts false = told_all (SaysReached net start) (arcs_to w.node.net w.node.number) (record { dest = w.message.dest; route = row net n c d a kc w; stamp = clock net n c d a kc w }) says
+        puts false = reported_all (SaysReached net start) (arcs_to w.node.net w.node.number) (record { dest = w.message.dest; route = row net n c d a kc w; stamp = clock net n c d a kc w }) says
 
     pub reached_after : HeardReached net start d × WaitsReached net start d
     reached_after = (heard_next, waits_next)

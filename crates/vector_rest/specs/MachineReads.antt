@@ -20,8 +20,8 @@ use Rattle.node_core.specs.MachineLaws.{same_test, on_arc_none, IsDelivery}
 use Rattle.path_vector.specs.Node.{PvState, PureUpdate, fits, same_row, begins_with, may_be_of, choice, heard_with, taken, path_vector}
 use Rattle.path_vector.specs.Coherent.{heard_of, last_said, IsNode, IsCoherent}
 use Rattle.path_vector.specs.Items.{IsItem, item_at}
-use Rattle.path_vector.specs.Telling.{id_is_place}
-use Rattle.path_vector.specs.Choosing.{told_by, IsArcThere, found_there, arc_is_found, arc_is_in, may_be_parts}
+use Rattle.path_vector.specs.Reporting.{id_is_place}
+use Rattle.path_vector.specs.Choosing.{reported_by, IsArcThere, found_there, arc_is_found, arc_is_in, may_be_parts}
 use Rattle.path_vector.specs.Quiet.{short_path}
 use Rattle.path_vector.specs.Words.{fits_is, fits_parts, heard_of_is}
 use Rattle.path_vector.specs.Lawful.{path_vector_is_lawful}
@@ -33,7 +33,8 @@ use Rattle.vector_rest.specs.Reached.{start_values}
 use Rattle.vector_rest.specs.ReachedLaws.{reached_up, reached_in, start_in}
 use Rattle.vector_rest.specs.Reaching.{IsReached, HeardReached}
 use Rattle.vector_rest.specs.MachineReach.{heard_from, IsTaker, taker, clock, after, out, row, steps, node_is_after, here_after, row_after, rows_reached, reached_after, AreReached, replays_reach}
-use Rattle.vector_rest.specs.Levels.{Occurs, ReportsOnly, ReportsOwnPaths, AreLevels, learn, known_on, values_from, level_from, budget_from}
+use Rattle.settled_laws.specs.Offers.{ReportsOwnPaths}
+use Rattle.vector_rest.specs.Levels.{Occurs, ReportsOnly, AreLevels, learn, known_on, values_from, level_from, budget_from}
 use Rattle.vector_rest.specs.LevelLaws.{levels_are}
 use Rattle.vector_rest.specs.ChoiceLaws.{levels_rise}
 
@@ -102,13 +103,13 @@ module _ (net : PureNet) (n : IsNet net) (c d : Machine PvState PureUpdate) (a :
 
     heard_old : (dest : ℕ) → heard_of w.node dest x.arc.head ≡ known_on net c a dest
     heard_old dest =
-        let here : told_by net w.number (λ b. w.node.heard b dest) x.arc.head ≡ w.node.heard x.arc.id dest = rw found refl in
+        let here : reported_by net w.number (λ b. w.node.heard b dest) x.arc.head ≡ w.node.heard x.arc.id dest = rw found refl in
         let known : known_on net c a dest ≡ w.node.heard a dest = rw (w.listens, w.there) refl in
         heard_of_is net w.node w.number dest x.arc.head is.0 is.1 ∙ (here ∙ (ap (λ z. w.node.heard z dest) x.id ∙ sym known))
 
     heard_new : heard_of (after net n c d a kc w) w.message.dest x.arc.head ≡ w.message.route
     heard_new =
-        let here : told_by net w.number (λ b. heard_with w.node.heard a w.message b w.message.dest) x.arc.head ≡ heard_with w.node.heard a w.message x.arc.id w.message.dest = rw found refl in
+        let here : reported_by net w.number (λ b. heard_with w.node.heard a w.message b w.message.dest) x.arc.head ≡ heard_with w.node.heard a w.message x.arc.id w.message.dest = rw found refl in
         let id : (x.arc.id == a) ≡ true = subst (λ z. (x.arc.id == z) ≡ true) x.id (same_test x.arc.id) in
         let said : heard_with w.node.heard a w.message x.arc.id w.message.dest ≡ w.message.route = rw (id, same_test w.message.dest) refl in
         heard_of_is net (after net n c d a kc w) w.number w.message.dest x.arc.head is.0 is.1 ∙ (here ∙ said)
@@ -148,7 +149,7 @@ module _ (net : PureNet) (n : IsNet net) (c d : Machine PvState PureUpdate) (a :
     row_known_after y stands head dest =
         known_after_said (known_on net d y.id) dest (changed_at c.link a w.rest y.id)
         ∙ (ap (λ (known : ℕ → Option PureRoute). last_said dest (known dest) (changed_at c.link a w.rest y.id)) (keeps y.id ne)
-        ∙ (rw ne (ap (λ h. last_said dest h (c.link y.id)) known ∙ kc.told y z.0 w.node dest stands z.1.0 node)))
+        ∙ (rw ne (ap (λ h. last_said dest h (c.link y.id)) known ∙ kc.reported y z.0 w.node dest stands z.1.0 node)))
       where
         ne : (y.id == a) ≡ false
         ne = by (y.id == a) refl

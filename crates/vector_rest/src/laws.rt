@@ -7,7 +7,7 @@ ghost use Rattle.alg_model.specs.Properties.{monotone};
 ghost use Rattle.alg_model.specs.Tests.{same_value};
 ghost use Rattle.net_graph.specs.Nets.{PureNet, IsNet, AreDistinct};
 ghost use Rattle.net_graph.specs.Routes.{PureRoute};
-ghost use Rattle.net_graph.specs.Tables.{Told, NetHas, carrier};
+ghost use Rattle.net_graph.specs.Tables.{Reported, NetHas, carrier};
 ghost use Rattle.node_core.specs.Machine.{Machine, Drained, Start, Replay, replay_from};
 ghost use Rattle.node_core.specs.Running.{IsRunning};
 ghost use Rattle.rest_laws.specs.Budgets.{AreRead};
@@ -23,10 +23,10 @@ ghost use Rattle.vector_rest.specs.Left.{AreCarried, left_at_start, left_from};
 /// label makes no value better (Sobrinho 2005) and the path gets longer. Levels by rank and length are this project's
 /// own.
 pub fn levels_rise()
-    ensures { (net : PureNet) (values : List PureValue) (n dest i j : ℕ) (told other : Told) (r s : Option PureRoute)
-        → NetHas monotone net → ((v : PureValue) → IsItem v values → In (carrier net) v)
-        → ChangesByOne net (Occurs values n) dest i j told other r s
-        → min (level (carrier net) values n (told j)) (level (carrier net) values n (other j))
+    ensures { (net : PureNet) (values : List PureValue) (n dest i j : ℕ) (reported other : Reported)
+        (r s : Option PureRoute) → NetHas monotone net → ((v : PureValue) → IsItem v values → In (carrier net) v)
+        → ChangesByOne net (Occurs values n) dest i j reported other r s
+        → min (level (carrier net) values n (reported j)) (level (carrier net) values n (other j))
         < min (level (carrier net) values n r) (level (carrier net) values n s) }
 {}
 

@@ -1,3 +1,5 @@
+pub mod Alike
+pub mod AlikeLaws
 pub mod Laws
 pub mod NodeLaws
 pub mod Runs

@@ -8,6 +8,7 @@ mod run;
 
 pub use laws::{
     enough_turns_are_quiet, phases_are_of_networks, quiet_phases_are_stable, runs_are_short,
+    two_quiet_runs_end_alike,
 };
 pub use nodes::carried_nodes;
 pub use run::{Phase, Run, run_phases};

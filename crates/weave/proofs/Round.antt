@@ -17,7 +17,7 @@ use Rattle.node_core.specs.declared.node.TheConstants.{MAX_BEGUN}
 use Rattle.woven_laws.specs.ArcEnds.{ends_heard}
 use Rattle.woven_laws.specs.CountLaws.{total_same, total_plus, total_zero, zero_total, total_swap, total_at}
 use Rattle.woven_laws.specs.Counts.{total, waiting_on, sent_by_all, taken_by_all}
-use Rattle.woven_laws.specs.Histories.{Taken, entry_of, taken_on, clock_behind, node_behind, option_behind, option_out}
+use Rattle.woven_laws.specs.Histories.{Taken, entry_of, taken_on, clock_past, node_after, option_after, option_out}
 use Rattle.woven_laws.specs.HistoryLaws.{out_none}
 use Rattle.woven_laws.specs.Woven.{Woven}
 use Rattle.weave.specs.Lanes.{PureLane, elsewhere, inside, coming, going, HasPassed, waits_inside}
@@ -27,7 +27,7 @@ use Rattle.weave.specs.Rounds.{HasRunIn, share_of}
 
 module _ {M : Type 0} (put taken : List M) where
   -- where both ends are in one block they stay there
-  inside_passed : (waits : List M) (n : PureLane M) → HasPassed (inside waits) put taken n → (rest : List M) × (n ≡ inside rest) × (waits ++ put ≡ taken ++ rest)
+  pub inside_passed : (waits : List M) (n : PureLane M) → HasPassed (inside waits) put taken n → (rest : List M) × (n ≡ inside rest) × (waits ++ put ≡ taken ++ rest)
   inside_passed waits elsewhere p = absurd p
   inside_passed waits (inside rest) p = (rest, refl, p)
   inside_passed waits (coming link received) p = absurd p
@@ -143,9 +143,9 @@ module _ {S M : Type 0} (k : Kind S M) (net : PureNet) (count : ℕ) where
       pub round_is : Woven k net (machine_across net count old) (λ i. (each (block_of count i)).history i) (machine_across net count new)
       round_is =
           record {
-            node_is = λ i. settled.seats.node_is (block_of count i) i ∙ ((each (block_of count i)).run.node_is i ∙ ap (λ o. option_behind k o ((each (block_of count i)).history i)) (linked.seats.node_is (block_of count i) i));
+            node_is = λ i. settled.seats.node_is (block_of count i) i ∙ ((each (block_of count i)).run.node_is i ∙ ap (λ o. option_after k o ((each (block_of count i)).history i)) (linked.seats.node_is (block_of count i) i));
             none_takes = λ i none. (each (block_of count i)).run.none_takes i (linked.seats.node_is (block_of count i) i ∙ none);
-            clock_is = λ i. settled.seats.clock_is (block_of count i) i ∙ ((each (block_of count i)).run.clock_is i ∙ ap (λ t. clock_behind t ((each (block_of count i)).history i)) (linked.seats.clock_is (block_of count i) i));
+            clock_is = λ i. settled.seats.clock_is (block_of count i) i ∙ ((each (block_of count i)).run.clock_is i ∙ ap (λ t. clock_past t ((each (block_of count i)).history i)) (linked.seats.clock_is (block_of count i) i));
             timed = λ i. rw (linked.seats.clock_is (block_of count i) i) at ((each (block_of count i)).run.timed i);
             heard = λ i. (each (block_of count i)).run.heard i;
             spoken = λ i. rw (linked.seats.node_is (block_of count i) i) at ((each (block_of count i)).run.spoken i);
@@ -156,7 +156,7 @@ module _ {S M : Type 0} (k : Kind S M) (net : PureNet) (count : ℕ) where
       pub round_gathered : AreGathered net count new
       round_gathered =
           record {
-            own = λ i b apart. settled.seats.node_is b i ∙ ((each b).run.node_is i ∙ ap (λ o. option_behind k o ((each b).history i)) (linked.seats.node_is b i ∙ gathered.own i b apart));
+            own = λ i b apart. settled.seats.node_is b i ∙ ((each b).run.node_is i ∙ ap (λ o. option_after k o ((each b).history i)) (linked.seats.node_is b i ∙ gathered.own i b apart));
             whole = whole;
           }
         where
@@ -193,13 +193,6 @@ sum_total f (x ∷ xs) g e =
     let here : f x ≡ g 0 = e 0 x refl in
     let rest : sum_by f xs ≡ total (length xs) (λ w. g (suc w)) = sum_total f xs (λ w. g (suc w)) (λ w y got. e (suc w) y got) in
     sum_by-cons f x xs ∙ (rw (here, rest) refl ∙ sym (total_front (length xs) g))
-
-pub total_below : (n : ℕ) (f g : ℕ → ℕ) → ((i : ℕ) → i < n → f i ≤ g i) → total n f ≤ total n g
-total_below zero f g below = omega arith
-total_below (suc n) f g below =
-    let rest = total_below n f g (λ i lt. below i (omega arith)) in
-    let last : f n ≤ g n = below n (omega arith) in
-    omega arith
 
 none_some : (n : ℕ) → None ≡ Some n → ⊥
 none_some n e = absurd (cc)
@@ -252,32 +245,32 @@ module _ {S M : Type 0} (k : Kind S M) (net : PureNet) where
   begun_link_few lawful is_net nodes u a = begun_few_from lawful is_net a 0 nodes u
 
   -- nodes keep their places
-  node_behind_at : IsLawful k → (c : Machine S M) (i : ℕ) (s : S) (history : List (Taken M)) → IsNodeAt k net c i s → IsSeated k net i (clock_behind (c.clock i) history) (node_behind k s history)
-  node_behind_at lawful c i s history at = behind (c.clock i) s history (record { net_is = at.net_is; number_is = at.number_is; begun = at.begun; last_is = at.last_is })
+  node_after_at : IsLawful k → (c : Machine S M) (i : ℕ) (s : S) (history : List (Taken M)) → IsNodeAt k net c i s → IsSeated k net i (clock_past (c.clock i) history) (node_after k s history)
+  node_after_at lawful c i s history at = follows (c.clock i) s history (record { net_is = at.net_is; number_is = at.number_is; begun = at.begun; last_is = at.last_is })
     where
-      behind : (t : ℕ) (s : S) (history : List (Taken M)) → IsSeated k net i t s → IsSeated k net i (clock_behind t history) (node_behind k s history)
-      behind t s [] x = x
-      behind t s (h ∷ history) x =
+      follows : (t : ℕ) (s : S) (history : List (Taken M)) → IsSeated k net i t s → IsSeated k net i (clock_past t history) (node_after k s history)
+      follows t s [] x = x
+      follows t s (h ∷ history) x =
           let later = lawful.steps s h.arc h.message h.clock x.begun in
-          behind h.clock (k.step s h.arc h.message h.clock).0 history
+          follows h.clock (k.step s h.arc h.message h.clock).0 history
           (record { net_is = later.net ∙ x.net_is; number_is = later.number ∙ x.number_is; begun = later.begun; last_is = later.last })
 
   -- what was woven from a machine that runs runs
   pub woven_runs : IsLawful k → (c d : Machine S M) (h : ℕ → List (Taken M)) → IsRunning k net c → Woven k net c h d → IsRunning k net d
   woven_runs lawful c d h run woven =
       record {
-        there = λ i lt. let was = run.there i lt in (node_behind k was.0 (h i), woven.node_is i ∙ ap (λ o. option_behind k o (h i)) was.1);
-        past = λ i past. woven.node_is i ∙ ap (λ o. option_behind k o (h i)) (run.past i past);
+        there = λ i lt. let was = run.there i lt in (node_after k was.0 (h i), woven.node_is i ∙ ap (λ o. option_after k o (h i)) was.1);
+        past = λ i past. woven.node_is i ∙ ap (λ o. option_after k o (h i)) (run.past i past);
         each = λ i s e. place i s e (c.node i) refl;
         on_arcs = λ a past. sym (woven.outside a past) ∙ run.on_arcs a past;
       }
     where
       place : (i : ℕ) (s : S) → d.node i ≡ Some s → (o : Option S) → c.node i ≡ o → IsNodeAt k net d i s
-      place i s e None was = let gone : d.node i ≡ None = woven.node_is i ∙ ap (λ o. option_behind k o (h i)) was in absurd (cc)
+      place i s e None was = let gone : d.node i ≡ None = woven.node_is i ∙ ap (λ o. option_after k o (h i)) was in absurd (cc)
       place i s e (Some before) was =
-          let now : d.node i ≡ Some (node_behind k before (h i)) = woven.node_is i ∙ ap (λ o. option_behind k o (h i)) was in
-          let same : node_behind k before (h i) ≡ s = same_Some _ _ (sym now ∙ e) in
-          let seat = node_behind_at lawful c i before (h i) (run.each i before was) in
+          let now : d.node i ≡ Some (node_after k before (h i)) = woven.node_is i ∙ ap (λ o. option_after k o (h i)) was in
+          let same : node_after k before (h i) ≡ s = same_Some _ _ (sym now ∙ e) in
+          let seat = node_after_at lawful c i before (h i) (run.each i before was) in
           subst (IsNodeAt k net d i) same (record { net_is = seat.net_is; number_is = seat.number_is; begun = seat.begun; last_is = seat.last_is ∙ sym (woven.clock_is i) })
 
 module _ {S M : Type 0} (net : PureNet) (c : Machine S M) where

@@ -9,8 +9,8 @@ use Rattle.net_graph.specs.Nets.{PureArc, PureNet, IsNet, IsArcOf}
 use Rattle.node_core.specs.Kinds.{Kind, IsLawful, listener, speaker, on_arc}
 use Rattle.node_core.specs.Machine.{changed_at}
 use Rattle.node_core.specs.MachineLaws.{same_test, at_each, all_join, on_arc_join, on_arc_none, option_from}
-use Rattle.woven_laws.specs.Histories.{Taken, entry_of, taken_on, clock_behind, node_behind, IsTimed, option_behind, option_out}
-use Rattle.woven_laws.specs.HistoryLaws.{taken_on_join, clock_behind_join, timed_join, option_behind_join, option_out_join, behind_none, out_none}
+use Rattle.woven_laws.specs.Histories.{Taken, entry_of, taken_on, clock_past, node_after, IsTimed, option_after, option_out}
+use Rattle.woven_laws.specs.HistoryLaws.{taken_on_join, clock_past_join, timed_join, option_after_join, option_out_join, after_none, out_none}
 use Rattle.woven_laws.specs.Counts.{sent_by_all, taken_by_all}
 use Rattle.woven_laws.specs.CountLaws.{total_same, total_plus, total_zero, total_at}
 use Rattle.weave.specs.Views.{View, IsSeated, AreSeated, HasTaken, HasRun, IsSameView}
@@ -40,7 +40,7 @@ module _ {S M : Type 0} (k : Kind S M) (net : PureNet) where
   pub run_same : (v w : View S M) → IsSameView v w → HasRun k net v (λ i. []) w
   run_same v w same =
       record {
-        node_is = λ i. same.node_is i ∙ sym (behind_none k (v.node i));
+        node_is = λ i. same.node_is i ∙ sym (after_none k (v.node i));
         none_takes = λ i e. refl;
         clock_is = same.clock_is;
         timed = λ i. tt;
@@ -60,16 +60,16 @@ module _ {S M : Type 0} (k : Kind S M) (net : PureNet) where
     no_takes : (i : ℕ) → v.node i ≡ None → h i ++ g i ≡ []
     no_takes i e =
         let first : h i ≡ [] = a.none_takes i e in
-        let gone : w.node i ≡ None = a.node_is i ∙ ap (λ o. option_behind k o (h i)) e in
+        let gone : w.node i ≡ None = a.node_is i ∙ ap (λ o. option_after k o (h i)) e in
         let second : g i ≡ [] = b.none_takes i gone in
         rw (first, second) refl
 
     pub run_then : HasRun k net v (λ i. h i ++ g i) x
     run_then =
         record {
-          node_is = λ i. b.node_is i ∙ (ap (λ o. option_behind k o (g i)) (a.node_is i) ∙ option_behind_join k (v.node i) (h i) (g i));
+          node_is = λ i. b.node_is i ∙ (ap (λ o. option_after k o (g i)) (a.node_is i) ∙ option_after_join k (v.node i) (h i) (g i));
           none_takes = no_takes;
-          clock_is = λ i. b.clock_is i ∙ (ap (λ t. clock_behind t (g i)) (a.clock_is i) ∙ sym (clock_behind_join (v.clock i) (h i) (g i)));
+          clock_is = λ i. b.clock_is i ∙ (ap (λ t. clock_past t (g i)) (a.clock_is i) ∙ sym (clock_past_join (v.clock i) (h i) (g i)));
           timed = λ i. timed_join k (v.clock i) (h i) (g i) (a.timed i) (rw (a.clock_is i) at (b.timed i));
           heard = λ i. all_join (λ (t : Taken M). listener net t.arc ≡ Some i) (h i) (g i) (a.heard i) (b.heard i);
           spoken = λ i. rw (both_out i) (all_join (λ (p : ℕ × M). speaker net p.0 ≡ Some i) (option_out k (v.node i) (h i)) (option_out k (w.node i) (g i)) (a.spoken i) (b.spoken i));
@@ -143,9 +143,9 @@ module _ {S M : Type 0} (k : Kind S M) (net : PureNet) where
     pub run_taken : HasRun k net v one w
     run_taken =
         record {
-          node_is = at_each (λ j. w.node j ≡ option_behind k (v.node j) (one j)) x.number (rw (same_test x.number, x.was) (rw (same_test x.number) at (x.node_is x.number))) (λ j ne. rw ne ((rw ne at (x.node_is j)) ∙ sym (behind_none k (v.node j))));
+          node_is = at_each (λ j. w.node j ≡ option_after k (v.node j) (one j)) x.number (rw (same_test x.number, x.was) (rw (same_test x.number) at (x.node_is x.number))) (λ j ne. rw ne ((rw ne at (x.node_is j)) ∙ sym (after_none k (v.node j))));
           none_takes = at_each (λ j. v.node j ≡ None → one j ≡ []) x.number (λ gone. let was = x.was in absurd (cc)) (λ j ne gone. rw ne refl);
-          clock_is = at_each (λ j. w.clock j ≡ clock_behind (v.clock j) (one j)) x.number (rw (same_test x.number) (rw (same_test x.number) at (x.clock_is x.number))) (λ j ne. rw ne (rw ne at (x.clock_is j)));
+          clock_is = at_each (λ j. w.clock j ≡ clock_past (v.clock j) (one j)) x.number (rw (same_test x.number) (rw (same_test x.number) at (x.clock_is x.number))) (λ j ne. rw ne (rw ne at (x.clock_is j)));
           timed = at_each (λ j. IsTimed k (v.clock j) (one j)) x.number (rw (same_test x.number) (x.timed, tt)) (λ j ne. rw ne tt);
           heard = at_each (λ j. AllByRecursion (λ (t : Taken M). listener net t.arc ≡ Some j) (one j)) x.number (rw (same_test x.number) (x.listens, tt)) (λ j ne. rw ne tt);
           spoken = at_each (λ j. AllByRecursion (λ (p : ℕ × M). speaker net p.0 ≡ Some j) (option_out k (v.node j) (one j))) x.number
@@ -165,19 +165,19 @@ module _ {S M : Type 0} (k : Kind S M) (net : PureNet) where
     one_taken = total_at (length net.nodes) x.number (λ j. length (one j)) among (λ j ne. rw ne refl) ∙ rw (same_test x.number) refl
 
   -- nodes keep their places
-  seated_behind : IsLawful k → (s : S) (i t : ℕ) (history : List (Taken M)) → IsSeated k net i t s → IsSeated k net i (clock_behind t history) (node_behind k s history)
-  seated_behind lawful s i t [] x = x
-  seated_behind lawful s i t (h ∷ history) x =
+  seated_after : IsLawful k → (s : S) (i t : ℕ) (history : List (Taken M)) → IsSeated k net i t s → IsSeated k net i (clock_past t history) (node_after k s history)
+  seated_after lawful s i t [] x = x
+  seated_after lawful s i t (h ∷ history) x =
       let later = lawful.steps s h.arc h.message h.clock x.begun in
-      seated_behind lawful (k.step s h.arc h.message h.clock).0 i h.clock history
+      seated_after lawful (k.step s h.arc h.message h.clock).0 i h.clock history
       (record { net_is = later.net ∙ x.net_is; number_is = later.number ∙ x.number_is; begun = later.begun; last_is = later.last })
 
   pub seated_run : IsLawful k → (v w : View S M) (h : ℕ → List (Taken M)) → AreSeated k net v → HasRun k net v h w → AreSeated k net w
   seated_run lawful v w h seated r i s e = by (v.node i) refl
     where
       by : (o : Option S) → v.node i ≡ o → IsSeated k net i (w.clock i) s
-      by None was = let gone : w.node i ≡ None = r.node_is i ∙ ap (λ o. option_behind k o (h i)) was in absurd (cc)
+      by None was = let gone : w.node i ≡ None = r.node_is i ∙ ap (λ o. option_after k o (h i)) was in absurd (cc)
       by (Some before) was =
-          let now : w.node i ≡ Some (node_behind k before (h i)) = r.node_is i ∙ ap (λ o. option_behind k o (h i)) was in
-          let same : node_behind k before (h i) ≡ s = same_Some _ _ (sym now ∙ e) in
-          subst (IsSeated k net i (w.clock i)) same (subst (λ t. IsSeated k net i t (node_behind k before (h i))) (sym (r.clock_is i)) (seated_behind lawful before i (v.clock i) (h i) (seated i before was)))
+          let now : w.node i ≡ Some (node_after k before (h i)) = r.node_is i ∙ ap (λ o. option_after k o (h i)) was in
+          let same : node_after k before (h i) ≡ s = same_Some _ _ (sym now ∙ e) in
+          subst (IsSeated k net i (w.clock i)) same (subst (λ t. IsSeated k net i t (node_after k before (h i))) (sym (r.clock_is i)) (seated_after lawful before i (v.clock i) (h i) (seated i before was)))

@@ -4,8 +4,8 @@ use Rattle.meta_base.specs.declared.ids.Delivery.{Delivery}
 use Rattle.net_graph.specs.Nets.{PureNet}
 use Rattle.node_core.specs.Kinds.{Kind}
 use Rattle.quiet_ledger.specs.Ledger.{sent_by, taken_by}
-use Rattle.quiet_ledger.specs.declared.book.TheConstants.{MAX_SHARE}
-use Rattle.net_graph.specs.declared.limits.TheConstants.{MAX_ARCS}
+use Rattle.quiet_ledger.specs.Numbers.{max_share}
+use Rattle.net_graph.specs.Limits.{max_arcs}
 use Rattle.woven_laws.specs.Histories.{Taken}
 use Rattle.woven_laws.specs.Counts.{sent_by_all, taken_by_all}
 use Rattle.weave.specs.declared.lane.Lane.{Lane}
@@ -65,8 +65,8 @@ module _ {N M : Type 0} where
     -- a worker may take the part up: its nodes are seated, and what it may come to count fits its share
     pub record IsReady (part : Part N M) : Type 0 where
       pub seated : AreSeated k net (view_of state note part.block)
-      pub sent_room : sent_in part + part.turns * MAX_ARCS ≤ MAX_SHARE
-      pub taken_room : taken_in part + part.turns ≤ MAX_SHARE
+      pub sent_room : sent_in part + part.turns * max_arcs ≤ max_share
+      pub taken_room : taken_in part + part.turns ≤ max_share
 
     -- from one part to another the worker only had nodes take messages and send, and counted both
     pub record HasWorked (old new : Part N M) : Type 0 where
@@ -75,4 +75,4 @@ module _ {N M : Type 0} where
       pub sent : sent_in new ≡ sent_in old + sent_by_all k net (view_of state note old.block).node history
       pub taken : taken_in new ≡ taken_in old + taken_by_all net history
       pub turns : new.turns + taken_in new ≡ old.turns + taken_in old
-      pub room : sent_in new + new.turns * MAX_ARCS ≤ sent_in old + old.turns * MAX_ARCS
+      pub room : sent_in new + new.turns * max_arcs ≤ sent_in old + old.turns * max_arcs

@@ -17,7 +17,7 @@ use Rattle.settled_laws.specs.Pair.{Fits}
 use Rattle.settled_laws.specs.Wedge.{wedge_net}
 use Rattle.sig_text.specs.Parts.{Part, step_of, Splits}
 use Rattle.sig_text.specs.Literals.{ValueText, ValueTextTo, LabelText, LabelTextTo, IsValueFaultTo, IsLabelFaultTo}
-use Rattle.sig_text.specs.Spelled.{Tells, spelled_value, spelled_value_to, spelled_label, spelled_label_to}
+use Rattle.sig_text.specs.Spelled.{Reports, spelled, spelled_value, spelled_value_to, spelled_label, spelled_label_to}
 use Rattle.topology_file.specs.LineLaws.{IsLine, line_after}
 use Rattle.topology_file.specs.NetText.{PureNetFile, empty_file, after_line, Lead}
 use Rattle.wedge_nets.specs.Gadgets.{wedge_file}
@@ -37,10 +37,10 @@ value_after_space alg text v t = record { shape = t.shape; has = t.has; splits =
 
 -- what the laws of literals say
 abbrev pub LabelsAreSpelled : Type 0
-LabelsAreSpelled = (greatest : ℕ) (a : Expression) (text : List ℕ) → Tells (spelled_label_to greatest a text) (LabelTextTo greatest a text) (IsLabelFaultTo greatest a text)
+LabelsAreSpelled = (greatest : ℕ) (a : Expression) (text : List ℕ) → Reports (spelled_label_to greatest a text) (LabelTextTo greatest a text) (IsLabelFaultTo greatest a text)
 
 abbrev pub ValuesAreSpelled : Type 0
-ValuesAreSpelled = (greatest : ℕ) (a : Expression) (text : List ℕ) → Tells (spelled_value_to greatest a text) (ValueTextTo greatest a text) (IsValueFaultTo greatest a text)
+ValuesAreSpelled = (greatest : ℕ) (a : Expression) (text : List ℕ) → Reports (spelled_value_to greatest a text) (ValueTextTo greatest a text) (IsValueFaultTo greatest a text)
 
 abbrev pub LabelsAreReadBack : Type 0
 LabelsAreReadBack = (a : PureAlg) (l : PureLabel) → IsFormed a.expression → IsLabel a.expression l → LabelAtMost (greatest_number a.edition) l → LabelText a (label_text a.expression l) l
@@ -102,38 +102,38 @@ with_origin alg l v = record {
 abbrev with_changes : PureAlg → PureLabel → PureValue → List PureChange → PureNetFile
 with_changes alg l v changes = record { net = wedge_net alg l v; changes = changes }
 
-nodes_step : (alg : PureAlg) → after_line (empty_file alg) (codes "node p q") ≡ Ok (with_nodes alg)
+nodes_step : (alg : PureAlg) → after_line spelled (empty_file alg) (codes "node p q") ≡ Ok (with_nodes alg)
 nodes_step alg = rw (node_room alg.edition) refl
 
 arc_step : (alg : PureAlg) (l : PureLabel) (v : PureValue) → AreSpelled alg l v → IsLine (codes "link p q : " ++ label_text alg.expression l)
-    → after_line (with_nodes alg) (codes "link p q : " ++ label_text alg.expression l) ≡ Ok (with_arc alg l)
-arc_step alg l v s i = line_after (with_nodes alg) (codes "link p q : " ++ label_text alg.expression l) i ∙ rw s.label refl
+    → after_line spelled (with_nodes alg) (codes "link p q : " ++ label_text alg.expression l) ≡ Ok (with_arc alg l)
+arc_step alg l v s i = line_after spelled (with_nodes alg) (codes "link p q : " ++ label_text alg.expression l) i ∙ rw s.label refl
 
 first_origin_step : (alg : PureAlg) (l : PureLabel) (v : PureValue) → AreSpelled alg l v → IsLine (codes "origin x at p : " ++ value_text (carrier_of alg.expression) v)
-    → after_line (with_arc alg l) (codes "origin x at p : " ++ value_text (carrier_of alg.expression) v) ≡ Ok (with_origin alg l v)
-first_origin_step alg l v s i = line_after (with_arc alg l) (codes "origin x at p : " ++ value_text (carrier_of alg.expression) v) i ∙ rw (s.value, dest_room alg.edition) refl
+    → after_line spelled (with_arc alg l) (codes "origin x at p : " ++ value_text (carrier_of alg.expression) v) ≡ Ok (with_origin alg l v)
+first_origin_step alg l v s i = line_after spelled (with_arc alg l) (codes "origin x at p : " ++ value_text (carrier_of alg.expression) v) i ∙ rw (s.value, dest_room alg.edition) refl
 
 second_origin_step : (alg : PureAlg) (l : PureLabel) (v : PureValue) → AreSpelled alg l v → IsLine (codes "origin x at q : " ++ value_text (carrier_of alg.expression) v)
-    → after_line (with_origin alg l v) (codes "origin x at q : " ++ value_text (carrier_of alg.expression) v) ≡ Ok (with_changes alg l v [])
-second_origin_step alg l v s i = line_after (with_origin alg l v) (codes "origin x at q : " ++ value_text (carrier_of alg.expression) v) i ∙ rw s.value refl
+    → after_line spelled (with_origin alg l v) (codes "origin x at q : " ++ value_text (carrier_of alg.expression) v) ≡ Ok (with_changes alg l v [])
+second_origin_step alg l v s i = line_after spelled (with_origin alg l v) (codes "origin x at q : " ++ value_text (carrier_of alg.expression) v) i ∙ rw s.value refl
 
 first_link_step : (alg : PureAlg) (l : PureLabel) (v : PureValue) → AreSpelled alg l v → IsLine (codes "then link q p : " ++ label_text alg.expression l)
-    → after_line (with_changes alg l v []) (codes "then link q p : " ++ label_text alg.expression l) ≡ Ok (with_changes alg l v (link 1 0 l ∷ []))
+    → after_line spelled (with_changes alg l v []) (codes "then link q p : " ++ label_text alg.expression l) ≡ Ok (with_changes alg l v (link 1 0 l ∷ []))
 first_link_step alg l v s i =
-    line_after (with_changes alg l v []) (codes "then link q p : " ++ label_text alg.expression l) i ∙ rw (s.label, change_room alg.edition 0 (omega arith)) refl
+    line_after spelled (with_changes alg l v []) (codes "then link q p : " ++ label_text alg.expression l) i ∙ rw (s.label, change_room alg.edition 0 (omega arith)) refl
 
-drop_step : (alg : PureAlg) (l : PureLabel) (v : PureValue) → after_line (with_changes alg l v (link 1 0 l ∷ [])) (codes "then drop p q") ≡ Ok (with_changes alg l v (link 1 0 l ∷ drop 0 1 ∷ []))
+drop_step : (alg : PureAlg) (l : PureLabel) (v : PureValue) → after_line spelled (with_changes alg l v (link 1 0 l ∷ [])) (codes "then drop p q") ≡ Ok (with_changes alg l v (link 1 0 l ∷ drop 0 1 ∷ []))
 drop_step alg l v = rw (change_room alg.edition 1 (omega arith)) refl
 
 second_link_step : (alg : PureAlg) (l : PureLabel) (v : PureValue) → AreSpelled alg l v → IsLine (codes "then link p q : " ++ label_text alg.expression l)
-    → after_line (with_changes alg l v (link 1 0 l ∷ drop 0 1 ∷ [])) (codes "then link p q : " ++ label_text alg.expression l) ≡ Ok (wedge_file alg l v)
+    → after_line spelled (with_changes alg l v (link 1 0 l ∷ drop 0 1 ∷ [])) (codes "then link p q : " ++ label_text alg.expression l) ≡ Ok (wedge_file alg l v)
 second_link_step alg l v s i =
-    line_after (with_changes alg l v (link 1 0 l ∷ drop 0 1 ∷ [])) (codes "then link p q : " ++ label_text alg.expression l) i
+    line_after spelled (with_changes alg l v (link 1 0 l ∷ drop 0 1 ∷ [])) (codes "then link p q : " ++ label_text alg.expression l) i
     ∙ rw (s.label, change_room alg.edition 2 (omega arith)) refl
 
 -- all of them in turn
 pub wedge_leads : (alg : PureAlg) (l : PureLabel) (v : PureValue) → AreSpelled alg l v → AllByRecursion IsLine (wedge_lines alg.expression l v)
-    → Lead (empty_file alg) (wedge_lines alg.expression l v) (wedge_file alg l v)
+    → Lead spelled (empty_file alg) (wedge_lines alg.expression l v) (wedge_file alg l v)
 wedge_leads alg l v s i = (
   with_nodes alg,
   nodes_step alg,

@@ -6,11 +6,8 @@ use Rattle.alg_model.specs.Expressions.{Expression, PureAlg, PureLabel, PureValu
 use Rattle.alg_model.specs.Texts.{value_text, label_text}
 use Rattle.alg_model.specs.Verdicts.{PureInstance, PureVerdict, holds, fails}
 use Rattle.topology_file.specs.LineTexts.{ended, text_of}
+use Rattle.topology_file.specs.Numbers.{max_line_bytes}
 use Rattle.report_text.specs.VerdictTexts.{instance_text}
-
--- the most bytes that a line of a network file may have, without its line feed
-abbrev pub longest_line : ℕ
-longest_line = 4096
 
 -- the lines of the wedge's network file
 abbrev pub wedge_lines : Expression → PureLabel → PureValue → List (List ℕ)
@@ -34,7 +31,7 @@ gadget_lines a x = no_line a x ∷ wedge_lines a x.label x.first
 
 -- none of the lines is too long for a network file
 abbrev pub are_short : List (List ℕ) → Bool
-are_short lines = list_all (λ line. nat_le (length line) longest_line) lines
+are_short lines = list_all (λ line. nat_le (length line) max_line_bytes) lines
 
 -- where a network file can hold no such lines
 abbrev pub no_file_line : List ℕ

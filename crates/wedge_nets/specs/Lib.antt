@@ -1,2 +1,3 @@
 pub mod Gadgets
 pub mod GadgetTexts
+pub mod Small

@@ -7,7 +7,7 @@ ghost use Rattle.alg_model.specs.Verdicts.{IsExact, Violates};
 ghost use Rattle.property_infer.specs.Views.{pure_verdict};
 ghost use Rattle.wedge_nets.specs.Gadgets.{IsGadget, HasGadget};
 
-use crate::small::{small_label_on, small_value_under};
+use crate::small::small_acting;
 use alg_classes::{Instance, Property};
 use alg_model::Alg;
 use meta_base::NoMemory;
@@ -45,10 +45,11 @@ fn small_instance(alloc: Global, alg: &Alg, instance: &Instance) -> Result<Insta
     requires violates { Violates alg.now.expression (pure_instance instance.now) }
     ensures { IfOk result (λ small. IsGadget alg.now (pure_instance small)) }
 {
+    let (label, first) = small_acting(alloc, alg.tree(), &instance.label, &instance.first)?;
     Ok(Instance {
         property: Property::Monotone,
-        label: small_label_on(alloc, alg.tree(), &instance.label, &instance.first)?,
-        first: small_value_under(alloc, alg.tree(), &instance.label, &instance.first)?,
+        label,
+        first,
         second: None,
     })
 }

@@ -8,7 +8,8 @@ ghost use Rattle.wedge_nets.specs.Gadgets.{wedge_file, IsGadget};
 ghost use Rattle.wedge_nets.specs.GadgetTexts.{gadget_lines, are_short, gadget_text};
 
 use sig_text::{
-    labels_are_told, printed_labels_are_read_back, printed_values_are_read_back, values_are_told,
+    labels_are_reported, printed_labels_are_read_back, printed_values_are_read_back,
+    texts_have_one_spelling, values_are_reported,
 };
 use topology_file::one_text_one_network;
 
@@ -24,8 +25,9 @@ pub fn gadget_texts_are_networks()
     ensures yes { (alg : PureAlg) → NetText (gadget_text alg holds) alg (empty_file alg) }
 {
     // The label and the value stand in the lines as they are printed.
-    labels_are_told();
-    values_are_told();
+    texts_have_one_spelling();
+    labels_are_reported();
+    values_are_reported();
     printed_labels_are_read_back();
     printed_values_are_read_back();
 }

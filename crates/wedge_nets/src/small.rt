@@ -1,9 +1,10 @@
 // Labels and values without great numbers, made of any.
 ghost use Rattle.std.specs.Prelude.{◌≡◌, IfOk};
 ghost use Rattle.alg_model.specs.Carriers.{carrier_of};
-ghost use Rattle.alg_model.specs.Expressions.{scoped, union, sum, sides, pair, first, second, pair_label, both_label, first_label, second_label};
+ghost use Rattle.alg_model.specs.Expressions.{lex, scoped, union, sum, sides, pair, first, second, pair_label, both_label, first_label, second_label};
 ghost use Rattle.alg_model.specs.Views.{expression_of, pure_value, pure_label};
-ghost use Rattle.settled_laws.specs.SmallInstances.{small_beside, small_label, small_label_on, small_value_under};
+ghost use Rattle.settled_laws.specs.SmallInstances.{small_beside, small_label};
+ghost use Rattle.wedge_nets.specs.Small.{AreSmallOf};
 
 use alg_model::{Label, Tree, Value};
 use meta_base::NoMemory;
@@ -90,218 +91,143 @@ fn small_label(alloc: Global, tree: &Tree, label: &Label) -> Result<Label, NoMem
     }
 }
 
-/// The label, which acts on the value, without great numbers.
-#[cycle(small_label_on)]
-pub fn small_label_on(
+/// The label, and the value that it acts on, both without great numbers.
+#[cycle(small_acting)]
+pub fn small_acting(
     alloc: Global,
     tree: &Tree,
     label: &Label,
     value: &Value,
-) -> Result<Label, NoMemory>
-    ensures { IfOk result (λ small. pure_label small ≡
-        small_label_on (expression_of tree.now) (pure_label label.now) (pure_value value.now)) }
+) -> Result<(Label, Value), NoMemory>
+    ensures { IfOk result (AreSmallOf (expression_of tree.now) (pure_label label.now) (pure_value value.now)) }
 {
     match (tree, label) {
-        (Tree::Lex(a, b), Label::Pair(l, m)) => match value {
-            Value::Pair(u, v) => label_pair(
-                alloc,
-                small_label_on(alloc, a, l, u)?,
-                small_label_on(alloc, b, m, v)?,
-            ),
-            _ => label.copy(alloc),
-        },
-        (Tree::Scoped(a, b), _) => scoped_label_on(alloc, a, b, label, value),
-        (Tree::Union(a, b), _) => union_label_on(alloc, a, b, label, value),
-        (Tree::Sum(a, b), _) => sum_label_on(alloc, a, b, label, value),
+        (Tree::Add { .. }, _) => Ok((label.copy(alloc)?, Value::Number(0))),
+        (Tree::Lex(a, b), _) => lex_acting(alloc, a, b, label, value),
+        (Tree::Scoped(a, b), _) => scoped_acting(alloc, a, b, label, value),
+        (Tree::Union(a, b), _) => union_acting(alloc, a, b, label, value),
+        (Tree::Sum(a, b), _) => sum_acting(alloc, a, b, label, value),
         (Tree::Plus(a, _), Label::First(l)) => {
-            label_in_first(alloc, small_label_on(alloc, a, l, value)?)
+            let (l, v) = small_acting(alloc, a, l, value)?;
+            Ok((label_in_first(alloc, l)?, v))
         }
         (Tree::Plus(_, b), Label::Second(m)) => {
-            label_in_second(alloc, small_label_on(alloc, b, m, value)?)
+            let (m, v) = small_acting(alloc, b, m, value)?;
+            Ok((label_in_second(alloc, m)?, v))
         }
-        (Tree::Left(a), Label::Const(w)) => Ok(Label::Const(small_beside(alloc, a, w, value)?)),
-        _ => label.copy(alloc),
+        (Tree::Left(a), Label::Const(w)) => Ok((
+            Label::Const(small_beside(alloc, a, w, value)?),
+            small_beside(alloc, a, value, w)?,
+        )),
+        (Tree::Right(a), _) => Ok((label.copy(alloc)?, small_beside(alloc, a, value, value)?)),
+        _ => copied(alloc, label, value),
     }
 }
 
-#[cycle(small_label_on)]
-fn scoped_label_on(
+#[cycle(small_acting)]
+fn lex_acting(
     alloc: Global,
     a: &Tree,
     b: &Tree,
     label: &Label,
     value: &Value,
-) -> Result<Label, NoMemory>
-    ensures { IfOk result (λ small. pure_label small ≡ small_label_on
-        (scoped (expression_of a.now) (expression_of b.now)) (pure_label label.now) (pure_value value.now)) }
+) -> Result<(Label, Value), NoMemory>
+    ensures { IfOk result (AreSmallOf (lex (expression_of a.now) (expression_of b.now))
+        (pure_label label.now) (pure_value value.now)) }
 {
     match (label, value) {
-        (Label::Outer(l, w), Value::Pair(u, v)) => Ok(Label::Outer(
-            Box::new(alloc, small_label_on(alloc, a, l, u)?)?,
-            small_beside(alloc, b, w, v)?,
-        )),
-        (Label::Inner(m), Value::Pair(_, v)) => {
-            Ok(Label::Inner(Box::new(alloc, small_label_on(alloc, b, m, v)?)?))
+        (Label::Pair(l, m), Value::Pair(u, v)) => {
+            let (l, u) = small_acting(alloc, a, l, u)?;
+            let (m, v) = small_acting(alloc, b, m, v)?;
+            Ok((label_pair(alloc, l, m)?, paired(alloc, u, v)?))
         }
-        _ => label.copy(alloc),
+        _ => copied(alloc, label, value),
     }
 }
 
-#[cycle(small_label_on)]
-fn union_label_on(
+#[cycle(small_acting)]
+fn scoped_acting(
     alloc: Global,
     a: &Tree,
     b: &Tree,
     label: &Label,
     value: &Value,
-) -> Result<Label, NoMemory>
-    ensures { IfOk result (λ small. pure_label small ≡ small_label_on
-        (union (expression_of a.now) (expression_of b.now)) (pure_label label.now) (pure_value value.now)) }
+) -> Result<(Label, Value), NoMemory>
+    ensures { IfOk result (AreSmallOf (scoped (expression_of a.now) (expression_of b.now))
+        (pure_label label.now) (pure_value value.now)) }
+{
+    match (label, value) {
+        (Label::Outer(l, w), Value::Pair(u, v)) => {
+            let (l, u) = small_acting(alloc, a, l, u)?;
+            let outer = Label::Outer(Box::new(alloc, l)?, small_beside(alloc, b, w, v)?);
+            Ok((outer, paired(alloc, u, small_beside(alloc, b, v, w)?)?))
+        }
+        (Label::Inner(m), Value::Pair(u, v)) => {
+            let (m, v) = small_acting(alloc, b, m, v)?;
+            let inner = Label::Inner(Box::new(alloc, m)?);
+            Ok((inner, paired(alloc, small_beside(alloc, a, u, u)?, v)?))
+        }
+        _ => copied(alloc, label, value),
+    }
+}
+
+#[cycle(small_acting)]
+fn union_acting(
+    alloc: Global,
+    a: &Tree,
+    b: &Tree,
+    label: &Label,
+    value: &Value,
+) -> Result<(Label, Value), NoMemory>
+    ensures { IfOk result (AreSmallOf (union (expression_of a.now) (expression_of b.now))
+        (pure_label label.now) (pure_value value.now)) }
 {
     match (label, value) {
         (Label::First(l), Value::First(u)) => {
-            label_in_first(alloc, small_label_on(alloc, a, l, u)?)
+            let (l, u) = small_acting(alloc, a, l, u)?;
+            Ok((label_in_first(alloc, l)?, in_first(alloc, u)?))
         }
         (Label::Second(m), Value::Second(v)) => {
-            label_in_second(alloc, small_label_on(alloc, b, m, v)?)
+            let (m, v) = small_acting(alloc, b, m, v)?;
+            Ok((label_in_second(alloc, m)?, in_second(alloc, v)?))
         }
-        _ => label.copy(alloc),
+        _ => copied(alloc, label, value),
     }
 }
 
 // On a value of one side, only the label of that side acts.
-#[cycle(small_label_on)]
-fn sum_label_on(
+#[cycle(small_acting)]
+fn sum_acting(
     alloc: Global,
     a: &Tree,
     b: &Tree,
     label: &Label,
     value: &Value,
-) -> Result<Label, NoMemory>
-    ensures { IfOk result (λ small. pure_label small ≡ small_label_on
-        (sum (expression_of a.now) (expression_of b.now)) (pure_label label.now) (pure_value value.now)) }
+) -> Result<(Label, Value), NoMemory>
+    ensures { IfOk result (AreSmallOf (sum (expression_of a.now) (expression_of b.now))
+        (pure_label label.now) (pure_value value.now)) }
 {
     match (label, value) {
-        (Label::Both(l, m), Value::First(u)) => label_both(
-            alloc,
-            small_label_on(alloc, a, l, u)?,
-            small_label(alloc, b, m)?,
-        ),
-        (Label::Both(l, m), Value::Second(v)) => label_both(
-            alloc,
-            small_label(alloc, a, l)?,
-            small_label_on(alloc, b, m, v)?,
-        ),
-        _ => label.copy(alloc),
+        (Label::Both(l, m), Value::First(u)) => {
+            let (l, u) = small_acting(alloc, a, l, u)?;
+            let both = label_both(alloc, l, small_label(alloc, b, m)?)?;
+            Ok((both, in_first(alloc, u)?))
+        }
+        (Label::Both(l, m), Value::Second(v)) => {
+            let (m, v) = small_acting(alloc, b, m, v)?;
+            let both = label_both(alloc, small_label(alloc, a, l)?, m)?;
+            Ok((both, in_second(alloc, v)?))
+        }
+        _ => copied(alloc, label, value),
     }
 }
 
-/// The value, on which the label acts, without great numbers.
-#[cycle(small_value_under)]
-pub fn small_value_under(
-    alloc: Global,
-    tree: &Tree,
-    label: &Label,
-    value: &Value,
-) -> Result<Value, NoMemory>
-    ensures { IfOk result (λ small. pure_value small ≡
-        small_value_under (expression_of tree.now) (pure_label label.now) (pure_value value.now)) }
+// An equal label and an equal value.
+fn copied(alloc: Global, label: &Label, value: &Value) -> Result<(Label, Value), NoMemory>
+    ensures label { IfOk result (λ small. pure_label small.0 ≡ pure_label label.now) }
+    ensures value { IfOk result (λ small. pure_value small.1 ≡ pure_value value.now) }
 {
-    match tree {
-        Tree::Add { .. } => Ok(Value::Number(0)),
-        Tree::Lex(a, b) => match (label, value) {
-            (Label::Pair(l, m), Value::Pair(u, v)) => paired(
-                alloc,
-                small_value_under(alloc, a, l, u)?,
-                small_value_under(alloc, b, m, v)?,
-            ),
-            _ => value.copy(alloc),
-        },
-        Tree::Scoped(a, b) => scoped_value_under(alloc, a, b, label, value),
-        Tree::Union(a, b) => union_value_under(alloc, a, b, label, value),
-        Tree::Sum(a, b) => sum_value_under(alloc, a, b, label, value),
-        Tree::Plus(a, b) => match label {
-            Label::First(l) => small_value_under(alloc, a, l, value),
-            Label::Second(m) => small_value_under(alloc, b, m, value),
-            _ => value.copy(alloc),
-        },
-        Tree::Left(a) => match label {
-            Label::Const(w) => small_beside(alloc, a, value, w),
-            _ => value.copy(alloc),
-        },
-        Tree::Right(a) => small_beside(alloc, a, value, value),
-        _ => value.copy(alloc),
-    }
-}
-
-#[cycle(small_value_under)]
-fn scoped_value_under(
-    alloc: Global,
-    a: &Tree,
-    b: &Tree,
-    label: &Label,
-    value: &Value,
-) -> Result<Value, NoMemory>
-    ensures { IfOk result (λ small. pure_value small ≡ small_value_under
-        (scoped (expression_of a.now) (expression_of b.now)) (pure_label label.now) (pure_value value.now)) }
-{
-    match (label, value) {
-        (Label::Outer(l, w), Value::Pair(u, v)) => paired(
-            alloc,
-            small_value_under(alloc, a, l, u)?,
-            small_beside(alloc, b, v, w)?,
-        ),
-        (Label::Inner(m), Value::Pair(u, v)) => paired(
-            alloc,
-            small_beside(alloc, a, u, u)?,
-            small_value_under(alloc, b, m, v)?,
-        ),
-        _ => value.copy(alloc),
-    }
-}
-
-#[cycle(small_value_under)]
-fn union_value_under(
-    alloc: Global,
-    a: &Tree,
-    b: &Tree,
-    label: &Label,
-    value: &Value,
-) -> Result<Value, NoMemory>
-    ensures { IfOk result (λ small. pure_value small ≡ small_value_under
-        (union (expression_of a.now) (expression_of b.now)) (pure_label label.now) (pure_value value.now)) }
-{
-    match (label, value) {
-        (Label::First(l), Value::First(u)) => {
-            in_first(alloc, small_value_under(alloc, a, l, u)?)
-        }
-        (Label::Second(m), Value::Second(v)) => {
-            in_second(alloc, small_value_under(alloc, b, m, v)?)
-        }
-        _ => value.copy(alloc),
-    }
-}
-
-#[cycle(small_value_under)]
-fn sum_value_under(
-    alloc: Global,
-    a: &Tree,
-    b: &Tree,
-    label: &Label,
-    value: &Value,
-) -> Result<Value, NoMemory>
-    ensures { IfOk result (λ small. pure_value small ≡ small_value_under
-        (sum (expression_of a.now) (expression_of b.now)) (pure_label label.now) (pure_value value.now)) }
-{
-    match (label, value) {
-        (Label::Both(l, _), Value::First(u)) => {
-            in_first(alloc, small_value_under(alloc, a, l, u)?)
-        }
-        (Label::Both(_, m), Value::Second(v)) => {
-            in_second(alloc, small_value_under(alloc, b, m, v)?)
-        }
-        _ => value.copy(alloc),
-    }
+    Ok((label.copy(alloc)?, value.copy(alloc)?))
 }
 
 fn paired(alloc: Global, u: Value, v: Value) -> Result<Value, NoMemory>

@@ -8,7 +8,7 @@ use Rattle.net_graph.specs.Routes.{PureRoute}
 use Rattle.node_core.specs.Kinds.{listener}
 use Rattle.node_core.specs.Machine.{Machine, begun_messages}
 use Rattle.path_vector.specs.Coherent.{AreNodesOf}
-use Rattle.path_vector.specs.Node.{PvState, PureUpdate, Begin, Step, all_begun_updates, choice, fits, heard_with, node_rows, path_vector, same_route, same_row, spoke_on, taken, told_on}
+use Rattle.path_vector.specs.Node.{PvState, PureUpdate, Begin, Step, all_begun_updates, choice, fits, heard_with, node_rows, path_vector, same_route, same_row, spoke_on, taken, reported_on}
 use Rattle.vector_runs.specs.Runs.{PurePhase, IsPhaseOf}
 use Rattle.wedge_runs.specs.WedgePhases.{DrainsAlone, one_delivery, one_on}
 use Rattle.wedge_runs.specs.OneDelivery.{HasOneMessage, taken_one, one_drains, one_replays, only_one}
@@ -83,7 +83,7 @@ module _ (net : PureNet) (p q : PvState) (a : ℕ) (p' q' : PvState) (t : TakesO
 
 -- what a node puts out when it begins with a row, the same as before or not
 abbrev pub updates_by : PvState → PureRoute → Bool → List (ℕ × PureUpdate)
-updates_by s row same = told_on (filter (λ a. cond (spoke_on s a) (not same) true) (arcs_to s.net s.number)) (record { dest = 0; route = Some row; stamp = 0 })
+updates_by s row same = reported_on (filter (λ a. cond (spoke_on s a) (not same) true) (arcs_to s.net s.number)) (record { dest = 0; route = Some row; stamp = 0 })
 
 -- a node that begins with that row
 pub record Begins (s : PvState) (row : PureRoute) (same : Bool) : Type 0 where
@@ -94,7 +94,7 @@ pub record Begins (s : PvState) (row : PureRoute) (same : Bool) : Type 0 where
 puts_out : (s : PvState) (row : PureRoute) (same : Bool) → Begins s row same → (Begin s).1 ≡ updates_by s row same ++ []
 puts_out s row same b =
     ap (λ n. all_begun_updates s (range_with_len 0 n)) b.count
-    ∙ (ap (λ r. told_on (filter (λ a. cond (spoke_on s a) (not (same_row r (s.rows 0))) (is_some r)) (arcs_to s.net s.number)) (record { dest = 0; route = r; stamp = 0 }) ++ []) b.chosen
+    ∙ (ap (λ r. reported_on (filter (λ a. cond (spoke_on s a) (not (same_row r (s.rows 0))) (is_some r)) (arcs_to s.net s.number)) (record { dest = 0; route = r; stamp = 0 }) ++ []) b.chosen
     ∙ ap (λ x. updates_by s row x ++ []) b.known)
 
 -- the two put out nothing else
@@ -122,15 +122,15 @@ stepped_is s a r t = rw (t.fit) refl
 pub stays_silent : (s : PvState) (a : ℕ) (r row : PureRoute) → choice s.net 0 s.number s.heard ≡ Some row → choice s.net 0 s.number (heard_with s.heard a (update_of r)) ≡ Some row → same_route row row ≡ true
     → (taken (Begin s).0 a (update_of r) 1).1 ≡ []
 stays_silent s a r row before after same =
-    ap (λ z. cond (same_row z (choice s.net 0 s.number s.heard)) [] (told_on (arcs_to s.net s.number) (record { dest = 0; route = z; stamp = 1 }))) after
-    ∙ (ap (λ z. cond (same_row (Some row) z) [] (told_on (arcs_to s.net s.number) (record { dest = 0; route = Some row; stamp = 1 }))) before
-    ∙ ap (λ z. cond z [] (told_on (arcs_to s.net s.number) (record { dest = 0; route = Some row; stamp = 1 }))) same)
+    ap (λ z. cond (same_row z (choice s.net 0 s.number s.heard)) [] (reported_on (arcs_to s.net s.number) (record { dest = 0; route = z; stamp = 1 }))) after
+    ∙ (ap (λ z. cond (same_row (Some row) z) [] (reported_on (arcs_to s.net s.number) (record { dest = 0; route = Some row; stamp = 1 }))) before
+    ∙ ap (λ z. cond z [] (reported_on (arcs_to s.net s.number) (record { dest = 0; route = Some row; stamp = 1 }))) same)
 
 -- and where it speaks on no arc
 pub unheard_silent : (s : PvState) (a : ℕ) (r : PureRoute) → arcs_to s.net s.number ≡ [] → (taken (Begin s).0 a (update_of r) 1).1 ≡ []
 unheard_silent s a r none =
     let row = choice s.net 0 s.number (heard_with s.heard a (update_of r)) in
-    ap (λ z. cond (same_row row (choice s.net 0 s.number s.heard)) [] (told_on z (record { dest = 0; route = row; stamp = 1 }))) none
+    ap (λ z. cond (same_row row (choice s.net 0 s.number s.heard)) [] (reported_on z (record { dest = 0; route = row; stamp = 1 }))) none
     ∙ nothing (same_row row (choice s.net 0 s.number s.heard))
   where
     nothing : (b : Bool) → cond {A = List (ℕ × PureUpdate)} b [] [] ≡ []

@@ -12,8 +12,8 @@ use Rattle.net_graph.specs.NetLaws.{all_passed}
 use Rattle.node_core.specs.Kinds.{Kind, IsLawful, listener, speaker, on_arc}
 use Rattle.node_core.specs.Machine.{Machine, changed_at, clock_after, stepped, Deliver, deliver_at, replay_from, ComesBefore, Ordered}
 use Rattle.node_core.specs.MachineLaws.{same_test, at_each, all_join, all_mapped, on_arc_join, on_arc_all, on_arc_none, speaks_within, listens_within, front_is, deliver_by_clock}
-use Rattle.woven_laws.specs.Histories.{Taken, entry_of, taken_on, clock_behind, put_out, IsTimed, option_behind, option_out}
-use Rattle.woven_laws.specs.HistoryLaws.{behind_none, out_none}
+use Rattle.woven_laws.specs.Histories.{Taken, entry_of, taken_on, clock_past, put_out, IsTimed, option_after, option_out}
+use Rattle.woven_laws.specs.HistoryLaws.{after_none, out_none}
 use Rattle.woven_laws.specs.Woven.{Woven, hears, IsMergeOf}
 use Rattle.woven_laws.specs.ArcEnds.{ends_at, ends_heard}
 
@@ -149,9 +149,9 @@ module _ {S M : Type 0} (k : Kind S M) (net : PureNet) where
     woven_step : Woven k net after then d
     woven_step =
         record {
-          node_is = at_each (λ j. d.node j ≡ option_behind k (after.node j) (then j)) i (rw (same_test i) (rw (there, here) at (w.node_is i))) (λ j e. rw e (w.node_is j));
+          node_is = at_each (λ j. d.node j ≡ option_after k (after.node j) (then j)) i (rw (same_test i) (rw (there, here) at (w.node_is i))) (λ j e. rw e (w.node_is j));
           none_takes = at_each (λ j. after.node j ≡ None → then j ≡ []) i (rw (same_test i) (λ n. absurd (cc))) (λ j e. rw e (w.none_takes j));
-          clock_is = at_each (λ j. d.clock j ≡ clock_behind (after.clock j) (then j)) i (rw (same_test i) (rw here at (w.clock_is i))) (λ j e. rw e (w.clock_is j));
+          clock_is = at_each (λ j. d.clock j ≡ clock_past (after.clock j) (then j)) i (rw (same_test i) (rw here at (w.clock_is i))) (λ j e. rw e (w.clock_is j));
           timed = at_each (λ j. IsTimed k (after.clock j) (then j)) i (rw (same_test i) ((rw here at (w.timed i)).1)) (λ j e. rw e (w.timed j));
           heard = at_each (λ j. AllByRecursion (λ (g : Taken M). listener net g.arc ≡ Some j) (then j)) i (rw (same_test i) ((rw here at (w.heard i)).1)) (λ j e. rw e (w.heard j));
           spoken = at_each (λ j. AllByRecursion (λ (p : ℕ × M). speaker net p.0 ≡ Some j) (option_out k (after.node j) (then j))) i (rw (same_test i) (all_right (λ (p : ℕ × M). speaker net p.0 ≡ Some i) next.1 (put_out k next.0 hs) spoken_here)) (λ j e. rw e (w.spoken j));
@@ -163,8 +163,8 @@ module _ {S M : Type 0} (k : Kind S M) (net : PureNet) where
     -- with nothing left to take, the machine is there
     woven_done : ((i : ℕ) → history i ≡ []) → c ≡ d
     woven_done none =
-        let node : c.node ≡ d.node = fun_ext (λ j. sym (w.node_is j ∙ (ap (λ l. option_behind k (c.node j) l) (none j) ∙ behind_none k (c.node j)))) in
-        let clock : c.clock ≡ d.clock = fun_ext (λ j. sym (w.clock_is j ∙ ap (λ l. clock_behind (c.clock j) l) (none j))) in
+        let node : c.node ≡ d.node = fun_ext (λ j. sym (w.node_is j ∙ (ap (λ l. option_after k (c.node j) l) (none j) ∙ after_none k (c.node j)))) in
+        let clock : c.clock ≡ d.clock = fun_ext (λ j. sym (w.clock_is j ∙ ap (λ l. clock_past (c.clock j) l) (none j))) in
         let link : c.link ≡ d.link = fun_ext (λ a. same_link a (ltb a (length net.arcs)) refl) in
         λ x. record { node = node x; clock = clock x; link = link x }
       where

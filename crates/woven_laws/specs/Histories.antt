@@ -20,15 +20,15 @@ module _ {M : Type 0} where
   taken_on a (h ∷ history) = cond (h.arc == a) (h.message ∷ taken_on a history) (taken_on a history)
 
   -- the node's clock after its history
-  abbrev pub clock_behind : ℕ → List (Taken M) → ℕ
-  clock_behind t [] = t
-  clock_behind t (h ∷ history) = clock_behind h.clock history
+  abbrev pub clock_past : ℕ → List (Taken M) → ℕ
+  clock_past t [] = t
+  clock_past t (h ∷ history) = clock_past h.clock history
 
 module _ {S M : Type 0} (k : Kind S M) where
   -- the node after its history
-  abbrev pub node_behind : S → List (Taken M) → S
-  node_behind s [] = s
-  node_behind s (h ∷ history) = node_behind (k.step s h.arc h.message h.clock).0 history
+  abbrev pub node_after : S → List (Taken M) → S
+  node_after s [] = s
+  node_after s (h ∷ history) = node_after (k.step s h.arc h.message h.clock).0 history
 
   -- all that it puts out, in order
   abbrev pub put_out : S → List (Taken M) → List (ℕ × M)
@@ -40,9 +40,9 @@ module _ {S M : Type 0} (k : Kind S M) where
   IsTimed t [] = Unit {0}
   IsTimed t (h ∷ history) = (h.clock ≡ max t (k.stamp h.message) + 1) × IsTimed h.clock history
 
-  abbrev pub option_behind : Option S → List (Taken M) → Option S
-  option_behind None history = None
-  option_behind (Some s) history = Some (node_behind s history)
+  abbrev pub option_after : Option S → List (Taken M) → Option S
+  option_after None history = None
+  option_after (Some s) history = Some (node_after s history)
 
   abbrev pub option_out : Option S → List (Taken M) → List (ℕ × M)
   option_out None history = []

@@ -97,11 +97,11 @@ module _ {M : Type 0} (history : ℕ → List (Taken M)) where
       let joined = length-append (tagged_with a es) rest in
       let tags = length-map {B = ℕ × Delivery} es (λ (e : Delivery). (a, e)) in
       let entries = length-map (history a) entry_of in
-      let behind = entry_count (a + 1) n in
+      let after = entry_count (a + 1) n in
       let front = total_front n (λ i. length (history (a + i))) in
       let here : length (history (a + 0)) ≡ length (history a) = ap (λ j. length (history j)) (omega arith) in
       let same = total_same n (λ i. length (history ((a + 1) + i))) (λ i. length (history (a + (i + 1)))) (λ i _. ap (λ j. length (history j)) (omega arith)) in
-      omega (arith, joined, tags, entries, behind, front, here, same)
+      omega (arith, joined, tags, entries, after, front, here, same)
 
 module _ (net : PureNet) where
   -- among entries whose nodes listen on their arcs, those of a node are what it hears
@@ -125,11 +125,11 @@ module _ (net : PureNet) where
 
   in_order : (ts : List (ℕ × Delivery)) → AllByRecursion (Listens net) ts → Ascends ts → Ordered net (map entry ts)
   in_order [] all up = tt
-  in_order (t ∷ ts) all up = (behind ts all.1 up.0, in_order ts all.1 up.1)
+  in_order (t ∷ ts) all up = (after ts all.1 up.0, in_order ts all.1 up.1)
     where
-      behind : (us : List (ℕ × Delivery)) → AllByRecursion (Listens net) us → AllByRecursion (ComesFirst t) us → AllByRecursion (ComesBefore net t.1) (map entry us)
-      behind [] each low = tt
-      behind (u ∷ us) each low = (comes_before t u all.0 each.0 low.0, behind us each.1 low.1)
+      after : (us : List (ℕ × Delivery)) → AllByRecursion (Listens net) us → AllByRecursion (ComesFirst t) us → AllByRecursion (ComesBefore net t.1) (map entry us)
+      after [] each low = tt
+      after (u ∷ us) each low = (comes_before t u all.0 each.0 low.0, after us each.1 low.1)
 
   module _ {M : Type 0} (history : ℕ → List (Taken M)) (heard : (i : ℕ) → AllByRecursion (λ (h : Taken M). listener net h.arc ≡ Some i) (history i)) where
     log_listens : (i : ℕ) (taken : List (Taken M)) → AllByRecursion (λ (h : Taken M). listener net h.arc ≡ Some i) taken → AllByRecursion (Listens net) (tagged_with i (map entry_of taken))
@@ -164,7 +164,7 @@ module _ (net : PureNet) where
               each_log (logs_of history n) (logs_differ history n) (logs_clocks history clocks n) journal merged i (log_of history i) there
           by i false beyond =
               let far : n ≤ i = ltb-false i n beyond in
-              no_log (logs_of history n) (logs_differ history n) (logs_clocks history clocks n) journal merged i (past_nodes history i 0 n (omega (arith, far))) ∙ ap (map entry_of) (sym (past i far))
+              no_log (logs_of history n) journal merged i (past_nodes history i 0 n (omega (arith, far))) ∙ ap (map entry_of) (sym (past i far))
 
 from_places : {X : Type 0} (f : ℕ → X) (a n : ℕ) (xs : List X) → length xs ≡ n → ((i : ℕ) → i < n → slice_get xs i ≡ Some (f (a + i))) → xs ≡ map f (range_with_len a n)
 from_places f a zero [] long each = refl

@@ -6,15 +6,15 @@ use Rattle.meta_base.specs.declared.ids.Delivery.{Delivery}
 use Rattle.net_graph.specs.Nets.{PureNet}
 use Rattle.node_core.specs.Kinds.{Kind, listener, speaker, on_arc}
 use Rattle.node_core.specs.Machine.{Machine}
-use Rattle.woven_laws.specs.Histories.{Taken, entry_of, taken_on, clock_behind, IsTimed, option_behind, option_out}
+use Rattle.woven_laws.specs.Histories.{Taken, entry_of, taken_on, clock_past, IsTimed, option_after, option_out}
 
 -- From machine c each node took what its history says, on arcs on which it listens, and put out what its steps made,
 -- on arcs on which it speaks; the machine is then d. On each arc, what waited and was then put there is what was
 -- taken there and what waits.
 pub record Woven {S M : Type 0} (k : Kind S M) (net : PureNet) (c : Machine S M) (history : ℕ → List (Taken M)) (d : Machine S M) : Type 0 where
-  pub node_is : (i : ℕ) → d.node i ≡ option_behind k (c.node i) (history i)
+  pub node_is : (i : ℕ) → d.node i ≡ option_after k (c.node i) (history i)
   pub none_takes : (i : ℕ) → c.node i ≡ None → history i ≡ []
-  pub clock_is : (i : ℕ) → d.clock i ≡ clock_behind (c.clock i) (history i)
+  pub clock_is : (i : ℕ) → d.clock i ≡ clock_past (c.clock i) (history i)
   pub timed : (i : ℕ) → IsTimed k (c.clock i) (history i)
   pub heard : (i : ℕ) → AllByRecursion (λ h. listener net h.arc ≡ Some i) (history i)
   pub spoken : (i : ℕ) → AllByRecursion (λ p. speaker net p.0 ≡ Some i) (option_out k (c.node i) (history i))

@@ -2,7 +2,6 @@ ghost use Rattle.std.specs.Prelude.{◌≡◌, ℕ, ◌+◌, List, Some, length}
 ghost use Rattle.meta_base.specs.declared.ids.Delivery.{Delivery};
 ghost use Rattle.net_graph.specs.Nets.{PureNet, IsNet};
 ghost use Rattle.node_core.specs.Machine.{Machine, AreUnbegun, Start, Ordered, Replay, SentIn, replay_from};
-ghost use Rattle.node_core.specs.Running.{IsRunning};
 ghost use Rattle.woven_laws.specs.Counts.{sent_by_all, taken_by_all, waiting_on};
 ghost use Rattle.woven_laws.specs.Histories.{Taken};
 ghost use Rattle.woven_laws.specs.Woven.{IsMergeOf, Woven};
@@ -19,7 +18,7 @@ pub fn histories_replay<N: NodeCore>()
 /// What waited and what the nodes put out is what they took and what waits.
 pub fn histories_count<N: NodeCore>()
     ensures { (net : PureNet) (c d : Machine N.State N.Note) (history : ℕ → List (Taken N.Note))
-        → IsNet net → IsRunning N.kind net c → Woven N.kind net c history d
+        → IsNet net → Woven N.kind net c history d
         → waiting_on net c + sent_by_all N.kind net c.node history ≡ taken_by_all net history + waiting_on net d }
 {}
 

@@ -1,4 +1,4 @@
-use Rattle.alg_classes.specs.Shapes.{part_count}
+use Rattle.alg_model.specs.Forms.{part_count}
 use Rattle.alg_classes.proofs.flat.+is_flat.Given as goal
 
 abbrev pub decreases-is_flat : goal.decreases-is_flat

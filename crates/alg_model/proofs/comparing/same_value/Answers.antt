@@ -1,4 +1,3 @@
-use Rattle.std.specs.Bool.{Decides}
 use Rattle.alg_model.specs.Tests.{same_value-Decides}
 use Rattle.alg_model.specs.Views.{pure_value}
 use Rattle.alg_model.proofs.comparing.same_value.Goals as goal

@@ -1,6 +1,6 @@
 use Rattle.std.proofs.Common.{◌≡◌, length, arith}
 use Rattle.alg_model.specs.Carriers.{carrier_of}
-use Rattle.best_first.specs.Fixed.{told_by}
+use Rattle.best_first.specs.Fixed.{reported_by}
 use Rattle.best_first.proofs.Fixing.{node_within, next_within, fixes, fixed_after, open_after}
 use Rattle.best_first.proofs.Offering.{at_their_nodes, next_taken}
 use Rattle.best_first.proofs.search.fix_next.Goals as goal
@@ -9,7 +9,7 @@ pub take_best-requires-clause-places : goal.take_best-requires-clause-places
 take_best-requires-clause-places g c =
     let algebra = c.args.algebra.now in
     let value = g.A.Algebra.sig_value algebra in
-    at_their_nodes value (g.A.Algebra.is_sig algebra) (carrier_of (g.A.Algebra.expression algebra)) (told_by value c.args.fixed.now.paths c.args.fixed.now.rows.items) c.args.search.now.best.items c.args.search.now.standing c.requires.queue
+    at_their_nodes value (g.A.Algebra.is_sig algebra) (carrier_of (g.A.Algebra.expression algebra)) (reported_by value c.args.fixed.now.paths c.args.fixed.now.rows.items) c.args.search.now.best.items c.args.search.now.standing c.requires.queue
 
 pub fix-requires-clause-node : goal.fix-requires-clause-node
 fix-requires-clause-node g c =
@@ -24,7 +24,7 @@ fix-requires-clause-node g c =
     let old_t = c.args.search.now.standing in
     let t = c.take_best.new.self.standing in
     let taken = c.in-Some.ensures in
-    let next = next_taken value is_sig carrier (told_by value paths rows) best c.take_best.new.self.best.items old_t t route c.requires.queue taken.route taken.first taken.taken c.take_best.ensures.ranked in
+    let next = next_taken value is_sig carrier (reported_by value paths rows) best c.take_best.new.self.best.items old_t t route c.requires.queue taken.route taken.first taken.taken c.take_best.ensures.ranked in
     let l = node_within value is_sig carrier rows paths best old_t t route.place.node.0 count c.requires.fixed c.requires.queue next route taken.route in
     omega arith
 
@@ -41,7 +41,7 @@ fix-requires-clause-next g c =
     let old_t = c.args.search.now.standing in
     let t = c.take_best.new.self.standing in
     let taken = c.in-Some.ensures in
-    let next = next_taken value is_sig carrier (told_by value paths rows) best c.take_best.new.self.best.items old_t t route c.requires.queue taken.route taken.first taken.taken c.take_best.ensures.ranked in
+    let next = next_taken value is_sig carrier (reported_by value paths rows) best c.take_best.new.self.best.items old_t t route c.requires.queue taken.route taken.first taken.taken c.take_best.ensures.ranked in
     let l = next_within value is_sig carrier rows paths best old_t t route.place.node.0 count c.requires.fixed c.requires.queue next route taken.route in
     omega arith
 
@@ -58,7 +58,7 @@ returns-clause-next g c =
     let old_t = c.args.search.now.standing in
     let t = c.take_best.new.self.standing in
     let taken = c.in-Some.ensures in
-    let next = next_taken value is_sig carrier (told_by value paths rows) best c.take_best.new.self.best.items old_t t route c.requires.queue taken.route taken.first taken.taken c.take_best.ensures.ranked in
+    let next = next_taken value is_sig carrier (reported_by value paths rows) best c.take_best.new.self.best.items old_t t route c.requires.queue taken.route taken.first taken.taken c.take_best.ensures.ranked in
     fixes value is_sig carrier rows paths best old_t t route.place.node.0 count c.requires.fixed c.requires.queue next route taken.route c.fix.new.self.rows.items c.fix.new.self.paths c.take_best.new.self.best.items c.in_ok-fix.ensures.rows c.in_ok-fix.ensures.paths taken.taken
 
 pub returns-clause-fixed : goal.returns-clause-fixed
@@ -74,7 +74,7 @@ returns-clause-fixed g c =
     let old_t = c.args.search.now.standing in
     let t = c.take_best.new.self.standing in
     let taken = c.in-Some.ensures in
-    let next = next_taken value is_sig carrier (told_by value paths rows) best c.take_best.new.self.best.items old_t t route c.requires.queue taken.route taken.first taken.taken c.take_best.ensures.ranked in
+    let next = next_taken value is_sig carrier (reported_by value paths rows) best c.take_best.new.self.best.items old_t t route c.requires.queue taken.route taken.first taken.taken c.take_best.ensures.ranked in
     fixed_after value is_sig carrier rows paths best old_t t route.place.node.0 count c.requires.fixed c.requires.queue next route taken.route c.fix.new.self.rows.items c.fix.new.self.paths c.take_best.new.self.best.items c.in_ok-fix.ensures.rows c.in_ok-fix.ensures.paths taken.taken
 
 pub returns-clause-queue : goal.returns-clause-queue
@@ -90,5 +90,5 @@ returns-clause-queue g c =
     let old_t = c.args.search.now.standing in
     let t = c.take_best.new.self.standing in
     let taken = c.in-Some.ensures in
-    let next = next_taken value is_sig carrier (told_by value paths rows) best c.take_best.new.self.best.items old_t t route c.requires.queue taken.route taken.first taken.taken c.take_best.ensures.ranked in
+    let next = next_taken value is_sig carrier (reported_by value paths rows) best c.take_best.new.self.best.items old_t t route c.requires.queue taken.route taken.first taken.taken c.take_best.ensures.ranked in
     open_after value is_sig carrier rows paths best old_t t route.place.node.0 count c.requires.fixed c.requires.queue next route taken.route c.fix.new.self.rows.items c.fix.new.self.paths c.take_best.new.self.best.items c.in_ok-fix.ensures.rows c.in_ok-fix.ensures.paths taken.taken

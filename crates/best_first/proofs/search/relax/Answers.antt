@@ -9,7 +9,7 @@ use Rattle.best_first.specs.declared.route.Place.{Place}
 use Rattle.best_first.specs.Found.{found-map, found_at}
 use Rattle.best_first.specs.State.{CanSpeak, relaxed}
 use Rattle.best_first.specs.Keys.{key_of, best_of}
-use Rattle.best_first.specs.Fixed.{fixed_route, told_by, open_routes}
+use Rattle.best_first.specs.Fixed.{fixed_route, reported_by, open_routes}
 use Rattle.best_first.proofs.Places.{found-read, mapped_none, mapped_some}
 use Rattle.best_first.proofs.Listeners.{heard_by, listener_within, heard_all, step_over}
 use Rattle.best_first.proofs.Speaking.{spoken_queue, spoken_found}
@@ -55,8 +55,8 @@ offer_image-requires-clause-small g c =
     let value = g.A.Algebra.sig_value c.args.algebra.now in
     let rows = c.args.fixed.now.rows.items in
     let paths = c.args.fixed.now.paths in
-    let told : told_by value paths rows c.args.node.0 ≡ Some (fixed_route value paths c.route-next.result.now) = found-map (fixed_route value paths) rows c.args.node.0 ∙ ap (option_map (fixed_route value paths)) c.route-next.ensures in
-    let can : CanSpeak c.args._net.now c.args.node.0 (fixed_route value paths c.route-next.result.now) = rw told at c.requires.next in
+    let reported : reported_by value paths rows c.args.node.0 ≡ Some (fixed_route value paths c.route-next.result.now) = found-map (fixed_route value paths) rows c.args.node.0 ∙ ap (option_map (fixed_route value paths)) c.route-next.ensures in
+    let can : CanSpeak c.args._net.now c.args.node.0 (fixed_route value paths c.route-next.result.now) = rw reported at c.requires.next in
     can.small
 
 pub loop-listener-preserved : goal.loop-listener-preserved
@@ -69,8 +69,8 @@ loop-listener-preserved g c =
     let best = c.loop-listener.search.best.items in
     let t = c.loop-listener.search.standing in
     let r = fixed_route value paths c.route-next.result.now in
-    let told : told_by value paths rows node ≡ Some r = found-map (fixed_route value paths) rows node ∙ ap (option_map (fixed_route value paths)) c.route-next.ensures in
-    let can : CanSpeak net node r = rw told at c.requires.next in
+    let reported : reported_by value paths rows node ≡ Some r = found-map (fixed_route value paths) rows node ∙ ap (option_map (fixed_route value paths)) c.route-next.ensures in
+    let can : CanSpeak net node r = rw reported at c.requires.next in
     let listeners = c.listeners-listener-items.result.now in
     let listener = c.listener-item.result in
     let m = c.loop-listener.listener-index in
@@ -82,11 +82,11 @@ loop-listener-preserved g c =
     let tail = arc.tail in
     let tail_in = heard.facts.tail_in in
     let within : tail < length rows = let n = c.requires.rows in omega arith in
-    let row : told_by value paths rows tail ≡ option_map (fixed_route value paths) c.index.result.now =
+    let row : reported_by value paths rows tail ≡ option_map (fixed_route value paths) c.index.result.now =
     found-map (fixed_route value paths) rows tail ∙ ap (option_map (fixed_route value paths)) (found-read rows tail c.index.result.now within (rw by.is_listener.node at c.index.ensures)) in
     elim c.if-is_none.branch [
       | then-is_none+in_ok-offer_image w ↦
-          let none : told_by value paths rows tail ≡ None = row ∙ mapped_none (fixed_route value paths) c.index.result.now (rw w.if-is_none.true at c.is_none.ensures) in
+          let none : reported_by value paths rows tail ≡ None = row ∙ mapped_none (fixed_route value paths) c.index.result.now (rw w.if-is_none.true at c.is_none.ensures) in
           let place : Place = record { size = length c.path.result.now + 1; node = listener.node; next = c.args.node } in
           let size : length c.path.result.now + 1 ≡ length r.path + 1 = rw c.path.ensures (let l = length-map (path_of paths c.route-next.result.now.path) (λ (n : NodeId). n.0) in omega arith) in
           let offered = rw c.requires.algebra at (w.in_ok-offer_image.ensures.offered arc.label by.is_listener.label) in
@@ -98,22 +98,22 @@ loop-listener-preserved g c =
             count = w.in_ok-offer_image.ensures.count ∙ c.loop-listener.invariant.count;
             queue = record {
               sigs = w.in_ok-offer_image.ensures.sigs;
-              queue = spoken_queue net c.requires.net (told_by value paths rows) node m r by.arc place (best_of value best) (best_of value new_best) t new_t
-                  told can heard tail_within none size by.is_listener.node refl c.loop-listener.invariant.queue.queue offered ranked;
+              queue = spoken_queue net c.requires.net (reported_by value paths rows) node m r by.arc place (best_of value best) (best_of value new_best) t new_t
+                  reported can heard tail_within none size by.is_listener.node refl c.loop-listener.invariant.queue.queue offered ranked;
             };
             found = λ k.
-                let old = rw told at (c.loop-listener.invariant.found k) in
-                rw told (spoken_found net c.requires.net (told_by value paths rows) node m r by.arc place (best_of value best) (best_of value new_best) t new_t
-                told can heard tail_within none size by.is_listener.node refl c.loop-listener.invariant.queue.queue offered ranked (found_at (open_routes value paths rows c.args.search.now.best.items) k) k old);
+                let old = rw reported at (c.loop-listener.invariant.found k) in
+                rw reported (spoken_found net c.requires.net (reported_by value paths rows) node m r by.arc place (best_of value best) (best_of value new_best) t new_t
+                reported can heard tail_within none size by.is_listener.node refl c.loop-listener.invariant.queue.queue offered ranked (found_at (open_routes value paths rows c.args.search.now.best.items) k) k old);
           }
       | else-is_none w ↦
-          let some : is_some (told_by value paths rows tail) ≡ true = ap is_some row ∙ mapped_some (fixed_route value paths) c.index.result.now (rw w.if-is_none.false at c.is_none.ensures) in
+          let some : is_some (reported_by value paths rows tail) ≡ true = ap is_some row ∙ mapped_some (fixed_route value paths) c.index.result.now (rw w.if-is_none.false at c.is_none.ensures) in
           rw w.search-is record {
             count = c.loop-listener.invariant.count;
             queue = c.loop-listener.invariant.queue;
             found = λ k.
-                let old = rw told at (c.loop-listener.invariant.found k) in
-                rw told (old ∙ step_over net node r m k by.arc (told_by value paths rows k) (found_at (open_routes value paths rows c.args.search.now.best.items) k) heard (λ e. rw e at some));
+                let old = rw reported at (c.loop-listener.invariant.found k) in
+                rw reported (old ∙ step_over net node r m k by.arc (reported_by value paths rows k) (found_at (open_routes value paths rows c.args.search.now.best.items) k) heard (λ e. rw e at some));
           }
     ]
 
@@ -125,9 +125,9 @@ returns-clause-routes g c = λ k.
     let rows = c.args.fixed.now.rows.items in
     let paths = c.args.fixed.now.paths in
     let r = fixed_route value paths c.route-next.result.now in
-    let told : told_by value paths rows node ≡ Some r = found-map (fixed_route value paths) rows node ∙ ap (option_map (fixed_route value paths)) c.route-next.ensures in
+    let reported : reported_by value paths rows node ≡ Some r = found-map (fixed_route value paths) rows node ∙ ap (option_map (fixed_route value paths)) c.route-next.ensures in
     let m = c.loop-listener.listener-index in
     let are = c.requires.labels.each node c.listeners-listener-items.result.now c.listeners-listener-items.ensures in
     let all : m ≡ length (arcs_to net node) = omega (arith, are.count, c.loop-listener-test.false, c.loop-listener.auto.listener-index-end) in
-    let found = rw told at (c.loop-listener.invariant.found k) in
-    rw told (found ∙ ap (λ o. relaxed (carrier net) (told_by value paths rows k) (found_at (open_routes value paths rows c.args.search.now.best.items) k) o) (heard_all net node r m k all))
+    let found = rw reported at (c.loop-listener.invariant.found k) in
+    rw reported (found ∙ ap (λ o. relaxed (carrier net) (reported_by value paths rows k) (found_at (open_routes value paths rows c.args.search.now.best.items) k) o) (heard_all net node r m k all))

@@ -2,7 +2,7 @@ use Rattle.std.proofs.Common.{◌≡◌, ℕ, length, vec_len}
 use Rattle.net_graph.specs.Tables.{carrier}
 use Rattle.best_first.specs.Found.{found_at}
 use Rattle.best_first.specs.State.{relaxed}
-use Rattle.best_first.specs.Fixed.{told_by, open_routes}
+use Rattle.best_first.specs.Fixed.{reported_by, open_routes}
 use Rattle.best_first.specs.Queue.{IsOpen}
 use Rattle.best_first.proofs.Listeners.{spoken_so_far}
 use Rattle.best_first.proofs.search.relax.Given as goal
@@ -13,9 +13,9 @@ invariant-loop-listener g l =
     let value = g.A.Algebra.sig_value l.algebra in
     let rows = l.fixed.rows.items in
     let paths = l.fixed.paths in
-    let told = told_by value paths rows in
+    let reported = reported_by value paths rows in
     record {
       count : vec_len l.search.best ≡ length l._net.nodes;
-      queue : IsOpen value (g.A.Algebra.is_sig l.algebra) (carrier l._net) told l.search.best.items l.search.standing;
-      found : (k : ℕ) → found_at (open_routes value paths rows l.search.best.items) k ≡ relaxed (carrier l._net) (told k) (found_at (open_routes value paths rows l.fn.search.best.items) k) (spoken_so_far l._net l.fn.node.0 (told l.fn.node.0) l.listener-index k);
+      queue : IsOpen value (g.A.Algebra.is_sig l.algebra) (carrier l._net) reported l.search.best.items l.search.standing;
+      found : (k : ℕ) → found_at (open_routes value paths rows l.search.best.items) k ≡ relaxed (carrier l._net) (reported k) (found_at (open_routes value paths rows l.fn.search.best.items) k) (spoken_so_far l._net l.fn.node.0 (reported l.fn.node.0) l.listener-index k);
     }

@@ -2,11 +2,11 @@ use Rattle.std.proofs.Common.{◌≡◌, Option, None, length, ap, ◌∙◌, ar
 use Rattle.std.proofs.lemmas.List.{length-replicate}
 use Rattle.best_first.specs.Found.{rows_from}
 use Rattle.best_first.specs.declared.fixed.FixedRoute.{FixedRoute}
-use Rattle.best_first.specs.Fixed.{told_by, fixed_routes, open_routes}
+use Rattle.best_first.specs.Fixed.{reported_by, fixed_routes, open_routes}
 use Rattle.best_first.proofs.Places.{found-none}
 use Rattle.best_first.proofs.Steps.{last_state}
 use Rattle.best_first.proofs.Speaking.{nothing_found}
-use Rattle.best_first.proofs.Advancing.{told_before, fixed_before, state_before, told_next, node_in, speaks, state_next, table_made}
+use Rattle.best_first.proofs.Advancing.{reported_before, fixed_before, state_before, reported_next, node_in, speaks, state_next, table_made}
 use Rattle.best_first.proofs.solution.solve_counted.Goals as goal
 
 pub offer_own-requires-clause-best : goal.offer_own-requires-clause-best
@@ -31,7 +31,7 @@ loop-search-init g c =
       rows_count = (let same = length-replicate {A = Option (FixedRoute g.row.A-Sig.Denot)} (length net.nodes) None in omega arith);
       best_count = c.in_ok-offer_own.ensures.count;
       fixed = fixed_before value is_sig net c.args.dest.0 rows paths best is_net rows_is count c.in_ok-fixed.ensures.paths;
-      queue = rw (told_before value is_sig net c.args.dest.0 rows paths best is_net rows_is count) c.in_ok-offer_own.ensures.queue;
+      queue = rw (reported_before value is_sig net c.args.dest.0 rows paths best is_net rows_is count) c.in_ok-offer_own.ensures.queue;
       state = state_before value is_sig net c.args.dest.0 rows paths best is_net rows_is count c.in_ok-offer_own.ensures.offers;
     }
 
@@ -70,7 +70,7 @@ relax-requires-clause-next g c =
     let taken = c.fix_next.new.search.best.items in
     let node = c.in-Some.node.0 in
     let fixes = rw (c.in-Some.is, c.requires.algebra) at c.in_ok-node.ensures.next in
-    rw (told_next value net dest rows new_rows paths new_paths best taken node is_net st fixes) (speaks value net dest rows new_rows paths new_paths best taken node is_net st fixes)
+    rw (reported_next value net dest rows new_rows paths new_paths best taken node is_net st fixes) (speaks value net dest rows new_rows paths new_paths best taken node is_net st fixes)
 
 pub relax-requires-clause-queue : goal.relax-requires-clause-queue
 relax-requires-clause-queue g c = rw (c.in-Some.is, c.requires.algebra) at c.in_ok-node.ensures.queue
@@ -112,4 +112,4 @@ returns-clause-rows g c =
     let done = rw c.in_default.is at c.in_ok-node.ensures.none in
     let made = rw (done.rows_same, done.paths_same) at c.into_table.ensures.rows in
     table_made net dest c.into_table.result (rows_from dest 0 (fixed_routes value paths rows)) made
-    (last_state net dest (fixed_routes value paths rows) (open_routes value paths rows best) c.node_count-count.ensures.net c.loop-search.invariant.state (nothing_found value (told_by value paths rows) best done.none))
+    (last_state net dest (fixed_routes value paths rows) (open_routes value paths rows best) c.node_count-count.ensures.net c.loop-search.invariant.state (nothing_found value (reported_by value paths rows) best done.none))

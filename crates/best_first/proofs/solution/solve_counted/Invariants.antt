@@ -2,7 +2,7 @@ use Rattle.std.proofs.Common.{◌≡◌, length, vec_len}
 use Rattle.net_graph.specs.Tables.{carrier}
 use Rattle.best_first.specs.Found.{none_count}
 use Rattle.best_first.specs.State.{IsState}
-use Rattle.best_first.specs.Fixed.{told_by, fixed_routes, open_routes, AreFixedBy}
+use Rattle.best_first.specs.Fixed.{reported_by, fixed_routes, open_routes, AreFixedBy}
 use Rattle.best_first.specs.Queue.{IsOpen}
 use Rattle.best_first.proofs.solution.solve_counted.Given as goal
 
@@ -17,7 +17,7 @@ invariant-loop-search g l =
       rows_count : vec_len l.fixed.rows ≡ length l.net.nodes;
       best_count : vec_len l.search.best ≡ length l.net.nodes;
       fixed : AreFixedBy is_sig rows paths;
-      queue : IsOpen value is_sig (carrier l.net) (told_by value paths rows) l.search.best.items l.search.standing;
+      queue : IsOpen value is_sig (carrier l.net) (reported_by value paths rows) l.search.best.items l.search.standing;
       state : IsState l.net l.dest.0 (fixed_routes value paths rows) (open_routes value paths rows l.search.best.items);
     }
 

@@ -9,5 +9,5 @@ pub returns : goal.returns
 returns c =
     sym (option_map_id c.nth.result)
     ∙ nth_from_yields_List _ c.nth.new.self _ c.nth.ensures.ran (YieldsList-from_filter_map _ place_of
-    (YieldsList-at c.filter_map.ensures.source (YieldsList-from_first pure_part parts_left _ c.behind_command.ensures.parts))
+    (YieldsList-at c.filter_map.ensures.source (YieldsList-from_first pure_part parts_left _ c.after_command.ensures.parts))
     c.filter_map.ensures.closure (λ x r q k. search (rules, tests)))

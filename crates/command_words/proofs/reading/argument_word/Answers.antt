@@ -10,7 +10,7 @@ pub returns-in_err-part : goal.returns-in_err-part
 returns-in_err-part c =
     let found : option_map pure_part c.nth.result ≡ slice_get (filter is_argument (parts_from 1 c.args.rest.now)) c.args.number =
     nth_from_yields_List _ c.nth.new.self _ c.nth.ensures.ran (YieldsList-from_filter _ is_argument
-    (YieldsList-at c.filter.ensures.source (YieldsList-from_first pure_part parts_left _ c.behind_command.ensures.parts))
+    (YieldsList-at c.filter.ensures.source (YieldsList-from_first pure_part parts_left _ c.after_command.ensures.parts))
     c.filter.ensures.closure (λ x b q k. search (rules, tests))) in
     rw (c.from_residual.ensures, ← found, c.in_err-part.was) refl
 
@@ -18,6 +18,6 @@ pub returns : goal.returns
 returns c =
     let found : option_map pure_part c.nth.result ≡ slice_get (filter is_argument (parts_from 1 c.args.rest.now)) c.args.number =
     nth_from_yields_List _ c.nth.new.self _ c.nth.ensures.ran (YieldsList-from_filter _ is_argument
-    (YieldsList-at c.filter.ensures.source (YieldsList-from_first pure_part parts_left _ c.behind_command.ensures.parts))
+    (YieldsList-at c.filter.ensures.source (YieldsList-from_first pure_part parts_left _ c.after_command.ensures.parts))
     c.filter.ensures.closure (λ x b q k. search (rules, tests))) in
     rw (c.word.ensures, ← found, c.in_ok-part.was) refl

@@ -5,4 +5,4 @@ pub returns-clause-log : goal.returns-clause-log
 returns-clause-log c logs journal different clocks merged p log there = each_log logs different clocks journal merged p log there
 
 pub returns-clause-none : goal.returns-clause-none
-returns-clause-none c logs journal different clocks merged i none = no_log logs different clocks journal merged i none
+returns-clause-none c = no_log

@@ -3,8 +3,8 @@ use Rattle.std.proofs.lemmas.Result.{IfOk-weaker}
 use Rattle.net_graph.specs.Views.{pure_arc}
 use Rattle.property_infer.specs.Labels.{CoversLabels}
 use Rattle.property_infer.specs.LabelLaws.{covers_none}
-use Rattle.property_infer.specs.Told.{AreTold}
-use Rattle.property_infer.specs.ToldLaws.{told_bounded, told_of_labels}
+use Rattle.property_infer.specs.Reported.{AreReported}
+use Rattle.property_infer.specs.ReportedLaws.{reported_bounded, reported_of_labels}
 use Rattle.property_infer.specs.Views.{pure_verdicts}
 use Rattle.metacli.specs.Outcome.{labels_on}
 use Rattle.metacli.proofs.Arcs.{label_at, all_labels}
@@ -31,9 +31,9 @@ returns c =
     let all = all_labels net c.loop-arc.arc (omega (arith, c.loop-arc-test.false, c.arc_count-arc-end.ensures.count)) in
     let covers = subst (λ labels. CoversLabels net.alg labels c.loop-arc.labels) all c.loop-arc.invariant in
     IfOk-weaker c.verdicts_of.result _ _
-    (λ v told.
-    let same : AreTold net.alg c.loop-arc.labels (pure_verdicts v) = rw (c.as_slice.ensures, c.alg-2.ensures.alg) at told in record {
-      exact = told_of_labels net.alg (labels_on net) c.loop-arc.labels (pure_verdicts v) covers same;
-      bound = told_bounded net.alg c.loop-arc.labels (pure_verdicts v) same;
+    (λ v reported.
+    let same : AreReported net.alg c.loop-arc.labels (pure_verdicts v) = rw (c.as_slice.ensures, c.alg-2.ensures.alg) at reported in record {
+      exact = reported_of_labels net.alg (labels_on net) c.loop-arc.labels (pure_verdicts v) covers same;
+      bound = reported_bounded net.alg c.loop-arc.labels (pure_verdicts v) same;
     })
     c.verdicts_of.ensures

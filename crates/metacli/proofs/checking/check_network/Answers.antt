@@ -10,5 +10,5 @@ returns-in-Ok-clause-printable c =
     record {
       printable = subst (λ (a : PureAlg). CanPrintVerdicts a.expression (pure_verdicts c.in-Ok.verdicts)) c.requires.over
           (printable c.args.file.net.alg _ (pure_verdicts c.in-Ok.verdicts) c.in-Ok.ensures.exact c.in-Ok.ensures.bound);
-      behind = tt;
+      after = tt;
     }

@@ -6,7 +6,7 @@ use Rattle.net_graph.specs.Views.{pure_change}
 use Rattle.topology_file.specs.NetText.{changed_net}
 use Rattle.topology_file.specs.Views.{pure_file}
 use Rattle.metacli.specs.Outcome.{labels_on}
-use Rattle.metacli.proofs.RowsBehind.{same_algebra}
+use Rattle.metacli.proofs.RowsAfter.{same_algebra}
 use Rattle.metacli.proofs.coding.code_network.Goals as goal
 
 pub returns-in-Ok-clause-printable : goal.returns-in-Ok-clause-printable
@@ -20,5 +20,5 @@ returns-in-Ok-clause-printable c =
             ∙ length-map (labels_on net) (CompileLabel file.net.alg.expression)
             ∙ length-map net.arcs (λ (a : PureArc). a.label),
       );
-      behind = c.in-Ok.ensures.behind;
+      after = c.in-Ok.ensures.after;
     }

@@ -11,4 +11,4 @@ returns-in-Ok-clause-shown g c =
 pub returns-in-Ok-clause-printable : goal.returns-in-Ok-clause-printable
 returns-in-Ok-clause-printable g c =
     let run = c.in-Ok.ensures.run in
-    record { printable = rows_are_summed c.in-Ok.file.net run.is_net c.in-Ok.ensures.file.alg (pure_phase c.in-Ok.last) run.of_network; behind = tt }
+    record { printable = rows_are_summed c.in-Ok.file.net run.is_net c.in-Ok.ensures.file.alg (pure_phase c.in-Ok.last) run.of_network; after = tt }

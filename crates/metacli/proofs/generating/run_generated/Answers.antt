@@ -2,7 +2,7 @@ use Rattle.std.proofs.Common.{◌≡◌, ◌∙◌, true, [], ap, map, subst}
 use Rattle.net_graph.specs.Nets.{PureNet}
 use Rattle.vector_runs.specs.Runs.{IsRun, pure_phase}
 use Rattle.demo_rest.specs.Most.{demo_turns}
-use Rattle.metacli.specs.Behind.{nets_after}
+use Rattle.metacli.specs.After.{nets_after}
 use Rattle.metacli.specs.Runs.{IsRunThrough}
 use Rattle.metacli.proofs.Demos.{alone}
 use Rattle.metacli.proofs.generating.run_generated.Goals as goal

@@ -54,5 +54,5 @@ returns g c =
     let rest = rows_text net phase.rows ++ end in
     let numbered = lines_more _ _ _ text (number_text c.args.number) (trace ++ rest) (lines_begin (g.K.Sink.holds c.args.out.now) text) c.in_ok-put_number.ensures in
     let traced = lines_more _ _ _ text trace rest numbered (rw c.as_slice-journal.ensures at c.in_ok-put_trace.ensures) in
-    let told = lines_more _ _ _ text (rows_text net phase.rows) end traced (rw c.as_slice.ensures at c.in_ok-put_rows.ensures) in
-    put_last _ _ _ text end c.put_line.result told (c.put_line.ensures end (rw c.as_slice-journal.ensures at c.end_line.ensures))
+    let reported = lines_more _ _ _ text (rows_text net phase.rows) end traced (rw c.as_slice.ensures at c.in_ok-put_rows.ensures) in
+    put_last _ _ _ text end c.put_line.result reported (c.put_line.ensures end (rw c.as_slice-journal.ensures at c.end_line.ensures))

@@ -4,15 +4,15 @@ use Rattle.net_graph.specs.Changes.{AreChanges}
 use Rattle.net_graph.specs.Nets.{IsNet}
 use Rattle.net_graph.specs.Views.{pure_change}
 use Rattle.vector_runs.specs.Runs.{AreLater, pure_phase}
-use Rattle.metacli.specs.Behind.{nets_after}
-use Rattle.metacli.proofs.NetsBehind.{nets_are, nets_are_later}
+use Rattle.metacli.specs.After.{nets_after}
+use Rattle.metacli.proofs.NetsAfter.{nets_are, nets_are_later}
 use Rattle.metacli.proofs.running.run_through.Goals as goal
 
 pub run_on-requires-clause-changed : goal.run_on-requires-clause-changed
 run_on-requires-clause-changed g c _ _ =
     let net = c.args.file.now.net in
     let changes = map pure_change c.as_slice.result.now in
-    subst (AreLater net) (sym (c.as_slice-2.ensures ∙ (c.from_vec-changed.ensures ∙ c.in_ok-nets_behind.ensures))) (nets_are_later net changes)
+    subst (AreLater net) (sym (c.as_slice-2.ensures ∙ (c.from_vec-changed.ensures ∙ c.in_ok-networks_after.ensures))) (nets_are_later net changes)
 
 pub returns-in-Ok-clause-run : goal.returns-in-Ok-clause-run
 returns-in-Ok-clause-run g c =
@@ -22,7 +22,7 @@ returns-in-Ok-clause-run g c =
     let run = c.in-Ok.run' in
     let past = map pure_phase run.past in
     let last = pure_phase run.last in
-    let is : nets ≡ nets_after net changes = c.from_vec-changed.ensures ∙ c.in_ok-nets_behind.ensures in
+    let is : nets ≡ nets_after net changes = c.from_vec-changed.ensures ∙ c.in_ok-networks_after.ensures in
     let may : AreChanges net changes = rw (← c.as_slice.ensures) at c.requires.changes in
     let all : AllByRecursion IsNet nets = subst (AllByRecursion IsNet) (sym is) (nets_are net changes c.run_on.ensures.net may) in
     let later : AreLater net nets = subst (AreLater net) (sym is) (nets_are_later net changes) in

@@ -34,5 +34,5 @@ returns g c =
     let reaches = reaches_text net rows (range_with_len 0 (length net.dests)) in
     let end = summary_end_text in
     let begun = lines_more _ _ _ text (size_text net) (reaches ++ end) (lines_begin (g.K.Sink.holds c.args.out.now) text) (c.in_ok-put_line.ensures (size_text net) c.size_line.ensures) in
-    let told = lines_more _ _ _ text reaches end begun c.in_ok-put_reaches.ensures in
-    put_last _ _ _ text end c.put_line-2.result told (c.put_line-2.ensures end c.summary_end_line.ensures)
+    let reported = lines_more _ _ _ text reaches end begun c.in_ok-put_reaches.ensures in
+    put_last _ _ _ text end c.put_line-2.result reported (c.put_line-2.ensures end c.summary_end_line.ensures)

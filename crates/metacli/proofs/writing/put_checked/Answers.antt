@@ -10,14 +10,14 @@ use Rattle.metacli.proofs.writing.put_checked.Goals as goal
 
 pub returns-in_err-put_verdicts : goal.returns-in_err-put_verdicts
 returns-in_err-put_verdicts g c =
-    let lines = verdicts_text c.args.alg.now.expression (pure_verdicts c.args.verdicts.now) in
-    let line = unmet_text (option_map pure_property c.args.unmet) in
+    let lines = verdicts_text c.args.checked.now.alg.expression (pure_verdicts c.args.checked.now.verdicts) in
+    let line = unmet_text (option_map pure_property c.args.checked.now.unmet) in
     let p = err_from_is_err_and c.from_residual.result c.from_residual.ensures.1 in
     rw (p.1, p.2) (cut_within _ _ _ (lines ++ line) lines line _ (lines_begin (g.K.Sink.holds c.args.out.now) (lines ++ line)) c.in_err-put_verdicts.ensures)
 
 pub returns : goal.returns
 returns g c =
-    let lines = verdicts_text c.args.alg.now.expression (pure_verdicts c.args.verdicts.now) in
-    let line = unmet_text (option_map pure_property c.args.unmet) in
+    let lines = verdicts_text c.args.checked.now.alg.expression (pure_verdicts c.args.checked.now.verdicts) in
+    let line = unmet_text (option_map pure_property c.args.checked.now.unmet) in
     let begun = lines_more _ _ _ (lines ++ line) lines line (lines_begin (g.K.Sink.holds c.args.out.now) (lines ++ line)) c.in_ok-put_verdicts.ensures in
     put_last _ _ _ (lines ++ line) line c.put_unmet.result begun c.put_unmet.ensures

@@ -4,7 +4,7 @@ use Rattle.std.specs.List.{range_with_len}
 use Rattle.net_graph.specs.Nets.{PureArc, arcs_to}
 use Rattle.net_graph.specs.Routes.{PureRoute}
 use Rattle.path_vector.specs.Known.{known_route, heard_by, entry_of}
-use Rattle.path_vector.specs.Node.{PureUpdate, choice, same_row, told_on, all_begun_updates}
+use Rattle.path_vector.specs.Node.{PureUpdate, choice, same_row, reported_on, all_begun_updates}
 use Rattle.path_vector.specs.State.{row_routes}
 use Rattle.path_vector.specs.Updates.{noted, pure_shared, pure_update, spoken_in}
 use Rattle.path_vector.proofs.Choices.{entry_is, none_outside}
@@ -33,14 +33,14 @@ loop-place-preserved g c =
     let entry : entry_of rows place ≡ c.index-rows-place.result = entry_is rows place c.index-rows-place.result c.loop-place-test.true c.index-rows-place.is in
     let other : not c.in_ok-is_same.is_same ≡ not (same_row row (row_routes value rows place)) = ap not (c.in_ok-is_same.ensures ∙ ap (λ z. same_row row (option_map (known_route value) z)) (sym entry)) in
     let there : is_some update.route ≡ is_some row = some_mapped pure_shared update.route ∙ ap (λ (u : PureUpdate). is_some u.route) c.in_ok-update.ensures in
-    let told_as = λ (t : Bool) (u : PureUpdate). map noted c.loop-place.out ++ told_on (filter (λ (a : PureArc). cond (spoken_in before a.tail a.head) (not c.in_ok-is_same.is_same) t) (arcs_to net c.args.node.0)) u in
+    let reported_as = λ (t : Bool) (u : PureUpdate). map noted c.loop-place.out ++ reported_on (filter (λ (a : PureArc). cond (spoken_in before a.tail a.head) (not c.in_ok-is_same.is_same) t) (arcs_to net c.args.node.0)) u in
     record {
       count = ap length items ∙ pushed_count old c.in_ok-row.row ∙ ap (λ z. z + 1) c.loop-place.invariant.count;
       sigs = λ dest k e. pushed_holds _ old c.in_ok-row.row c.loop-place.invariant.sigs c.in_ok-row.ensures.sig dest k (subst (λ z. entry_of z dest ≡ Some k) items e);
       rows = λ dest l. subst (λ z. row_routes value z dest ≡ choice net dest c.args.node.0 heard) (sym items)
           (pushed_images (known_route value) old c.in_ok-row.row (λ d. choice net d c.args.node.0 heard) place c.loop-place.invariant.count c.loop-place.invariant.rows c.in_ok-row.ensures.choice dest l);
-      told = λ s is. begun_next net before c.args.node.0 heard (row_routes value rows) s is place row (not c.in_ok-is_same.is_same) _ _ c.in_ok-row.ensures.choice other
-          (c.loop-place.invariant.told s is) (c.in_ok-tell_begun.ensures ∙ ap (λ t. told_as t (pure_update update)) there ∙ ap (told_as (is_some row)) c.in_ok-update.ensures);
+      reported = λ s is. begun_next net before c.args.node.0 heard (row_routes value rows) s is place row (not c.in_ok-is_same.is_same) _ _ c.in_ok-row.ensures.choice other
+          (c.loop-place.invariant.reported s is) (c.in_ok-report_begun.ensures ∙ ap (λ t. reported_as t (pure_update update)) there ∙ ap (reported_as (is_some row)) c.in_ok-update.ensures);
     }
 
 pub returns-clause-rows : goal.returns-clause-rows
@@ -56,8 +56,8 @@ returns-clause-rows g c =
     (λ d out. ap (option_map (known_route value)) (entry_outside begun d (subst (λ z. ¬ (d < z)) (sym c.loop-place.invariant.count) out))
     ∙ sym (none_outside (A.stands_for s) (A.is_sig s) value net c.requires.net c.args.node.0 d ns c.requires.kept.neighbours (subst (λ z. ¬ (d < z)) all out)))
 
-pub returns-clause-told : goal.returns-clause-told
-returns-clause-told g c = λ s e1 e2 e3 e4 e5.
+pub returns-clause-reported : goal.returns-clause-reported
+returns-clause-reported g c = λ s e1 e2 e3 e4 e5.
     let all : c.loop-place.place ≡ length c.args.net.now.dests = let few = c.loop-place-test.false in let more = c.loop-place.auto.place-end in let count = c.requires.kept.row_count in omega arith in
-    c.loop-place.invariant.told s (record { net_is = e1; before_is = e2; number_is = e3; heard_is = e4; rows_are = e5 })
+    c.loop-place.invariant.reported s (record { net_is = e1; before_is = e2; number_is = e3; heard_is = e4; rows_are = e5 })
     ∙ ap (λ z. all_begun_updates s (range_with_len 0 z)) all

@@ -19,5 +19,5 @@ invariant-loop-place g l =
       count : length l.begun.items ≡ l.place;
       sigs : (dest : ℕ) (k : Known _) → entry_of l.begun.items dest ≡ Some k → g.A.Algebra.is_sig l.fn.algebra k.sig;
       rows : (dest : ℕ) → dest < l.place → row_routes value l.begun.items dest ≡ choice net dest l.fn.node.0 heard;
-      told : (s : PvState) → IsUnbegun net (option_map (λ n. n.now) l.fn.before) l.fn.node.0 heard (row_routes value l.fn.rows) s → map noted l.out ≡ all_begun_updates s (range_with_len 0 l.place);
+      reported : (s : PvState) → IsUnbegun net (option_map (λ n. n.now) l.fn.before) l.fn.node.0 heard (row_routes value l.fn.rows) s → map noted l.out ≡ all_begun_updates s (range_with_len 0 l.place);
     }

@@ -52,8 +52,8 @@ loop-place-preserved g c =
     let there = neighbour_at (A.stands_for s) (A.is_sig s) (A.sig_value s) net _ ns k m.0 c.requires.neighbours m.1 in
     let i = c.args.node.0 in
     let may = may_offer (A.stands_for s) (A.is_sig s) (A.sig_value s) net there.0 m.0 c.args.dest.0 _ _ there.2 (c.neighbour.ensures m.0 m.1).1 (c.route-known.ensures m.0 m.1) in
-    let offered = placed c.in_ok-behind.behind c.offer_into.new.place in
-    let offer = c.in_ok-behind.ensures.offer there.0 (tail_is net i k there.0 there.1) may
+    let offered = placed c.in_ok-after.after c.offer_into.new.place in
+    let offer = c.in_ok-after.ensures.offer there.0 (tail_is net i k there.0 there.1) may
     ∙ ap (λ z. option_and_then (offer_by net there.0) (option_map (known_route (A.sig_value s)) z)) (sym (c.route-known.ensures m.0 m.1)) in
     let next : suc k ≡ k + 1 = omega arith in
     let routed = option_map {U = PureRoute} (offered_route (A.sig_value s) i) in

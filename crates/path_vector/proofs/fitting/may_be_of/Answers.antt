@@ -8,7 +8,7 @@ use Rattle.alg_model.specs.Tests.{is_in, is_at_most}
 use Rattle.alg_model.specs.Views.{pure_value}
 use Rattle.meta_base.specs.declared.ids.NodeId.{NodeId}
 use Rattle.meta_base.specs.NodePaths.{numbers}
-use Rattle.net_graph.specs.declared.limits.TheConstants.{MAX_NODES_TWO}
+use Rattle.net_graph.specs.declared.limits.TheConstants.{MOST_NODES}
 use Rattle.net_graph.specs.Tables.{carrier}
 use Rattle.path_vector.specs.Node.{begins_with, greatest_on}
 use Rattle.path_vector.proofs.PathTests.{all_below_more, all_numbers, all_but_last, fourth_fails, third_fails}
@@ -25,7 +25,7 @@ returns-then-not-are_below c =
     (sym c.has_value.ensures ∙ c.if-not-has_value.false) starts (sym (all_numbers path (length net.nodes)) ∙ below)
 
 pub has_each_once-requires : goal.has_each_once-requires
-has_each_once-requires c = all_below_more c.as_slice-path.result.now c.node_count.result MAX_NODES_TWO c.node_count.ensures.few (sym c.are_below.ensures ∙ c.if-not-are_below.false)
+has_each_once-requires c = all_below_more c.as_slice-path.result.now c.node_count.result MOST_NODES c.node_count.ensures.few (sym c.are_below.ensures ∙ c.if-not-are_below.false)
 
 pub returns-then-not-has_each_once : goal.returns-then-not-has_each_once
 returns-then-not-has_each_once c =

@@ -83,7 +83,7 @@ loop-at-preserved g c =
             neighbours = still_neighbours (A.stands_for s) (A.is_sig s) (A.sig_value s) before net c.requires.before c.in_ok-neighbours.ensures.net c.requires.net c.args.node.0 c.args.old k x.0 c.requires.old x.1
                 (pure_arc c.arc-arc.result.now) stands w.in-Some.id.0 w.place_of-place.result w.in-Some.ensures w.place_of-place.ensures c.loop-at.neighbours c.loop-at.invariant.neighbours w.hear_all_at.new.neighbours (λ n e. w.hear_all_at.ensures.heard n x.0 e here);
             heard = one_more (λ z. (a dest : ℕ) → heard_by value w.hear_all_at.new.neighbours a dest ≡ heard_before before net (heard_by value z) a dest) c.args.old k x.0 x.1 heard;
-            left = λ j l. w.hear_all_at.ensures.behind j (omega arith) ∙ c.loop-at.invariant.left j (omega arith);
+            left = λ j l. w.hear_all_at.ensures.after j (omega arith) ∙ c.loop-at.invariant.left j (omega arith);
             many = w.hear_all_at.ensures.count ∙ c.loop-at.invariant.many;
           }
       | in_default w ↦

@@ -37,11 +37,11 @@ returns-clause-heard g c = λ n m e f.
     let many = same_count c.args.others.now c.args.at there.0 m c.args.dests there.1 f there.2 in
     all_moved n m c.args.dests c.args.place c.args.at c.args.neighbours.now c.args.others.now e f c.loop-dest.dest c.loop-dest.neighbours c.loop-dest.others (c.loop-dest.invariant n m e f few many) c.loop-dest-test.false many
 
-pub returns-clause-behind : goal.returns-clause-behind
-returns-clause-behind g c =
+pub returns-clause-after : goal.returns-clause-after
+returns-clause-after g c =
     let here = c.requires.here in
     let there = c.requires.there in
-    (c.loop-dest.invariant here.0 there.0 here.1 there.1 here.2 there.2).behind
+    (c.loop-dest.invariant here.0 there.0 here.1 there.1 here.2 there.2).after
 
 pub returns-clause-count : goal.returns-clause-count
 returns-clause-count g c =

@@ -61,11 +61,11 @@ returns-then-not-goes_by-clause-change g c =
     let dest = c.args.dest.0 in
     let heard = heard_by value ns in
     let row : Option PureRoute = option_map (known_route value) c.args.before.now in
-    let offer : Option PureRoute = option_map (offered_route value i) (placed c.in_ok-behind_offer.behind_offer c.offer_into.new.place) in
+    let offer : Option PureRoute = option_map (offered_route value i) (placed c.in_ok-after_offer.after_offer c.offer_into.new.place) in
     let is_it = neighbour_is (A.stands_for s) (A.is_sig s) (A.sig_value s) c.args.net.now c.args.node.0 c.requires.net ns c.requires.neighbours c.args.arc.0 c.place_of-place.result c.args.dest.0
     c.requires.settles.0 c.requires.settles.1 c.requires.settles.2 c.place_of-place.ensures c.requires.dest m there.1 in
     let may = may_offer (A.stands_for s) (A.is_sig s) (A.sig_value s) c.args.net.now c.requires.settles.0 m c.args.dest.0 _ _ is_it (c.neighbour.ensures m there.1).1 (c.route-known.ensures m there.1) in
-    let offered : offer ≡ option_and_then (offer_by net a) (heard a.id dest) = c.in_ok-behind_offer.ensures.offer a c.requires.settles.2 may
+    let offered : offer ≡ option_and_then (offer_by net a) (heard a.id dest) = c.in_ok-after_offer.ensures.offer a c.requires.settles.2 may
     ∙ ap (option_and_then (offer_by net a)) (ap (option_map (known_route value)) (sym (c.route-known.ensures m there.1)) ∙ sym (heard_there (A.stands_for s) (A.is_sig s) (A.sig_value s) c.args.net.now c.args.node.0 c.requires.net ns c.requires.neighbours c.args.arc.0 c.place_of-place.result c.args.dest.0
     c.requires.settles.0 c.requires.settles.1 c.requires.settles.2 c.place_of-place.ensures c.requires.dest m there.1)) in
     let worse = rw c.requires.algebra at (sym c.is_worse.ensures ∙ c.if-is_worse.true) in
@@ -88,11 +88,11 @@ returns-in_default-clause-change g c =
     let dest = c.args.dest.0 in
     let heard = heard_by value ns in
     let row : Option PureRoute = option_map (known_route value) c.args.before.now in
-    let offer : Option PureRoute = option_map (offered_route value i) (placed c.in_ok-behind_offer.behind_offer c.offer_into.new.place) in
+    let offer : Option PureRoute = option_map (offered_route value i) (placed c.in_ok-after_offer.after_offer c.offer_into.new.place) in
     let is_it = neighbour_is (A.stands_for s) (A.is_sig s) (A.sig_value s) c.args.net.now c.args.node.0 c.requires.net ns c.requires.neighbours c.args.arc.0 c.place_of-place.result c.args.dest.0
     c.requires.settles.0 c.requires.settles.1 c.requires.settles.2 c.place_of-place.ensures c.requires.dest m there.1 in
     let may = may_offer (A.stands_for s) (A.is_sig s) (A.sig_value s) c.args.net.now c.requires.settles.0 m c.args.dest.0 _ _ is_it (c.neighbour.ensures m there.1).1 (c.route-known.ensures m there.1) in
-    let offered : offer ≡ option_and_then (offer_by net a) (heard a.id dest) = c.in_ok-behind_offer.ensures.offer a c.requires.settles.2 may
+    let offered : offer ≡ option_and_then (offer_by net a) (heard a.id dest) = c.in_ok-after_offer.ensures.offer a c.requires.settles.2 may
     ∙ ap (option_and_then (offer_by net a)) (ap (option_map (known_route value)) (sym (c.route-known.ensures m there.1)) ∙ sym (heard_there (A.stands_for s) (A.is_sig s) (A.sig_value s) c.args.net.now c.args.node.0 c.requires.net ns c.requires.neighbours c.args.arc.0 c.place_of-place.result c.args.dest.0
     c.requires.settles.0 c.requires.settles.1 c.requires.settles.2 c.place_of-place.ensures c.requires.dest m there.1)) in
     let worse = rw c.requires.algebra at (sym c.is_worse.ensures ∙ c.if-is_worse.false) in
@@ -113,11 +113,11 @@ returns-clause-change g c =
     let dest = c.args.dest.0 in
     let heard = heard_by value ns in
     let row : Option PureRoute = option_map (known_route value) c.args.before.now in
-    let offer : Option PureRoute = option_map (offered_route value i) (placed c.in_ok-behind_offer.behind_offer c.offer_into.new.place) in
+    let offer : Option PureRoute = option_map (offered_route value i) (placed c.in_ok-after_offer.after_offer c.offer_into.new.place) in
     let is_it = neighbour_is (A.stands_for s) (A.is_sig s) (A.sig_value s) c.args.net.now c.args.node.0 c.requires.net ns c.requires.neighbours c.args.arc.0 c.place_of-place.result c.args.dest.0
     c.requires.settles.0 c.requires.settles.1 c.requires.settles.2 c.place_of-place.ensures c.requires.dest m there.1 in
     let may = may_offer (A.stands_for s) (A.is_sig s) (A.sig_value s) c.args.net.now c.requires.settles.0 m c.args.dest.0 _ _ is_it (c.neighbour.ensures m there.1).1 (c.route-known.ensures m there.1) in
-    let offered : offer ≡ option_and_then (offer_by net a) (heard a.id dest) = c.in_ok-behind_offer.ensures.offer a c.requires.settles.2 may
+    let offered : offer ≡ option_and_then (offer_by net a) (heard a.id dest) = c.in_ok-after_offer.ensures.offer a c.requires.settles.2 may
     ∙ ap (option_and_then (offer_by net a)) (ap (option_map (known_route value)) (sym (c.route-known.ensures m there.1)) ∙ sym (heard_there (A.stands_for s) (A.is_sig s) (A.sig_value s) c.args.net.now c.args.node.0 c.requires.net ns c.requires.neighbours c.args.arc.0 c.place_of-place.result c.args.dest.0
     c.requires.settles.0 c.requires.settles.1 c.requires.settles.2 c.place_of-place.ensures c.requires.dest m there.1)) in
     let worse = rw c.requires.algebra at (sym c.is_worse.ensures ∙ c.if-is_worse.false) in

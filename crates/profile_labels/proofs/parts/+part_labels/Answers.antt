@@ -3,7 +3,7 @@ use Rattle.alg_model.specs.Expressions.{lex, scoped, union, sum, plus}
 use Rattle.alg_model.specs.Views.{expression_of, pure_carrier}
 use Rattle.alg_classes.specs.Classes.{alg_in}
 use Rattle.profile_labels.specs.Labels.{CoversBy}
-use Rattle.profile_labels.specs.StepLaws.{joins_lex, joins_sum, makes_union_first, makes_union_second, makes_plus_first, makes_plus_second, makes_inner, lex_covers, sum_covers, union_covers, plus_covers, scoped_covers}
+use Rattle.profile_labels.proofs.StepLaws.{joins_lex, joins_sum, makes_union_first, makes_union_second, makes_plus_first, makes_plus_second, makes_inner, lex_covers, sum_covers, union_covers, plus_covers, scoped_covers}
 use Rattle.profile_labels.proofs.parts.+part_labels.Goals as goal
 
 pub labels_of_lex-returns : goal.labels_of_lex-returns

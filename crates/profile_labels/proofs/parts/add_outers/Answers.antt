@@ -8,9 +8,10 @@ use Rattle.alg_classes.specs.FlatLaws.{best_in}
 use Rattle.alg_classes.specs.Worst.{IsWithin}
 use Rattle.alg_classes.specs.WorstLaws.{best_within, worst_within, within_edition}
 use Rattle.scoped_classes.specs.Scoped.{outer_rule}
-use Rattle.profile_labels.specs.Growth.{Grown, Only, Over}
+use Rattle.alg_classes.specs.Growth.{Only}
+use Rattle.profile_labels.specs.Growth.{Grown, Over}
 use Rattle.profile_labels.specs.Labels.{LabelledOf}
-use Rattle.profile_labels.specs.StepLaws.{grown_by_best, grown_by_both}
+use Rattle.profile_labels.proofs.StepLaws.{grown_by_best, grown_by_both}
 use Rattle.profile_labels.proofs.parts.add_outers.Goals as goal
 
 pub add_outers_to-requires : goal.add_outers_to-requires

@@ -1,7 +1,7 @@
 use Rattle.alg_model.specs.Expressions.{scoped}
 use Rattle.alg_model.specs.Views.{pure_carrier, pure_value}
 use Rattle.alg_classes.specs.Classes.{alg_in}
-use Rattle.profile_labels.specs.StepLaws.{makes_outer}
+use Rattle.profile_labels.proofs.StepLaws.{makes_outer}
 use Rattle.profile_labels.proofs.parts.add_outers_to.Goals as goal
 
 pub returns : goal.returns

@@ -1,6 +1,6 @@
 use Rattle.std.proofs.Common.{sym, subst}
 use Rattle.alg_classes.specs.Classes.{Covers}
-use Rattle.profile_labels.specs.StepLaws.{classes_cover}
+use Rattle.profile_labels.proofs.StepLaws.{classes_cover}
 use Rattle.profile_labels.proofs.parts.labels_of.Goals as goal
 
 pub returns : goal.returns

@@ -1,8 +1,10 @@
 use Rattle.std.proofs.Common.{arith}
 use Rattle.alg_model.specs.Views.{pure_label}
-use Rattle.profile_labels.specs.Growth.{Only, Over, grown_none, grown_more, grown_all}
+use Rattle.alg_classes.specs.Growth.{Only}
+use Rattle.alg_classes.specs.GrowthLaws.{grown_none, grown_more, grown_all}
+use Rattle.profile_labels.specs.Growth.{Over}
 use Rattle.profile_labels.specs.Labels.{LabelledOf}
-use Rattle.profile_labels.specs.ListLaws.{one_of_all}
+use Rattle.alg_classes.specs.ListLaws.{one_of_all}
 use Rattle.profile_labels.specs.Steps.{joint_profile}
 use Rattle.profile_labels.proofs.step.add_joined.Goals as goal
 

@@ -1,7 +1,8 @@
 use Rattle.std.proofs.Common.{take}
 use Rattle.std.specs.List.{AllByRecursion}
 use Rattle.alg_model.specs.Expressions.{PureAlg}
-use Rattle.profile_labels.specs.Growth.{Grown, Only, Over}
+use Rattle.alg_classes.specs.Growth.{Only}
+use Rattle.profile_labels.specs.Growth.{Grown, Over}
 use Rattle.profile_labels.specs.Labels.{LabelledOf}
 use Rattle.profile_labels.specs.Steps.{Joins, joint_profile}
 use Rattle.profile_labels.proofs.step.add_joined.Given as goal

@@ -1,10 +1,12 @@
-use Rattle.std.proofs.Common.{subst}
+use Rattle.std.proofs.Common.{sym, subst}
 use Rattle.std.proofs.lemmas.Result.{on_ok_weaker}
 use Rattle.profile_labels.specs.declared.labelled.Labelled.{Labelled}
-use Rattle.profile_labels.specs.Growth.{Grown, Only, grown_already, grown_by_one}
+use Rattle.alg_classes.specs.Growth.{Only}
+use Rattle.alg_classes.specs.GrowthLaws.{grown_already, grown_by_new}
+use Rattle.profile_labels.specs.Growth.{Grown}
 use Rattle.profile_labels.specs.Labels.{LabelledOf, Has}
 use Rattle.profile_labels.specs.Steps.{step_profile}
-use Rattle.profile_labels.specs.StepLaws.{made}
+use Rattle.profile_labels.proofs.StepLaws.{made}
 use Rattle.profile_labels.proofs.step.add_step.Goals as goal
 
 pub returns-then-has_profile : goal.returns-then-has_profile
@@ -16,7 +18,10 @@ returns-then-has_profile c = λ a d makes is.
 
 pub returns : goal.returns
 returns c = λ a d makes is.
-    let x : Labelled = record { profile = c.profile-profile.result; label = c.in_ok-label.label } in
+    let p = c.profile-profile.result in
+    let x : Labelled = record { profile = p; label = c.in_ok-label.label } in
+    let none : ¬ Has c.args.list.now p = λ h. let e = c.has_profile.ensures.1 (subst (λ xs. Has xs p) (sym c.as_slice.ensures) h) in let f = c.if-has_profile.false in cc in
     on_ok_weaker c.push.result
-    (grown_by_one (LabelledOf d) (step_profile c.args.step.now c.args.part.now.profile) c.args.list.now c.push.new.self x c.profile-profile.ensures
-    (made a d c.args.step.now c.args.part.now x makes is c.profile-profile.ensures c.in_ok-label.ensures)) c.push.ensures.ok
+    (grown_by_new (LabelledOf d) (step_profile c.args.step.now c.args.part.now.profile) c.args.list.now c.push.new.self x c.profile-profile.ensures
+    (made a d c.args.step.now c.args.part.now x makes is c.profile-profile.ensures c.in_ok-label.ensures)
+    (subst (λ q. ¬ Has c.args.list.now q) c.profile-profile.ensures none)) c.push.ensures.ok

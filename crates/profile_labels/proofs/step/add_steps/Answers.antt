@@ -1,7 +1,8 @@
 use Rattle.std.proofs.Common.{arith}
-use Rattle.profile_labels.specs.Growth.{Only, grown_none, grown_more, grown_all}
+use Rattle.alg_classes.specs.Growth.{Only}
+use Rattle.alg_classes.specs.GrowthLaws.{grown_none, grown_more, grown_all}
 use Rattle.profile_labels.specs.Labels.{LabelledOf}
-use Rattle.profile_labels.specs.ListLaws.{one_of_all}
+use Rattle.alg_classes.specs.ListLaws.{one_of_all}
 use Rattle.profile_labels.specs.Steps.{step_profile}
 use Rattle.profile_labels.proofs.step.add_steps.Goals as goal
 

@@ -1,7 +1,7 @@
 use Rattle.std.proofs.Common.{sym, subst}
 use Rattle.std.proofs.lemmas.Result.{IfOk-weaker}
 use Rattle.profile_labels.specs.Labels.{CoversBy}
-use Rattle.property_infer.specs.ToldLaws.{told_bounded, told_of_all}
+use Rattle.property_infer.specs.ReportedLaws.{reported_bounded, stated_of_all}
 use Rattle.property_infer.specs.Views.{pure_verdicts}
 use Rattle.property_infer.proofs.decided.verdicts.Goals as goal
 
@@ -9,8 +9,8 @@ pub returns-clause-exact : goal.returns-clause-exact
 returns-clause-exact c =
     let a = c.args.alg.now in
     let covers = subst (CoversBy a) (sym c.as_slice.ensures) c.in_ok-labels.ensures in
-    IfOk-weaker c.verdicts_of.result _ _ (λ v told. told_of_all a c.as_slice.result.now (pure_verdicts v) covers told) c.verdicts_of.ensures
+    IfOk-weaker c.verdicts_of.result _ _ (λ v reported. stated_of_all a c.as_slice.result.now (pure_verdicts v) covers reported) c.verdicts_of.ensures
 
 pub returns-clause-bound : goal.returns-clause-bound
 returns-clause-bound c = IfOk-weaker c.verdicts_of.result _ _
-    (λ v told. told_bounded c.args.alg.now c.as_slice.result.now (pure_verdicts v) told) c.verdicts_of.ensures
+    (λ v reported. reported_bounded c.args.alg.now c.as_slice.result.now (pure_verdicts v) reported) c.verdicts_of.ensures

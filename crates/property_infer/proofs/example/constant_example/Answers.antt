@@ -18,9 +18,9 @@ returns-in_ok-copy-in-Dead-clause-small c =
     subst (AtMost MAX_INSTANCE_NUMBER) (sym c.in_ok-copy-in-Dead.ensures)
     (value_is_small (greatest_number c.requires.0) (pure_value c.args.value.now) (greatest_is_bounded c.requires.0) c.requires.1.of_part.1)
 
-pub returns-in_ok-apart-in-Canc-clause-made : goal.returns-in_ok-apart-in-Canc-clause-made
-returns-in_ok-apart-in-Canc-clause-made c =
+pub returns-in_ok-apart-in-Cancellative-clause-made : goal.returns-in_ok-apart-in-Cancellative-clause-made
+returns-in_ok-apart-in-Cancellative-clause-made c =
     let d = carrier_of (expression_of c.args.part.now) in
-    let made = apart_made (pure_carrier c.in_ok-part_carrier-in-Canc.field-0) d c.in_ok-apart-in-Canc.field-0 c.in_ok-apart-in-Canc.ensures.values
-    c.in_ok-part_carrier-in-Canc.ensures.carrier in
-    c.between.ensures ∙ (made ∙ sym (constant_apart d (pure_value c.args.value.now) c.args.fact c.in-Canc.is))
+    let made = apart_made (pure_carrier c.in_ok-part_carrier-in-Cancellative.field-0) d c.in_ok-apart-in-Cancellative.field-0 c.in_ok-apart-in-Cancellative.ensures.values
+    c.in_ok-part_carrier-in-Cancellative.ensures.carrier in
+    c.between.ensures ∙ (made ∙ sym (constant_apart d (pure_value c.args.value.now) c.args.fact c.in-Cancellative.is))

@@ -7,9 +7,9 @@ use Rattle.property_infer.proofs.example.kept_example.Goals as goal
 pub returns-in_ok-best-in-Dead-clause-small : goal.returns-in_ok-best-in-Dead-clause-small
 returns-in_ok-best-in-Dead-clause-small c = label_number_is_small (pure_value c.in_ok-best-in-Dead.field-0) c.in_ok-best-in-Dead.ensures.small
 
-pub returns-in_ok-apart-in-Cond-clause-made : goal.returns-in_ok-apart-in-Cond-clause-made
-returns-in_ok-apart-in-Cond-clause-made c =
+pub returns-in_ok-apart-in-Condensed-clause-made : goal.returns-in_ok-apart-in-Condensed-clause-made
+returns-in_ok-apart-in-Condensed-clause-made c =
     let d = carrier_of (expression_of c.args.part.now) in
-    let made = apart_made (pure_carrier c.in_ok-part_carrier-in-Cond.field-0) d c.in_ok-apart-in-Cond.field-0 c.in_ok-apart-in-Cond.ensures.values
-    c.in_ok-part_carrier-in-Cond.ensures.carrier in
-    c.between.ensures ∙ (made ∙ sym (kept_apart d c.args.fact c.in-Cond.is))
+    let made = apart_made (pure_carrier c.in_ok-part_carrier-in-Condensed.field-0) d c.in_ok-apart-in-Condensed.field-0 c.in_ok-apart-in-Condensed.ensures.values
+    c.in_ok-part_carrier-in-Condensed.ensures.carrier in
+    c.between.ensures ∙ (made ∙ sym (kept_apart d c.args.fact c.in-Condensed.is))

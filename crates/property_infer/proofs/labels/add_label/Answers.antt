@@ -1,4 +1,4 @@
-use Rattle.std.proofs.Common.{subst}
+use Rattle.std.proofs.Common.{sym, subst}
 use Rattle.alg_model.specs.Views.{pure_label}
 use Rattle.profile_labels.specs.Labels.{Has}
 use Rattle.profile_labels.specs.declared.labelled.Labelled.{Labelled}
@@ -15,5 +15,6 @@ pub returns-clause-covers : goal.returns-clause-covers
 returns-clause-covers c = λ all covers.
     let p = c.label_profile-profile.result in
     let x : Labelled = record { profile = p; label = c.in_ok-copy.field-0 } in
+    let none : ¬ Has c.args.labels.now p = λ h. let e = c.has_profile.ensures.1 (subst (λ xs. Has xs p) (sym c.as_slice.ensures) h) in let f = c.if-has_profile.false in cc in
     covers_if_pushed c.args.alg.now all (pure_label c.args.label.now) c.args.labels.now c.push.new.self x c.push.result
-    (record { label = c.requires.label; small = c.requires.small; profile = c.label_profile-profile.ensures }) c.in_ok-copy.ensures c.push.ensures.ok covers
+    (record { label = c.requires.label; small = c.requires.small; profile = c.label_profile-profile.ensures }) none c.in_ok-copy.ensures c.push.ensures.ok covers

@@ -9,15 +9,15 @@ use Rattle.raml_syntax.specs.Sequences.{Nothing, Reads, map_ok}
 use Rattle.raml_syntax.specs.Trees.{Expr}
 use Rattle.raml_syntax.specs.Heads.{ranged_of, counted_of, paired_of, single_of}
 use Rattle.raml_syntax.specs.Forest.{tree_at}
-use Rattle.raml_syntax.specs.Forms.{Behind, Closed, AddTail, RangedTail, CountedTail, TableTail, Tail}
-use Rattle.raml_syntax.proofs.Behind.{mark_no_number, behind_taken, behind_lacks, reads_nothing}
-use Rattle.raml_syntax.proofs.Descent.{expr_possible, expr_lacks, head_too_large, head_then, name_reads, paired_not_first, paired_not_second, paired_reads, single_not_part, single_reads, read_as}
+use Rattle.raml_syntax.specs.Forms.{After, Closed, AddTail, RangedTail, CountedTail, TableTail, Tail}
+use Rattle.raml_syntax.proofs.After.{mark_no_number, following_taken, following_misses, reads_nothing}
+use Rattle.raml_syntax.proofs.Descent.{expr_possible, expr_misses, head_too_large, head_then, name_reads, paired_not_first, paired_not_second, paired_reads, single_not_part, single_reads, read_as}
 use Rattle.raml_syntax.proofs.expression.+descent.Goals as goal
 
 pub read_expression-returns-in_err-word-clause-reads : goal.read_expression-returns-in_err-word-clause-reads
 read_expression-returns-in_err-word-clause-reads t c =
     let p = err_from_is_err_and c.from_residual.result c.from_residual.ensures.1 in
-    rw (p.1, p.2) (expr_lacks c.args.definitions.now.defined c.args.nodes.now c.args.tokens.now c.take_word.new.tokens _ c.in_err-word.ensures.fault)
+    rw (p.1, p.2) (expr_misses c.args.definitions.now.defined c.args.nodes.now c.args.tokens.now c.take_word.new.tokens _ c.in_err-word.ensures.fault)
 
 pub read_expression-returns-in_err-count_node-in-Some-clause-reads : goal.read_expression-returns-in_err-count_node-in-Some-clause-reads
 read_expression-returns-in_err-count_node-in-Some-clause-reads t c =
@@ -57,7 +57,7 @@ read_paired-returns-in_err-second-clause-reads t c =
     let mid = c.read_part.new.definitions in
     let m = c.read_part.new.nodes in
     let e = c.in_err-second.field-0.0 in
-    let refused = subst (λ ds. Reads (Behind comma (Expr ds m)) c.read_part.new.tokens (Err e) c.read_part-2.new.tokens) c.in_ok-first.ensures.keeps.defined c.in_err-second.ensures.reads in
+    let refused = subst (λ ds. Reads (After comma (Expr ds m)) c.read_part.new.tokens (Err e) c.read_part-2.new.tokens) c.in_ok-first.ensures.keeps.defined c.in_err-second.ensures.reads in
     rw (p.1, p.2)
     (paired_not_second c.args.definitions.now.defined c.args.nodes.now m (paired_of c.args.kind) (tree_at mid.trees c.in_ok-first.first)
     c.args.tokens.now c.read_part.new.tokens c.read_part-2.new.tokens e c.in_ok-first.ensures.reads c.in_ok-first.ensures.nodes refused)
@@ -71,7 +71,7 @@ read_paired-returns-clause-reads t c =
     let a = tree_at mid.trees c.in_ok-first.first in
     let b = tree_at last.trees c.in_ok-second.second in
     let result = map_ok (tree_at c.close_paired.new.definitions.trees) c.close_paired.result in
-    let second = subst (λ ds. Reads (Behind comma (Expr ds m)) c.read_part.new.tokens (Ok b) c.read_part-2.new.tokens) c.in_ok-first.ensures.keeps.defined c.in_ok-second.ensures.reads in
+    let second = subst (λ ds. Reads (After comma (Expr ds m)) c.read_part.new.tokens (Ok b) c.read_part-2.new.tokens) c.in_ok-first.ensures.keeps.defined c.in_ok-second.ensures.reads in
     let same = c.in_ok-second.ensures.keeps.trees.same c.in_ok-first.first c.in_ok-first.ensures.tree in
     let closed = subst (λ x. Reads (Closed k x b) c.read_part-2.new.tokens result c.close_paired.new.tokens) same c.close_paired.ensures.reads in
     paired_reads c.args.definitions.now.defined c.args.nodes.now m k a b c.args.tokens.now c.read_part.new.tokens c.read_part-2.new.tokens c.close_paired.new.tokens result
@@ -83,11 +83,11 @@ read_part-returns-in_err-take_mark-clause-reads t c =
     let ds = c.args.definitions.now.defined in
     let n = c.args.nodes.now in
     rw (p.1, p.2)
-    (behind_lacks (tok_of c.args.mark []) (Expr ds n) c.args.tokens.now c.take_mark.new.tokens _ (expr_possible ds n) (mark_no_number c.args.mark c.requires.mark) c.in_err-take_mark.ensures.fault)
+    (following_misses (tok_of c.args.mark []) (Expr ds n) c.args.tokens.now c.take_mark.new.tokens _ (expr_possible ds n) (mark_no_number c.args.mark c.requires.mark) c.in_err-take_mark.ensures.fault)
 
 pub read_part-returns-clause-reads : goal.read_part-returns-clause-reads
 read_part-returns-clause-reads t c =
-    behind_taken (tok_of c.args.mark []) (Expr c.args.definitions.now.defined c.args.nodes.now) c.args.tokens.now c.take_mark.new.tokens c.read_expression.new.tokens (map_ok (tree_at c.read_expression.new.definitions.trees) c.read_expression.result)
+    following_taken (tok_of c.args.mark []) (Expr c.args.definitions.now.defined c.args.nodes.now) c.args.tokens.now c.take_mark.new.tokens c.read_expression.new.tokens (map_ok (tree_at c.read_expression.new.definitions.trees) c.read_expression.result)
     c.in_ok-take_mark.ensures.mark c.read_expression.ensures.reads
 
 pub read_single-returns-in_err-part-clause-reads : goal.read_single-returns-in_err-part-clause-reads

@@ -5,13 +5,13 @@ use Rattle.raml_syntax.specs.Heads.{paired_of}
 use Rattle.raml_syntax.specs.Forest.{tree_at}
 use Rattle.raml_syntax.specs.Forms.{Closed}
 use Rattle.raml_syntax.specs.Sequences.{Reads}
-use Rattle.raml_syntax.proofs.Descent.{closed_lacks, closed_good}
+use Rattle.raml_syntax.proofs.Descent.{closed_misses, closed_good}
 use Rattle.raml_syntax.proofs.expression.close_paired.Goals as goal
 
 pub returns-in_err-place-clause-reads : goal.returns-in_err-place-clause-reads
 returns-in_err-place-clause-reads c =
     let p = err_from_is_err_and c.from_residual.result c.from_residual.ensures.1 in
-    rw (p.1, p.2) (closed_lacks (paired_of c.args.kind) (tree_at c.args.definitions.now.trees c.args.first) (tree_at c.args.definitions.now.trees c.args.second) c.args.tokens.now c.take_mark_at.new.tokens _ c.in_err-place.ensures.fault)
+    rw (p.1, p.2) (closed_misses (paired_of c.args.kind) (tree_at c.args.definitions.now.trees c.args.first) (tree_at c.args.definitions.now.trees c.args.second) c.args.tokens.now c.take_mark_at.new.tokens _ c.in_err-place.ensures.fault)
 
 pub returns-clause-reads : goal.returns-clause-reads
 returns-clause-reads c =

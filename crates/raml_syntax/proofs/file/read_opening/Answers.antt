@@ -3,14 +3,14 @@ use Rattle.std.proofs.lemmas.Result.{err_from_is_err_and}
 use Rattle.raml_syntax.specs.Sequences.{Reads}
 use Rattle.raml_syntax.specs.Statements.{Opens}
 use Rattle.raml_syntax.specs.Headers.{Starts}
-use Rattle.raml_syntax.proofs.Headers.{opening_lacks, header_broken, statement_leads, headed_lacks, headed_leads}
+use Rattle.raml_syntax.proofs.Headers.{opening_misses, header_broken, statement_leads, headed_misses, headed_leads}
 use Rattle.raml_syntax.proofs.file.read_opening.Goals as goal
 
 pub returns-in_err-keyword-clause-fault : goal.returns-in_err-keyword-clause-fault
 returns-in_err-keyword-clause-fault c =
     let p = err_from_is_err_and c.from_residual.result c.from_residual.ensures.1 in
     let old = c.args.tokens.now in
-    rw (p.1, p.2) (opening_lacks old.rest _ old c.take_opening.new.tokens c.requires c.in_err-keyword.ensures.reads)
+    rw (p.1, p.2) (opening_misses old.rest _ old c.take_opening.new.tokens c.requires c.in_err-keyword.ensures.reads)
 
 pub returns-in_err-edition-in-Header-clause-fault : goal.returns-in_err-edition-in-Header-clause-fault
 returns-in_err-edition-in-Header-clause-fault c =
@@ -32,7 +32,7 @@ returns-in_err-take_keyword-in-Header-clause-fault c =
     let header = subst (λ x. Reads Starts old (Ok x) mid) c.in-Header.is c.in_ok-keyword.ensures.reads in
     let set = c.set_greatest.ensures ∙ ap (λ g. record now { greatest = g }) c.greatest_number.ensures in
     let begun = subst (λ x. Reads Opens x (Err e) new) set c.in_err-take_keyword-in-Header.ensures.reads in
-    rw (p.1, p.2) (headed_lacks old.rest edition e old mid now new c.requires header c.in_ok-edition-in-Header.ensures.reads begun)
+    rw (p.1, p.2) (headed_misses old.rest edition e old mid now new c.requires header c.in_ok-edition-in-Header.ensures.reads begun)
 
 pub returns-in-Statement-clause-leads : goal.returns-in-Statement-clause-leads
 returns-in-Statement-clause-leads c =

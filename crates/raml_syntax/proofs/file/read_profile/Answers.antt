@@ -4,14 +4,14 @@ use Rattle.raml_lex.specs.Tokens.{semicolon}
 use Rattle.raml_syntax.specs.Meaning.{edition_of}
 use Rattle.raml_syntax.specs.Sequences.{Nothing, Reads}
 use Rattle.raml_syntax.specs.Headers.{Profile}
-use Rattle.raml_syntax.proofs.Behind.{behind_last, behind_lacks, nothing_possible}
-use Rattle.raml_syntax.proofs.Headers.{profile_lacks, profile_unknown, profile_then}
+use Rattle.raml_syntax.proofs.After.{following_last, following_misses, nothing_possible}
+use Rattle.raml_syntax.proofs.Headers.{profile_misses, profile_unknown, profile_then}
 use Rattle.raml_syntax.proofs.file.read_profile.Goals as goal
 
 pub returns-in_err-profile-clause-reads : goal.returns-in_err-profile-clause-reads
 returns-in_err-profile-clause-reads c =
     let p = err_from_is_err_and c.from_residual.result c.from_residual.ensures.1 in
-    rw (p.1, p.2) (profile_lacks c.args.tokens.now c.take_number.new.tokens _ c.in_err-profile.ensures.fault)
+    rw (p.1, p.2) (profile_misses c.args.tokens.now c.take_number.new.tokens _ c.in_err-profile.ensures.fault)
 
 pub returns-in_default-clause-reads : goal.returns-in_default-clause-reads
 returns-in_default-clause-reads c =
@@ -26,7 +26,7 @@ returns-in_err-take_mark-clause-reads c =
     let mid = c.take_number.new.tokens in
     rw (p.1, p.2)
     (profile_then n c.args.tokens.now mid c.take_mark.new.tokens (Err c.in_err-take_mark.field-0.0) c.in-Some.ensures.some.0 c.in_ok-profile.ensures.number.takes
-    (behind_lacks semicolon (Nothing edition) mid c.take_mark.new.tokens _ (nothing_possible edition) (λ n e. cc) c.in_err-take_mark.ensures.fault))
+    (following_misses semicolon (Nothing edition) mid c.take_mark.new.tokens _ (nothing_possible edition) (λ n e. cc) c.in_err-take_mark.ensures.fault))
 
 pub returns-clause-reads : goal.returns-clause-reads
 returns-clause-reads c =
@@ -35,4 +35,4 @@ returns-clause-reads c =
     let mid = c.take_number.new.tokens in
     let new = c.take_mark.new.tokens in
     subst (λ e. Reads Profile c.args.tokens.now (Ok e) new) (sym c.in-Some.ensures.some.1)
-    (profile_then n c.args.tokens.now mid new (Ok edition) c.in-Some.ensures.some.0 c.in_ok-profile.ensures.number.takes (behind_last semicolon edition mid new c.in_ok-take_mark.ensures.mark))
+    (profile_then n c.args.tokens.now mid new (Ok edition) c.in-Some.ensures.some.0 c.in_ok-profile.ensures.number.takes (following_last semicolon edition mid new c.in_ok-take_mark.ensures.mark))

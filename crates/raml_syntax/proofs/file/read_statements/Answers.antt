@@ -2,7 +2,7 @@ use Rattle.std.proofs.Common.{arith, subst}
 use Rattle.std.proofs.lemmas.Result.{err_from_is_err_and}
 use Rattle.raml_syntax.specs.Statements.{Let, Leads}
 use Rattle.raml_syntax.proofs.Shorter.{reads_no_longer}
-use Rattle.raml_syntax.proofs.Statements.{begun_shorter, leads_lacking, leads_on, leads_broken}
+use Rattle.raml_syntax.proofs.Statements.{begun_shorter, leads_missing, leads_on, leads_broken}
 use Rattle.raml_syntax.proofs.file.read_statements.Goals as goal
 
 pub returns-in_err-read_let-in-Let-clause-reads : goal.returns-in_err-read_let-in-Let-clause-reads
@@ -18,7 +18,7 @@ returns-in_err-keyword-clause-reads c =
     let now = c.loop-keyword in
     let leads = subst (λ key. Leads c.args.first c.args.tokens.now now.definitions.defined key now.tokens) c.in-Let.is now.invariant.1 in
     rw (p.1, p.2)
-    (leads_lacking c.args.first c.args.tokens.now now.tokens c.read_let.new.tokens c.take_keyword.new.tokens now.definitions.defined c.read_let.new.definitions.defined _
+    (leads_missing c.args.first c.args.tokens.now now.tokens c.read_let.new.tokens c.take_keyword.new.tokens now.definitions.defined c.read_let.new.definitions.defined _
     leads c.in_ok-read_let-in-Let.ensures.reads c.in_err-keyword.ensures.reads)
 
 pub loop-keyword-smaller : goal.loop-keyword-smaller

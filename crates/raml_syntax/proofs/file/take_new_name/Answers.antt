@@ -7,7 +7,7 @@ use Rattle.raml_syntax.specs.Marks.{let_name}
 use Rattle.raml_syntax.specs.Leaves.{IsWord}
 use Rattle.raml_syntax.specs.Definitions.{names_of}
 use Rattle.raml_syntax.specs.Statements.{is_reserved}
-use Rattle.raml_syntax.proofs.OneToken.{one_good, one_bad, one_lacks}
+use Rattle.raml_syntax.proofs.OneToken.{one_good, one_bad, one_misses}
 use Rattle.raml_syntax.proofs.Statements.{name_taken, name_free}
 use Rattle.raml_syntax.proofs.file.take_new_name.Goals as goal
 
@@ -15,7 +15,7 @@ pub returns-in_err-word-clause-reads : goal.returns-in_err-word-clause-reads
 returns-in_err-word-clause-reads c =
     let p = err_from_is_err_and c.from_residual.result c.from_residual.ensures.1 in
     rw (p.1, p.2)
-    (one_lacks (let_name c.args.definitions.now.defined) [] IsWord _ c.args.tokens.now c.take_word.new.tokens (λ w. (w, refl)) (λ n x. let e : number n ≡ word x.0 = x.1 in cc) c.in_err-word.ensures.fault)
+    (one_misses (let_name c.args.definitions.now.defined) [] IsWord _ c.args.tokens.now c.take_word.new.tokens (λ w. (w, refl)) (λ n x. let e : number n ≡ word x.0 = x.1 in cc) c.in_err-word.ensures.fault)
 
 pub returns-then-is_reserved-clause-reads : goal.returns-then-is_reserved-clause-reads
 returns-then-is_reserved-clause-reads c =

@@ -5,7 +5,7 @@ use Rattle.raml_syntax.specs.declared.file.Opening.TheVariants as o
 use Rattle.raml_syntax.specs.Marks.{plain_word}
 use Rattle.raml_syntax.specs.Leaves.{IsWord}
 use Rattle.raml_syntax.specs.Headers.{opening_word}
-use Rattle.raml_syntax.proofs.OneToken.{one_good, one_lacks}
+use Rattle.raml_syntax.proofs.OneToken.{one_good, one_misses}
 use Rattle.raml_syntax.proofs.Statements.{one_other}
 use Rattle.raml_syntax.proofs.Headers.{no_opening}
 use Rattle.raml_syntax.proofs.file.take_opening.Goals as goal
@@ -14,7 +14,7 @@ pub returns-in_err-word-clause-reads : goal.returns-in_err-word-clause-reads
 returns-in_err-word-clause-reads c =
     let p = err_from_is_err_and c.from_residual.result c.from_residual.ensures.1 in
     rw (p.1, p.2)
-    (one_lacks (λ x. plain_word (opening_word x)) o.Header IsWord _ c.args.tokens.now c.take_word.new.tokens (λ x. (opening_word x, refl)) (λ n x. let e : number n ≡ word x.0 = x.1 in cc) c.in_err-word.ensures.fault)
+    (one_misses (λ x. plain_word (opening_word x)) o.Header IsWord _ c.args.tokens.now c.take_word.new.tokens (λ x. (opening_word x, refl)) (λ n x. let e : number n ≡ word x.0 = x.1 in cc) c.in_err-word.ensures.fault)
 
 pub returns-in-Some-clause-reads : goal.returns-in-Some-clause-reads
 returns-in-Some-clause-reads c =

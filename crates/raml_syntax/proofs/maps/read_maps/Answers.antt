@@ -1,13 +1,13 @@
 use Rattle.std.proofs.Common.{arith, ◌≡◌, ◌<◌, ◌≤◌, ◌∷◌, ◌++◌, [], Ok, Err, length, refl, sym, ap, ◌∙◌, ◌&&◌, not}
 use Rattle.std.proofs.lemmas.Result.{err_from_is_err_and}
 use Rattle.raml_lex.specs.Tokens.{word}
-use Rattle.raml_syntax.specs.declared.maps.AfterMap.TheVariants.{Map, Behind}
+use Rattle.raml_syntax.specs.declared.maps.AfterMap.TheVariants.{Map, After}
 use Rattle.raml_syntax.specs.Maps.{after_map, sources, Target, MoreMaps, Maps}
 use Rattle.raml_syntax.specs.Sequences.{One}
 use Rattle.raml_syntax.specs.Syntax.{is_among}
 use Rattle.raml_syntax.proofs.Tested.{reads_ok, reads_at}
-use Rattle.raml_syntax.proofs.MapReading.{pair_same, read_behind, maps_no_word, maps_none, maps_none_bad, maps_first, maps_first_bad, more_no_mark, more_end, more_no_source, more_next, more_bad}
-use Rattle.raml_syntax.proofs.Shorter.{takes_shorter, reads_no_longer, behind_no_longer}
+use Rattle.raml_syntax.proofs.MapReading.{pair_same, read_following, maps_no_word, maps_none, maps_none_bad, maps_first, maps_first_bad, more_no_mark, more_end, more_no_source, more_next, more_bad}
+use Rattle.raml_syntax.proofs.Shorter.{takes_shorter, reads_no_longer, following_no_longer}
 use Rattle.raml_syntax.proofs.maps.read_maps.Goals as goal
 
 pub returns-in_err-first-clause-maps : goal.returns-in_err-first-clause-maps
@@ -34,7 +34,7 @@ pub returns-in_err-read_map-clause-maps : goal.returns-in_err-read_map-clause-ma
 returns-in_err-read_map-clause-maps c =
     let first = c.in_ok-first.first in
     let p = err_from_is_err_and c.from_residual-in_err-read_map.result c.from_residual-in_err-read_map.ensures.1 in
-    let read = read_behind c.args.names.now first.text.now first.place c.take_word.new.tokens c.read_map.new.tokens (Err c.in_err-read_map.field-0.0) c.as_slice.result.now []
+    let read = read_following c.args.names.now first.text.now first.place c.take_word.new.tokens c.read_map.new.tokens (Err c.in_err-read_map.field-0.0) c.as_slice.result.now []
     (c.as_slice.ensures ∙ c.new-maps.ensures) c.in_err-read_map.ensures.map in
     rw (p.1, p.2)
     (maps_first_bad c.args.names.now first.text.now first.place c.args.tokens.now c.take_word.new.tokens c.read_map.new.tokens c.in_err-read_map.field-0.0
@@ -45,7 +45,7 @@ loop-maps-init c =
     let names = c.args.names.now in
     let first = c.in_ok-first.first in
     let m = c.in_ok-read_map.field-0 in
-    let read = read_behind names first.text.now first.place c.take_word.new.tokens c.read_map.new.tokens (Ok m) c.as_slice.result.now []
+    let read = read_following names first.text.now first.place c.take_word.new.tokens c.read_map.new.tokens (Ok m) c.as_slice.result.now []
     (c.as_slice.ensures ∙ c.new-maps.ensures) c.in_ok-read_map.ensures.map in
     let now : c.push.new.self ≡ m ∷ [] = c.in_ok-push.ensures.ok ∙ ap (λ l. l ++ m ∷ []) c.new-maps.ensures in
     record {
@@ -62,12 +62,12 @@ returns-in_err-after-clause-maps c =
     (c.loop-maps.invariant.maps (Err c.in_err-after.field-0.0) c.take_after_map.new.tokens
     (more_no_mark c.args.names.now c.loop-maps.maps c.loop-maps.tokens c.take_after_map.new.tokens c.in_err-after.field-0.0 c.in_err-after.ensures.mark))
 
-pub returns-in-Behind-clause-maps : goal.returns-in-Behind-clause-maps
-returns-in-Behind-clause-maps c =
-    let after = c.in-Behind.after in
+pub returns-in-After-clause-maps : goal.returns-in-After-clause-maps
+returns-in-After-clause-maps c =
+    let after = c.in-After.after in
     c.loop-maps.invariant.maps (Ok (c.loop-maps.maps, after)) c.take_after_map.new.tokens
     (more_end c.args.names.now c.loop-maps.maps c.loop-maps.tokens c.take_after_map.new.tokens after
-    (reads_ok (One after_map) c.in_ok-after.field-0 (Behind after) c.loop-maps.tokens c.take_after_map.new.tokens c.in-Behind.is c.in_ok-after.ensures.mark))
+    (reads_ok (One after_map) c.in_ok-after.field-0 (After after) c.loop-maps.tokens c.take_after_map.new.tokens c.in-After.is c.in_ok-after.ensures.mark))
 
 pub returns-in_err-source-clause-maps : goal.returns-in_err-source-clause-maps
 returns-in_err-source-clause-maps c =
@@ -84,7 +84,7 @@ returns-in_err-read_map-2-clause-maps c =
     let e = c.in_err-read_map-2.field-0.0 in
     let p = err_from_is_err_and c.from_residual-in_err-read_map-2.result c.from_residual-in_err-read_map-2.ensures.1 in
     let comma = reads_ok (One after_map) c.in_ok-after.field-0 Map c.loop-maps.tokens c.take_after_map.new.tokens c.in_default.is c.in_ok-after.ensures.mark in
-    let read = read_behind names source.text.now source.place c.take_word-in-loop-maps.new.tokens c.read_map-in-loop-maps.new.tokens (Err e) c.as_slice-in-loop-maps.result.now c.loop-maps.maps
+    let read = read_following names source.text.now source.place c.take_word-in-loop-maps.new.tokens c.read_map-in-loop-maps.new.tokens (Err e) c.as_slice-in-loop-maps.result.now c.loop-maps.maps
     c.as_slice-in-loop-maps.ensures c.in_err-read_map-2.ensures.map in
     rw (p.1, p.2)
     (c.loop-maps.invariant.maps (Err e) c.read_map-in-loop-maps.new.tokens
@@ -100,7 +100,7 @@ loop-maps-smaller c =
     let b : length c.take_word-in-loop-maps.new.tokens.rest < length c.take_after_map.new.tokens.rest =
     takes_shorter (word w) c.take_after_map.new.tokens c.take_word-in-loop-maps.new.tokens c.in_ok-source.ensures.word.takes in
     let d : length c.read_map-in-loop-maps.new.tokens.rest ≤ length c.take_word-in-loop-maps.new.tokens.rest =
-    behind_no_longer (Target names w) (is_among names w && not (is_among (sources c.as_slice-in-loop-maps.result.now) w)) source.place c.in_ok-read_map-2.field-0
+    following_no_longer (Target names w) (is_among names w && not (is_among (sources c.as_slice-in-loop-maps.result.now) w)) source.place c.in_ok-read_map-2.field-0
     c.take_word-in-loop-maps.new.tokens c.read_map-in-loop-maps.new.tokens c.in_ok-read_map-2.ensures.map in
     omega arith
 
@@ -111,7 +111,7 @@ loop-maps-preserved c =
     let source = c.in_ok-source.source in
     let m = c.in_ok-read_map-2.field-0 in
     let comma = reads_ok (One after_map) c.in_ok-after.field-0 Map c.loop-maps.tokens c.take_after_map.new.tokens c.in_default.is c.in_ok-after.ensures.mark in
-    let read = read_behind names source.text.now source.place c.take_word-in-loop-maps.new.tokens c.read_map-in-loop-maps.new.tokens (Ok m) c.as_slice-in-loop-maps.result.now done
+    let read = read_following names source.text.now source.place c.take_word-in-loop-maps.new.tokens c.read_map-in-loop-maps.new.tokens (Ok m) c.as_slice-in-loop-maps.result.now done
     c.as_slice-in-loop-maps.ensures c.in_ok-read_map-2.ensures.map in
     record {
       ready = c.in_ok-read_map-2.ensures.ready;

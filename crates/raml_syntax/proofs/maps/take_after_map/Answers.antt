@@ -22,12 +22,12 @@ returns-in-Comma-clause-mark c =
 pub returns-in-Semicolon-clause-mark : goal.returns-in-Semicolon-clause-mark
 returns-in-Semicolon-clause-mark c =
     let t = c.in_ok-token.token in
-    one_kind after_map (after.Behind Row) t.kind kind.Semicolon t.text.now t.place c.args.tokens.now c.take.new.tokens refl c.in-Semicolon.is c.in_ok-token.ensures.token
+    one_kind after_map (after.After Row) t.kind kind.Semicolon t.text.now t.place c.args.tokens.now c.take.new.tokens refl c.in-Semicolon.is c.in_ok-token.ensures.token
 
 pub returns-in-RightBrace-clause-mark : goal.returns-in-RightBrace-clause-mark
 returns-in-RightBrace-clause-mark c =
     let t = c.in_ok-token.token in
-    one_kind after_map (after.Behind End) t.kind kind.RightBrace t.text.now t.place c.args.tokens.now c.take.new.tokens refl c.in-RightBrace.is c.in_ok-token.ensures.token
+    one_kind after_map (after.After End) t.kind kind.RightBrace t.text.now t.place c.args.tokens.now c.take.new.tokens refl c.in-RightBrace.is c.in_ok-token.ensures.token
 
 pub returns-in_default-clause-mark : goal.returns-in_default-clause-mark
 returns-in_default-clause-mark c =

@@ -5,7 +5,7 @@ use Rattle.raml_syntax.specs.declared.values.AfterValue.TheVariants.{Value, Rows
 use Rattle.raml_syntax.specs.Values.{after_value}
 use Rattle.raml_syntax.specs.Sequences.{One}
 use Rattle.raml_syntax.proofs.Tested.{reads_ok}
-use Rattle.raml_syntax.proofs.ValueReading.{values_first, values_no_name, more_no_mark, more_no_name, more_next, more_end, rank_behind_le}
+use Rattle.raml_syntax.proofs.ValueReading.{values_first, values_no_name, more_no_mark, more_no_name, more_next, more_end, rank_following_le}
 use Rattle.raml_syntax.proofs.values.read_values.Goals as goal
 
 pub returns-in_err-first-clause-values : goal.returns-in_err-first-clause-values
@@ -43,10 +43,10 @@ loop-ranks-preserved c =
     let mark = reads_ok (One after_value) _ (Value c.in-Value.is_tied) c.loop-ranks.tokens c.take_after_value.new.tokens c.in-Value.is c.in_ok-is_tied.ensures.mark in
     let grown : length c.push-in-Value.new.self ≡ length c.loop-ranks.names + 1 = ap length c.in_ok-push-3.ensures.ok ∙ length-append c.loop-ranks.names (c.in_ok-name.name ∷ []) in
     let next = more_next done c.loop-ranks.rank c.loop-ranks.tokens c.take_after_value.new.tokens c.read_value_name-in-Value.new.tokens c.in-Value.is_tied c.in_ok-name.name _
-    c.push-in-Value.new.self c.push-in-Value-2.new.self c.rank_behind-rank.result c.as_slice-in-Value.ensures c.in_ok-push-3.ensures.ok c.in_ok-push-4.ensures.ok c.rank_behind-rank.ensures mark c.in_ok-name.ensures.name in
+    c.push-in-Value.new.self c.push-in-Value-2.new.self c.rank_following-rank.result c.as_slice-in-Value.ensures c.in_ok-push-3.ensures.ok c.in_ok-push-4.ensures.ok c.rank_following-rank.ensures mark c.in_ok-name.ensures.name in
     record {
       ready = c.in_ok-name.ensures.ready;
-      rank = omega (arith, grown, c.loop-ranks.invariant.rank, rank_behind_le c.loop-ranks.rank c.in-Value.is_tied, c.rank_behind-rank.ensures);
+      rank = omega (arith, grown, c.loop-ranks.invariant.rank, rank_following_le c.loop-ranks.rank c.in-Value.is_tied, c.rank_following-rank.ensures);
       few = omega (arith, grown, c.in_ok-name.ensures.room, ap length c.as_slice-in-Value.ensures);
       values = λ result new z. c.loop-ranks.invariant.values result new (next result new z);
     }

@@ -1,9 +1,9 @@
 use Rattle.alg_model.specs.Bounds.{greatest_number}
 use Rattle.sig_text.specs.Literals.{LabelText, IsLabelFault}
 use Rattle.sig_text.specs.Spelled.{spelled_label_to}
-use Rattle.sig_text.proofs.Meant.{told_once}
-use Rattle.sig_text.proofs.MeantLabels.{label_tells}
+use Rattle.sig_text.proofs.Meant.{reported_once}
+use Rattle.sig_text.proofs.MeantLabels.{label_states}
 use Rattle.sig_text.proofs.laws.labels_are_unique.Goals as goal
 
 pub returns : goal.returns
-returns c = λ a text. told_once (spelled_label_to (greatest_number a.edition) a.expression text) (LabelText a text) (IsLabelFault a text) (label_tells (greatest_number a.edition) a.expression text)
+returns c = λ a text. reported_once (spelled_label_to (greatest_number a.edition) a.expression text) (LabelText a text) (IsLabelFault a text) (label_states (greatest_number a.edition) a.expression text)

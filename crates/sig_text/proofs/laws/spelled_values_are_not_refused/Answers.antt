@@ -1,8 +1,8 @@
 use Rattle.alg_model.specs.Bounds.{greatest_number}
 use Rattle.sig_text.specs.Literals.{ValueText, IsValueFault}
 use Rattle.sig_text.specs.Spelled.{spelled_value_to}
-use Rattle.sig_text.proofs.Meant.{told_apart, value_tells}
+use Rattle.sig_text.proofs.Meant.{stated_apart, value_states}
 use Rattle.sig_text.proofs.laws.spelled_values_are_not_refused.Goals as goal
 
 pub returns : goal.returns
-returns c = λ a text. told_apart (spelled_value_to (greatest_number a.edition) a.expression text) (ValueText a text) (IsValueFault a text) (value_tells (greatest_number a.edition) a.expression text)
+returns c = λ a text. stated_apart (spelled_value_to (greatest_number a.edition) a.expression text) (ValueText a text) (IsValueFault a text) (value_states (greatest_number a.edition) a.expression text)

@@ -26,8 +26,8 @@ loop-n-preserved c =
     let before = c.loop-n.invariant.seen n in
     let added = c.in_ok-insert.ensures.added in
     let new = c.if-not-branch.false in
-    let lacks : list_any (λ m. m == n) (take i ns) ≡ false = grind arith in
+    let misses : list_any (λ m. m == n) (take i ns) ≡ false = grind arith in
     record {
-      apart = distinct_more ns i here c.loop-n.invariant.apart lacks;
+      apart = distinct_more ns i here c.loop-n.invariant.apart misses;
       seen = seen_more (contains nat_cmp c.loop-n.seen) (contains nat_cmp c.insert.new.self) ns i here c.loop-n.invariant.seen c.in_ok-insert.ensures.updates.0;
     }

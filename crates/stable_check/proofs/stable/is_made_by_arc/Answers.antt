@@ -20,8 +20,8 @@ returns-then-branch c =
     let a = pure_arc c.arc-item.result in
     let there = arc_there net c.args.node.0 c.out_arcs-arc-items.result.now c.out_arcs-arc-items.ensures.arcs c.loop-arc.arc-index c.arc-item.result c.loop-arc-test.true c.arc-item.is in
     let tail = (out_arc net c.requires.net c.args.node.0 c.loop-arc.arc-index a there).tail in
-    let told = route_at (rows_of c.args.table.now) in
-    let decides = subst (λ (k : ℕ). Decides c.in_ok-arc_makes.field-0 (MadeBy net told k a.head)) tail c.in_ok-arc_makes.ensures in
+    let reported = route_at (rows_of c.args.table.now) in
+    let decides = subst (λ (k : ℕ). Decides c.in_ok-arc_makes.field-0 (MadeBy net reported k a.head)) tail c.in_ok-arc_makes.ensures in
     (λ e. (a.head, decides.0 c.if-branch.true), λ h. refl)
 
 pub loop-arc-preserved : goal.loop-arc-preserved
@@ -30,16 +30,16 @@ loop-arc-preserved c =
     let a = pure_arc c.arc-item.result in
     let there = arc_there net c.args.node.0 c.out_arcs-arc-items.result.now c.out_arcs-arc-items.ensures.arcs c.loop-arc.arc-index c.arc-item.result c.loop-arc-test.true c.arc-item.is in
     let tail = (out_arc net c.requires.net c.args.node.0 c.loop-arc.arc-index a there).tail in
-    let told = route_at (rows_of c.args.table.now) in
-    let decides = subst (λ (k : ℕ). Decides c.in_ok-arc_makes.field-0 (MadeBy net told k a.head)) tail c.in_ok-arc_makes.ensures in
-    none_more net c.args.node.0 (MadeBy net told c.args.node.0) c.loop-arc.arc-index a c.loop-arc.invariant there
+    let reported = route_at (rows_of c.args.table.now) in
+    let decides = subst (λ (k : ℕ). Decides c.in_ok-arc_makes.field-0 (MadeBy net reported k a.head)) tail c.in_ok-arc_makes.ensures in
+    none_more net c.args.node.0 (MadeBy net reported c.args.node.0) c.loop-arc.arc-index a c.loop-arc.invariant there
     (λ h. absurd (let e = decides.1 h in let f = c.if-branch.false in cc))
 
 pub returns : goal.returns
 returns c =
     let net = c.args.net.now in
-    let told = route_at (rows_of c.args.table.now) in
+    let reported = route_at (rows_of c.args.table.now) in
     let all = all_arcs net c.args.node.0 c.out_arcs-arc-items.result.now c.out_arcs-arc-items.ensures.arcs c.loop-arc.arc-index (omega (arith, c.loop-arc-test.false)) in (
       λ e. absurd (cc),
-      λ h. absurd (none_at_all net c.args.node.0 (MadeBy net told c.args.node.0) c.loop-arc.arc-index (made_has net c.requires.net told c.args.node.0) all c.loop-arc.invariant h.0 h.1),
+      λ h. absurd (none_at_all net c.args.node.0 (MadeBy net reported c.args.node.0) c.loop-arc.arc-index (made_has net c.requires.net reported c.args.node.0) all c.loop-arc.invariant h.0 h.1),
     )

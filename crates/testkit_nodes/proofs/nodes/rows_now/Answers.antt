@@ -2,7 +2,7 @@ use Rattle.node_core.specs.MachineOf.{machine_of, net_of}
 use Rattle.path_vector.specs.Nodes.{state_of}
 use Rattle.path_vector.specs.Updates.{pure_update}
 use Rattle.testkit_nodes.specs.Starts.{nets_are}
-use Rattle.testkit_nodes.proofs.States.{rows_told}
+use Rattle.testkit_nodes.proofs.States.{rows_reported}
 use Rattle.testkit_nodes.proofs.nodes.rows_now.Goals as goal
 
 pub rows_of-requires : goal.rows_of-requires
@@ -15,4 +15,4 @@ returns g c =
     let net = net_of c.args.config.now in
     let machine = machine_of state_of pure_update c.args.config.now in
     let nodes = c.nodes.result.now in
-    rows_told net machine nodes c.rows_of.result c.nodes.ensures (c.rows_of.ensures net (nets_are net machine nodes c.requires c.nodes.ensures))
+    rows_reported net machine nodes c.rows_of.result c.nodes.ensures (c.rows_of.ensures net (nets_are net machine nodes c.requires c.nodes.ensures))

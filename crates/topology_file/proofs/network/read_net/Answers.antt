@@ -5,5 +5,5 @@ use Rattle.topology_file.proofs.network.read_net.Goals as goal
 pub returns-in-Err-clause-fault : goal.returns-in-Err-clause-fault
 returns-in-Err-clause-fault c =
     rw c.at.ensures
-    (refused_at c.args.source.now c.args.alg c.loop-line.file c.loop-line.number c.in-Some.line.now (lines_of c.loop-line.rest.now) (lines_of c.in-Some.others.now)
+    (refused_at c.texts_have_one_spelling.ensures.is c.args.source.now c.args.alg c.loop-line.file c.loop-line.number c.in-Some.line.now (lines_of c.loop-line.rest.now) (lines_of c.in-Some.others.now)
     c.in-Err.error c.loop-line.invariant.outcome c.in-Some.ensures.lines c.in-Err.ensures.bad)

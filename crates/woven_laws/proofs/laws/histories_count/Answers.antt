@@ -2,4 +2,4 @@ use Rattle.woven_laws.proofs.Counting.{woven_count}
 use Rattle.woven_laws.proofs.laws.histories_count.Goals as goal
 
 pub returns : goal.returns
-returns g c net start end history is_net running woven = woven_count g.N.NodeCore.kind net is_net start end history woven
+returns g c net start end history is_net woven = woven_count g.N.NodeCore.kind net is_net start end history woven

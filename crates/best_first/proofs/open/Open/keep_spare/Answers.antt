@@ -6,7 +6,7 @@ use Rattle.best_first.proofs.Offering.{better_judged, kept_sigs, kept_best}
 use Rattle.best_first.proofs.open.Open.keep_spare.Goals as goal
 
 pub exchange-requires : goal.exchange-requires
-exchange-requires g c = λ lacks. false≢true (rw lacks at c.requires.wanted)
+exchange-requires g c = λ misses. false≢true (rw misses at c.requires.wanted)
 
 pub raise-requires-clause-judged : goal.raise-requires-clause-judged
 raise-requires-clause-judged g c =

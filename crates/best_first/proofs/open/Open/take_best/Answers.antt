@@ -4,7 +4,7 @@ use Rattle.alg_model.specs.Carriers.{carrier_of}
 use Rattle.best_first.specs.declared.route.OpenRoute.{OpenRoute}
 use Rattle.best_first.specs.Found.{found_at}
 use Rattle.best_first.specs.Keys.{key_of}
-use Rattle.best_first.proofs.Offering.{taken_judged, none_when_first_lacks, first_of_all}
+use Rattle.best_first.proofs.Offering.{taken_judged, none_when_first_misses, first_of_all}
 use Rattle.best_first.proofs.Places.{all-set, found-read}
 use Rattle.best_first.proofs.open.Open.take_best.Goals as goal
 
@@ -16,7 +16,7 @@ returns-in_default-clause-none g c =
     let carrier = carrier_of (g.A.Algebra.expression algebra) in
     let best = c.args.self.now.best.items in
     let within : c.first-first.result < length best = let w = c.first-first.ensures.within in omega (arith, c.requires.ranked.count, length-map best (option_map (key_of value))) in
-    none_when_first_lacks value is_sig carrier (g.met.A.Algebra.sig_in algebra) best c.requires.sigs c.args.self.now.standing c.requires.ranked c.first-first.result
+    none_when_first_misses value is_sig carrier (g.met.A.Algebra.sig_in algebra) best c.requires.sigs c.args.self.now.standing c.requires.ranked c.first-first.result
     c.first-first.ensures.first (found-read best c.first-first.result c.index_mut.result.now within c.index_mut.ensures.value ∙ (sym c.take.ensures.value ∙ c.in_default.is))
 
 pub replay-requires-clause-slots : goal.replay-requires-clause-slots

@@ -15,20 +15,20 @@ rewrite-requires-clause-holds g c =
 
 pub returns-in-Made-clause-sig : goal.returns-in-Made-clause-sig
 returns-in-Made-clause-sig g c =
-    let told : RunCode c.args.lab.now (g.W.HeldRow.held c.args.sig.now) ≡ made (g.W.HeldRow.held c.rewrite.new.self) = search rules in
-    (made_from c.args.self.now.alg.now.expression c.args.lab.now c.requires.lab.0 (g.W.HeldRow.held c.args.sig.now) (g.W.HeldRow.held c.rewrite.new.self) c.keeps_rules.ensures c.requires.lab.1 c.requires.sig c.requires.small told).sig
+    let reported : RunCode c.args.lab.now (g.W.HeldRow.held c.args.sig.now) ≡ made (g.W.HeldRow.held c.rewrite.new.self) = search rules in
+    (made_from c.args.self.now.alg.now.expression c.args.lab.now c.requires.lab.0 (g.W.HeldRow.held c.args.sig.now) (g.W.HeldRow.held c.rewrite.new.self) c.keeps_rules.ensures c.requires.lab.1 c.requires.sig c.requires.small reported).sig
 
 pub returns-in-Made-clause-image : goal.returns-in-Made-clause-image
 returns-in-Made-clause-image g c l k =
-    let told : RunCode c.args.lab.now (g.W.HeldRow.held c.args.sig.now) ≡ made (g.W.HeldRow.held c.rewrite.new.self) = search rules in
-    (made_from c.args.self.now.alg.now.expression c.args.lab.now l (g.W.HeldRow.held c.args.sig.now) (g.W.HeldRow.held c.rewrite.new.self) c.keeps_rules.ensures k c.requires.sig c.requires.small told).image
+    let reported : RunCode c.args.lab.now (g.W.HeldRow.held c.args.sig.now) ≡ made (g.W.HeldRow.held c.rewrite.new.self) = search rules in
+    (made_from c.args.self.now.alg.now.expression c.args.lab.now l (g.W.HeldRow.held c.args.sig.now) (g.W.HeldRow.held c.rewrite.new.self) c.keeps_rules.ensures k c.requires.sig c.requires.small reported).image
 
 pub returns-in-Made-clause-bound : goal.returns-in-Made-clause-bound
 returns-in-Made-clause-bound g c =
-    let told : RunCode c.args.lab.now (g.W.HeldRow.held c.args.sig.now) ≡ made (g.W.HeldRow.held c.rewrite.new.self) = search rules in
-    (made_from c.args.self.now.alg.now.expression c.args.lab.now c.requires.lab.0 (g.W.HeldRow.held c.args.sig.now) (g.W.HeldRow.held c.rewrite.new.self) c.keeps_rules.ensures c.requires.lab.1 c.requires.sig c.requires.small told).bound
+    let reported : RunCode c.args.lab.now (g.W.HeldRow.held c.args.sig.now) ≡ made (g.W.HeldRow.held c.rewrite.new.self) = search rules in
+    (made_from c.args.self.now.alg.now.expression c.args.lab.now c.requires.lab.0 (g.W.HeldRow.held c.args.sig.now) (g.W.HeldRow.held c.rewrite.new.self) c.keeps_rules.ensures c.requires.lab.1 c.requires.sig c.requires.small reported).bound
 
 pub returns-in-Prohibited-clause-image : goal.returns-in-Prohibited-clause-image
 returns-in-Prohibited-clause-image g c l k =
-    let told : RunCode c.args.lab.now (g.W.HeldRow.held c.args.sig.now) ≡ prohibited = search rules in
-    prohibited_from c.args.self.now.alg.now.expression c.args.lab.now l (g.W.HeldRow.held c.args.sig.now) c.keeps_rules.ensures k c.requires.sig c.requires.small told
+    let reported : RunCode c.args.lab.now (g.W.HeldRow.held c.args.sig.now) ≡ prohibited = search rules in
+    prohibited_from c.args.self.now.alg.now.expression c.args.lab.now l (g.W.HeldRow.held c.args.sig.now) c.keeps_rules.ensures k c.requires.sig c.requires.small reported

@@ -10,5 +10,5 @@ compare_words-requires g c =
 
 pub returns : goal.returns
 returns g c =
-    let told : RunOrder c.args.self.now.order (g.W.HeldRow.held c.args.a.now) (g.W.HeldRow.held c.args.b.now) ≡ Some c.compare_words.result = rw (c.as_slice.ensures, c.as_slice-2.ensures, c.as_slice-3.ensures) at c.compare_words.ensures in
-    some_inj (sym told ∙ ordered c.args.self.now.alg.now.expression c.args.self.now.order (g.W.HeldRow.held c.args.a.now) (g.W.HeldRow.held c.args.b.now) c.keeps_rules.ensures (search rules) c.requires.first c.requires.second)
+    let reported : RunOrder c.args.self.now.order (g.W.HeldRow.held c.args.a.now) (g.W.HeldRow.held c.args.b.now) ≡ Some c.compare_words.result = rw (c.as_slice.ensures, c.as_slice-2.ensures, c.as_slice-3.ensures) at c.compare_words.ensures in
+    some_inj (sym reported ∙ ordered c.args.self.now.alg.now.expression c.args.self.now.order (g.W.HeldRow.held c.args.a.now) (g.W.HeldRow.held c.args.b.now) c.keeps_rules.ensures (search rules) c.requires.first c.requires.second)

@@ -24,12 +24,12 @@ pub from_parts-requires-clause-filed : goal.from_parts-requires-clause-filed
 from_parts-requires-clause-filed c =
     let known = c.self.inside.known in
     let lines = c.in_ok-lines.lines in
-    let told = c.in_ok-lines.ensures in
+    let reported = c.in_ok-lines.ensures in
     filed_net known.alg known.nodes known.dests c.self.inside.arcs.items c.self.inside.origins.items
     lines.out.groups lines.out.spots.items lines.heard lines.homes.groups lines.homes.spots.items
-    (told.out.count ∙ c.count.ensures) told.out.filed told.out.stand
-    (told.heard.count ∙ c.count.ensures) told.heard.listed
-    (told.homes.count ∙ c.count-2.ensures) told.homes.filed told.homes.stand
+    (reported.out.count ∙ c.count.ensures) reported.out.filed reported.out.stand
+    (reported.heard.count ∙ c.count.ensures) reported.heard.listed
+    (reported.homes.count ∙ c.count-2.ensures) reported.homes.filed reported.homes.stand
 
 pub returns : goal.returns
 returns c =

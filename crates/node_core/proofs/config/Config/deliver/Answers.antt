@@ -58,10 +58,10 @@ send_all-requires g c =
     let same = same_links state note self.nodes.items self.clocks.items self.links.items roomy c.make_room.ensures.kept in
     let run = subst (IsRunning k net) (sym same) c.requires.running in
     let before = machine_over state note self.nodes.items self.clocks.items roomy in
-    let behind = machine_over state note c.step_on.new.nodes.items c.step_on.new.clocks.items c.step_on.new.links.items in
+    let later = machine_over state note c.step_on.new.nodes.items c.step_on.new.clocks.items c.step_on.new.links.items in
     record {
       room = λ b. fits_still (numbered_fit note b c.step_on.new.out (spare_on roomy b)
-          (sends_fit k g.met.N.NodeCore.lawful net c.keeps_rules.ensures before behind run c.args.arc.0 tail (map (noted note) c.step_on.new.out) c.in_ok-step_on.ensures.taken b (spare_on roomy b)
+          (sends_fit k g.met.N.NodeCore.lawful net c.keeps_rules.ensures before later run c.args.arc.0 tail (map (noted note) c.step_on.new.out) c.in_ok-step_on.ensures.taken b (spare_on roomy b)
           (λ speaks. speaks_among net c.keeps_rules.ensures tail b ids (λ a. 0 < spare_on roomy a) c.listeners.ensures c.in_ok-make_room.ensures.room speaks))) (c.step_on.ensures.room b);
     }
 
@@ -78,11 +78,11 @@ returns-clause-taken g c _ =
     let same = same_links state note self.nodes.items self.clocks.items self.links.items roomy c.make_room.ensures.kept in
     let listens : listener net arc ≡ Some tail = ap (option_map (λ (a : PureArc). a.tail)) c.arc.ensures.arc in
     let before = machine_over state note self.nodes.items self.clocks.items roomy in
-    let behind = machine_over state note c.step_on.new.nodes.items c.step_on.new.clocks.items c.step_on.new.links.items in
+    let later = machine_over state note c.step_on.new.nodes.items c.step_on.new.clocks.items c.step_on.new.links.items in
     let after = machine_over state note c.step_on.new.nodes.items c.step_on.new.clocks.items c.send_all.new.links.items in
     let sends = map (noted note) c.step_on.new.out in
     subst (λ (m : Machine g.N.NodeCore.State g.N.NodeCore.Note). Deliver k net m arc ≡ Some after) same
-    (delivers k net before behind after arc tail sends listens c.in_ok-step_on.ensures.taken (λ j. refl) (λ j. refl)
+    (delivers k net before later after arc tail sends listens c.in_ok-step_on.ensures.taken (λ j. refl) (λ j. refl)
     (λ b. begun_sent note b (waits_on c.step_on.new.links.items b) (waits_on c.send_all.new.links.items b) c.step_on.new.out sends (c.send_all.ensures.sent b) refl))
 
 pub returns-clause-running : goal.returns-clause-running
@@ -98,9 +98,9 @@ returns-clause-running g c =
     let same = same_links state note self.nodes.items self.clocks.items self.links.items roomy c.make_room.ensures.kept in
     let listens : listener net arc ≡ Some tail = ap (option_map (λ (a : PureArc). a.tail)) c.arc.ensures.arc in
     let before = machine_over state note self.nodes.items self.clocks.items roomy in
-    let behind = machine_over state note c.step_on.new.nodes.items c.step_on.new.clocks.items c.step_on.new.links.items in
+    let later = machine_over state note c.step_on.new.nodes.items c.step_on.new.clocks.items c.step_on.new.links.items in
     let after = machine_over state note c.step_on.new.nodes.items c.step_on.new.clocks.items c.send_all.new.links.items in
     let sends = map (noted note) c.step_on.new.out in
-    let made = delivers k net before behind after arc tail sends listens c.in_ok-step_on.ensures.taken (λ j. refl) (λ j. refl)
+    let made = delivers k net before later after arc tail sends listens c.in_ok-step_on.ensures.taken (λ j. refl) (λ j. refl)
     (λ b. begun_sent note b (waits_on c.step_on.new.links.items b) (waits_on c.send_all.new.links.items b) c.step_on.new.out sends (c.send_all.ensures.sent b) refl) in
     deliver_runs k g.met.N.NodeCore.lawful net c.keeps_rules.ensures before after arc (subst (IsRunning k net) (sym same) c.requires.running) made

@@ -2,11 +2,11 @@ use Rattle.std.proofs.Common.{◌≡◌, ◌<◌, [], length, map, subst, sym, a
 use Rattle.std.specs.Prelude.{option_map}
 use Rattle.net_graph.specs.Nets.{arcs_to}
 use Rattle.path_vector.specs.Known.{heard_by, known_route}
-use Rattle.path_vector.specs.Node.{PureUpdate, choice, told_on}
+use Rattle.path_vector.specs.Node.{PureUpdate, choice, reported_on}
 use Rattle.path_vector.specs.State.{row_routes}
 use Rattle.path_vector.specs.Updates.{noted, pure_update}
 use Rattle.path_vector.specs.Words.{fits_parts}
-use Rattle.path_vector.proofs.Nodes.{all_told, chosen_after, kept_is, kept_with_row, nothing_told, on_refusal, rows_set, same_heard, still_chosen, taken_is, told_is}
+use Rattle.path_vector.proofs.Nodes.{all_reported, chosen_after, kept_is, kept_with_row, nothing_reported, on_refusal, rows_set, same_heard, still_chosen, taken_is, reported_is}
 use Rattle.path_vector.proofs.node.PvNode.take.Goals as goal
 
 pub invariant_of-self : goal.invariant_of-self
@@ -63,9 +63,9 @@ returns-in_default-clause-out g c =
     let update = pure_update c.args.update.now in
     let row = choice net update.dest number (heard_by value c.hear.new.neighbours) in
     let stays = rw (c.deref-2.ensures.value, c.in_default.is) at c.in_ok-change.ensures.change in
-    let told : PureUpdate = record { dest = update.dest; route = row; stamp = c.args.clock } in
-    rw (← c.self.view_is) (ap (map noted) c.requires.out ∙ told_is value net (option_map (λ m. m.now) inside.before) number inside.is_begun inside.neighbours c.hear.new.neighbours inside.rows.items inside.last
-    c.args.arc.0 update c.args.clock c.in_ok-change.ensures.heard (map noted []) (nothing_told row (row_routes value inside.rows.items update.dest) (told_on (arcs_to net number) told) stays))
+    let reported : PureUpdate = record { dest = update.dest; route = row; stamp = c.args.clock } in
+    rw (← c.self.view_is) (ap (map noted) c.requires.out ∙ reported_is value net (option_map (λ m. m.now) inside.before) number inside.is_begun inside.neighbours c.hear.new.neighbours inside.rows.items inside.last
+    c.args.arc.0 update c.args.clock c.in_ok-change.ensures.heard (map noted []) (nothing_reported row (row_routes value inside.rows.items update.dest) (reported_on (arcs_to net number) reported) stays))
 
 pub invariant_of-self-2 : goal.invariant_of-self-2
 invariant_of-self-2 g c =
@@ -112,7 +112,7 @@ returns-clause-out g c =
     let number = inside.number.0 in
     let update = pure_update c.args.update.now in
     let row = choice net update.dest number (heard_by value c.hear.new.neighbours) in
-    let told : PureUpdate = record { dest = update.dest; route = row; stamp = c.args.clock } in
+    let reported : PureUpdate = record { dest = update.dest; route = row; stamp = c.args.clock } in
     let change = rw (c.deref-2.ensures.value, c.in-Some.is) at c.in_ok-change.ensures.change in
-    rw (← c.self.view_is) (told_is value net (option_map (λ m. m.now) inside.before) number inside.is_begun inside.neighbours c.hear.new.neighbours inside.rows.items inside.last
-    c.args.arc.0 update c.args.clock c.in_ok-change.ensures.heard (map noted c.in-Some.change.told) (all_told row (row_routes value inside.rows.items update.dest) (map noted c.in-Some.change.told) (told_on (arcs_to net number) told) change.1 change.2))
+    rw (← c.self.view_is) (reported_is value net (option_map (λ m. m.now) inside.before) number inside.is_begun inside.neighbours c.hear.new.neighbours inside.rows.items inside.last
+    c.args.arc.0 update c.args.clock c.in_ok-change.ensures.heard (map noted c.in-Some.change.reported) (all_reported row (row_routes value inside.rows.items update.dest) (map noted c.in-Some.change.reported) (reported_on (arcs_to net number) reported) change.1 change.2))

@@ -26,5 +26,5 @@ returns-clause-out g c =
     let value = g.A.Algebra.sig_value inside.algebra.now in
     let before = option_map (λ m. m.now) inside.before in
     let state = state_with inside.net.now before inside.number.0 inside.is_begun (heard_by value inside.neighbours) (row_routes value inside.rows.items) inside.last in
-    rw (← c.self.view_is) ((rw c.deref-2.ensures.value at c.in_ok-rows.ensures.told) state refl refl refl refl refl
+    rw (← c.self.view_is) ((rw c.deref-2.ensures.value at c.in_ok-rows.ensures.reported) state refl refl refl refl refl
     ∙ ap (λ s. (Begin s).1) (sym (state_is value inside.net.now before inside.number.0 inside.is_begun inside.neighbours inside.rows.items inside.last)))

@@ -1,11 +1,11 @@
-use Rattle.table_classes.proofs.Fails.{cond_fails, narrow_fails}
+use Rattle.table_classes.proofs.Fails.{condensed_fails, narrow_fails}
 use Rattle.table_classes.proofs.row.Row.fails_between.Goals as goal
 
-pub returns-in-Cond-Some-Some : goal.returns-in-Cond-Some-Some
-returns-in-Cond-Some-Some c = rw c.in-Cond-Some-Some.is-0
-    (cond_fails c.args.self.now c.args.u c.args.v c.in-Cond-Some-Some.first c.in-Cond-Some-Some.second
-    c.is_preferred-in-Cond-Some-Some.result c.in-Cond-Some-Some.ensures c.in-Cond-Some-Some.ensures'
-    c.is_preferred-in-Cond-Some-Some.ensures)
+pub returns-in-Condensed-Some-Some : goal.returns-in-Condensed-Some-Some
+returns-in-Condensed-Some-Some c = rw c.in-Condensed-Some-Some.is-0
+    (condensed_fails c.args.self.now c.args.u c.args.v c.in-Condensed-Some-Some.first c.in-Condensed-Some-Some.second
+    c.is_preferred-in-Condensed-Some-Some.result c.in-Condensed-Some-Some.ensures c.in-Condensed-Some-Some.ensures'
+    c.is_preferred-in-Condensed-Some-Some.ensures)
 
 pub returns-in-Narrow-Some-Some : goal.returns-in-Narrow-Some-Some
 returns-in-Narrow-Some-Some c = rw c.in-Narrow-Some-Some.is-0

@@ -1,0 +1,22 @@
+-- What the program ends with.
+use Rattle.std.specs.Prelude.{◌≡◌, ℕ, ◌⊎◌, List, codes}
+use Rattle.meta_base.specs.Shelf.{Moment}
+use Rattle.meta_base.specs.Sink.{Held, Appended, AppendedPart}
+use Rattle.metacli.specs.Answers.{status_of}
+use Rattle.metacli.specs.Runs.{Runs}
+use Rattle.metacli.specs.declared.ended.Ended.{Ended}
+
+-- the top call carried the words out, and the status is that of its answer
+pub record IsCarriedOut (words : List (List ℕ)) (old new : Moment) (before after : Held) (status : ℕ) : Type 0 where
+  pub ended : Ended
+  pub runs : Runs words old new before after ended
+  pub is_status : status ≡ status_of ended.answer
+
+-- the line that refuses words that aren't UTF-8
+abbrev pub unread_line : List ℕ
+unread_line = codes "words refused: C2\n"
+
+-- that line was written whole, and the status is that of refused words; or only a front of it was, since a write failed,
+-- and the status is that of a write fault
+abbrev pub IsRefusedUnread : Held → Held → ℕ → Type 0
+IsRefusedUnread before after status = ((status ≡ 1) × Appended before unread_line after) ⊎ ((status ≡ 6) × AppendedPart before unread_line after)

@@ -1,5 +1,0 @@
-use Rattle.std.proofs.Common.{length}
-use Rattle.metacli.proofs.behind.+carried.Given as goal
-
-abbrev pub decreases-carried : goal.decreases-carried
-decreases-carried l = length l.changes.now

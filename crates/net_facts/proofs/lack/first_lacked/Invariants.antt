@@ -1,8 +1,0 @@
-use Rattle.std.proofs.Common.{map}
-use Rattle.alg_classes.specs.Instances.{pure_property}
-use Rattle.net_facts.specs.Lacks.{AllBefore, ArcHasAll}
-use Rattle.net_facts.proofs.lack.first_lacked.Given as goal
-
--- the labels of the arcs so far have all of the properties
-abbrev pub invariant-loop-arc : goal.invariant-loop-arc
-invariant-loop-arc l = AllBefore (ArcHasAll (map pure_property l.properties) l.net) l.net.arcs l.arc

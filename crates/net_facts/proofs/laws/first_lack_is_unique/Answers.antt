@@ -1,5 +1,0 @@
-use Rattle.net_facts.specs.LackLaws.{first_is_unique}
-use Rattle.net_facts.proofs.laws.first_lack_is_unique.Goals as goal
-
-pub returns : goal.returns
-returns c = first_is_unique

@@ -1,0 +1,2 @@
+mod BestFirst
+mod StrictLabels
