@@ -1,0 +1,6 @@
+pub mod Numbers
+pub mod ReportText
+pub mod Faults
+pub mod Judged
+pub mod Hops
+pub mod Views
