@@ -1,6 +1,6 @@
 -- An expression with the same labels has the same texts of labels.
 use Rattle.std.proofs.Common.{◌≡◌, ℕ, List, refl}
-use Rattle.alg_model.specs.Expressions.{Expression, add, cap, worst, width, orig, simseq}
+use Rattle.alg_model.specs.Expressions.{Expression, cap, worst, width, orig, simseq}
 use Rattle.alg_model.specs.Expressions.{PureLabel, number_label, keep, symbol_label}
 use Rattle.alg_model.specs.Forms.{labels_as}
 use Rattle.alg_model.specs.Texts.{label_text}

@@ -254,7 +254,7 @@ value_states greatest a text = record {
   is_refused = λ f e. value_fault_says greatest a text f e;
 }
 
--- what holds of all that one function tells
+-- what holds of all that one function reports
 pub reported_once : {A : Type 0} (r : Result A LitFault) (Spells : A → Type 0) (Refuses : LitFault → Type 0) → Reports r Spells Refuses → (u v : A) → Spells u → Spells v → u ≡ v
 reported_once r Spells Refuses t u v s w = let e : Ok u ≡ Ok v = sym (t.spells u s) ∙ t.spells v w in cc
 

@@ -1,4 +1,4 @@
-use Rattle.std.proofs.Common.{subst, option_map}
+use Rattle.std.proofs.Common.{option_map}
 use Rattle.std.proofs.lemmas.Result.{IfOk-weaker}
 use Rattle.alg_model.specs.Views.{expression_of, pure_label}
 use Rattle.alg_classes.specs.Classes.{pure_example}
