@@ -25,14 +25,18 @@ are_equivalent c _ _ = false
 abbrev pub is_hop : PureNet → List PureRow → PureArc → Bool
 is_hop net table a = are_equivalent (carrier net) (along net a.tail a.head (value_at table a.head)) (value_at table a.tail)
 
--- the row of node i in the table of the destination, with the heads in file order
+-- the heads of the arcs of node i that are, in file order
+abbrev pub heads_at : PureNet → List PureRow → ℕ → List ℕ
+heads_at net table i = map (λ (a : PureArc). a.head) (filter (is_hop net table) (arcs_from net i))
+
+-- the row of node i in the table of the destination
 abbrev pub hops_at : PureNet → ℕ → List PureRow → ℕ → PureHops
 hops_at net dest table i = record {
   node = i;
   dest = dest;
   value = value_at table i;
   here = are_equivalent (carrier net) (origin_value net dest i) (value_at table i);
-  heads = map (λ (a : PureArc). a.head) (filter (is_hop net table) (arcs_from net i));
+  heads = heads_at net table i;
 }
 
 -- those of the nodes from i on

@@ -2,5 +2,6 @@ pub mod Numbers
 pub mod ReportText
 pub mod Faults
 pub mod Judged
+pub mod Findings
 pub mod Hops
 pub mod Views

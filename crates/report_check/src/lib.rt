@@ -6,14 +6,15 @@
 
 mod faults;
 mod hops;
-mod judge;
+mod judging;
 mod judgement;
 mod laws;
 mod lines;
 mod report;
+mod rows;
 
 pub use faults::{ReportError, ReportFault, ReportKind};
 pub use hops::{ManyHops, best_hops};
-pub use judge::judge;
+pub use judging::judge;
 pub use judgement::{Judgement, OptimalFinding, StableFinding};
 pub use report::{MAX_REPORT_BYTES, numbers_are_specified, read_report};
