@@ -1,1 +1,3 @@
 pub mod Hopping
+pub mod RowSearch
+pub mod Judging

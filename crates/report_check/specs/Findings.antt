@@ -1,5 +1,5 @@
 -- What is found of tables in part: of the rows up to one node, and of the tables up to one destination.
-use Rattle.std.specs.Prelude.{◌≡◌, ℕ, ◌<◌, ◌⊎◌, List, Bool, true, false, if◌then◌else◌, Option, Some, None, IfSome}
+use Rattle.std.specs.Prelude.{◌≡◌, ℕ, ◌<◌, ◌⊎◌, List, Bool, true, false, if◌then◌else◌, Option, Some, None, IfSome, length}
 use Rattle.net_graph.specs.Nets.{PureNet}
 use Rattle.net_graph.specs.Routes.{PureRoute}
 use Rattle.net_graph.specs.Tables.{PureRow, IsChoice, Relaxed, Reported, Stable, route_at}
@@ -21,7 +21,8 @@ abbrev pub OptimalUpTo : PureNet → ℕ → List PureRow → ℕ → ℕ → Pu
 OptimalUpTo net dest table m n unbeaten = HasWalksBefore net dest table m × ((k : ℕ) → k < n → ¬ IsBeaten net dest table k)
 OptimalUpTo net dest table m n (no_walk i d) = (d ≡ dest) × IsFirst (HasNoWalk net dest table) i
 OptimalUpTo net dest table m n (beaten i d walk) =
-    (d ≡ dest) × HasWalksBefore net dest table m × IsFirst (IsBeaten net dest table) i × IsBeatenBy net dest table i walk
+    (d ≡ dest) × (i < length net.nodes) × HasWalksBefore net dest table m × IsFirst (IsBeaten net dest table) i
+    × IsBeatenBy net dest table i walk
 OptimalUpTo net dest table m n (unsettled arc x) = ⊥
 
 -- and once the first n rows are looked at for whether they are choices

@@ -5,3 +5,4 @@ pub mod Judged
 pub mod Findings
 pub mod Hops
 pub mod Views
+pub mod Said

@@ -4,6 +4,7 @@
 //! `sig_text`, and what these stand on.
 #![tactic(auto)]
 
+mod draft;
 mod faults;
 mod hops;
 mod judging;

@@ -6,10 +6,13 @@ ghost use Rattle.report_check.specs.Numbers.{max_report_bytes};
 ghost use Rattle.report_check.specs.ReportText.{ReportText};
 ghost use Rattle.report_check.specs.Views.{AreOfDests};
 
-use crate::ReportError;
+use crate::draft::{add_line, empty_draft, is_whole};
+use crate::{ReportError, ReportFault, ReportKind};
 use meta_base::List;
 use net_graph::{DestTable, Net};
+use sig_text::values_are_reported;
 use std::alloc::Global;
+use topology_file::split_line;
 
 /// The most bytes of a report.
 pub const MAX_REPORT_BYTES: usize = 4_194_304;
@@ -45,4 +48,24 @@ pub fn read_report(alloc: Global, net: &Net, source: &[u8]) -> Result<List<DestT
     ensures count { IfOk result (λ tables. length tables ≡ length net.now.dests) }
     ensures fault { IfErr result (IsReportRefusedBy net.now source.now) }
 {
+    // What is read of a value is what its text spells.
+    values_are_reported();
+    let mut draft = empty_draft(alloc, net)?;
+    let mut number: u32 = 1;
+    let mut rest = source;
+    while let Some((line, others)) = split_line(rest) {
+        draft = match add_line(alloc, net, draft, line) {
+            Ok(next) => next,
+            Err(error) => return Err(error.at(number)),
+        };
+        number += 1;
+        rest = others;
+    }
+    if !is_whole(net, &draft) {
+        return Err(ReportError::Bad(ReportFault {
+            line: number,
+            kind: ReportKind::RowsMissing,
+        }));
+    }
+    Ok(List::from_vec(draft.tables))
 }

@@ -7,7 +7,7 @@ ghost use Rattle.meta_base.specs.NodePaths.{numbers};
 ghost use Rattle.alg_model.specs.Carriers.{In, IsPreferred, Order};
 ghost use Rattle.alg_model.specs.Views.{pure_label, pure_value};
 ghost use Rattle.net_graph.specs.Nets.{IsNet, label_between, origin_value};
-ghost use Rattle.net_graph.specs.Tables.{TableOf, carrier, route_at, value_at};
+ghost use Rattle.net_graph.specs.Tables.{TableOf, carrier, is_among, route_at, value_at};
 ghost use Rattle.net_graph.specs.Views.{pure_route, rows_of};
 ghost use Rattle.net_graph.specs.Walks.{along};
 ghost use Rattle.report_check.specs.Findings.{IsMadeAlone};
@@ -142,7 +142,8 @@ fn offer_of_origin(
         (λ s. IsBetterOffer net.now table.now.dest.0 (rows_of table.now) node.0 (pure_route s))) }
 {
     let row = route_at(table, node);
-    let found = weighed(net, own_offer(alloc, own, node)?, row);
+    let offer = own_offer(alloc, own, node)?;
+    let found = weighed(net, offer, row);
     Ok(OfferFindings {
         is_made: row.is_none() || found.is_made,
         better: found.better,
@@ -176,8 +177,8 @@ fn judge_origin(
     })
 }
 
-// The walk along the arc and the path of its head's row, where it beats its tail's row: this value is what the arc
-// makes of that of its head.
+// The walk along the arc and the path of its head's row, if that is wanted and beats its tail's row: this value is what
+// the arc makes of that of its head.
 fn walk_of_arc(
     alloc: Global,
     net: &Net,
@@ -185,17 +186,18 @@ fn walk_of_arc(
     arc: &Arc,
     next: &Route,
     value: &Value,
+    wanted: Wanted,
 ) -> Result<Option<List<NodeId>>, NoMemory>
     requires table { TableOf net.now table.now.dest.0 (rows_of table.now) }
     requires next { route_at (rows_of table.now) arc.now.head.0 ≡ Some (pure_route next.now) }
     requires value { along net.now arc.now.tail.0 arc.now.head.0 (value_at (rows_of table.now) arc.now.head.0) ≡
         Some (pure_value value.now) }
     requires value_in { In (carrier net.now) (pure_value value.now) }
-    ensures { IfOk result (λ beating. MatchOption beating
+    ensures { wanted.optimal ≡ true → IfOk result (λ beating. MatchOption beating
         (¬ ImprovedBy net.now (rows_of table.now) arc.now.tail.0 arc.now.head.0)
         (λ walk. IsBeatenBy net.now table.now.dest.0 (rows_of table.now) arc.now.tail.0 (numbers walk))) }
 {
-    if !is_preferred(net, Some(value), route_at(table, arc.tail)) {
+    if !wanted.optimal || !is_preferred(net, Some(value), route_at(table, arc.tail)) {
         return Ok(None);
     }
     Ok(Some(path_from(alloc, arc.tail, next.path.as_slice())?))
@@ -214,8 +216,25 @@ fn is_worse(net: &Net, value: &Value, row: Option<&Route>) -> bool
     }
 }
 
-// What the arc shows of its tail's row by what it offers, where this value is what it makes of that of its head. The
-// path is copied only where the value is no worse than the row's.
+// Whether what the arc offers may be its tail's route or better: the path of its head's route doesn't pass the tail,
+// and this value, which it makes of that of its head, is no worse than the tail's.
+fn may_matter(net: &Net, table: &DestTable, arc: &Arc, next: &Route, value: &Value) -> bool
+    requires table { TableOf net.now table.now.dest.0 (rows_of table.now) }
+    requires next { route_at (rows_of table.now) arc.now.head.0 ≡ Some (pure_route next.now) }
+    requires value { along net.now arc.now.tail.0 arc.now.head.0 (value_at (rows_of table.now) arc.now.head.0) ≡
+        Some (pure_value value.now) }
+    requires value_in { In (carrier net.now) (pure_value value.now) }
+    ensures loopless { result ≡ true → is_among (pure_route next.now).path arc.now.tail.0 ≡ false }
+    ensures not_made { let reported = route_at (rows_of table.now) in
+        result ≡ false → ¬ MadeBy net.now reported arc.now.tail.0 arc.now.head.0 }
+    ensures not_outdone { let reported = route_at (rows_of table.now) in
+        result ≡ false → ¬ OutdoneBy net.now reported arc.now.tail.0 arc.now.head.0 }
+{
+    !passes(next, arc.tail) && !is_worse(net, value, route_at(table, arc.tail))
+}
+
+// What the arc shows of its tail's row by what it offers, if that is wanted: this value is what it makes of that of its
+// head. The path is copied only where the value is no worse than the row's.
 fn offer_of_arc(
     alloc: Global,
     net: &Net,
@@ -223,27 +242,29 @@ fn offer_of_arc(
     arc: &Arc,
     next: &Route,
     value: Value,
+    wanted: Wanted,
 ) -> Result<OfferFindings, NoMemory>
     requires table { TableOf net.now table.now.dest.0 (rows_of table.now) }
     requires next { route_at (rows_of table.now) arc.now.head.0 ≡ Some (pure_route next.now) }
     requires value { along net.now arc.now.tail.0 arc.now.head.0 (value_at (rows_of table.now) arc.now.head.0) ≡
         Some (pure_value value) }
     requires value_in { In (carrier net.now) (pure_value value) }
-    ensures made { let reported = route_at (rows_of table.now) in IfOk result (λ found. Decides found.is_made
+    ensures made { let reported = route_at (rows_of table.now) in
+        wanted.stable ≡ true → IfOk result (λ found. Decides found.is_made
         (MadeBy net.now reported arc.now.tail.0 arc.now.head.0)) }
-    ensures better { let reported = route_at (rows_of table.now) in IfOk result (λ found. MatchOption found.better
+    ensures better { let reported = route_at (rows_of table.now) in
+        wanted.stable ≡ true → IfOk result (λ found. MatchOption found.better
         (¬ OutdoneBy net.now reported arc.now.tail.0 arc.now.head.0)
         (λ s. IsBetterOffer net.now table.now.dest.0 (rows_of table.now) arc.now.tail.0 (pure_route s))) }
 {
-    let row = route_at(table, arc.tail);
-    if passes(next, arc.tail) || is_worse(net, &value, row) {
+    if !wanted.stable || !may_matter(net, table, arc, next, &value) {
         return Ok(OfferFindings {
             is_made: false,
             better: None,
         });
     }
     let path = path_from(alloc, arc.tail, next.path.as_slice())?;
-    Ok(weighed(net, Some(Route { value, path }), row))
+    Ok(weighed(net, Some(Route { value, path }), route_at(table, arc.tail)))
 }
 
 // What the arc shows of its tail's row. Its label is applied once.
@@ -268,20 +289,16 @@ fn judge_arc(
         (¬ OutdoneBy net.now reported arc.now.tail.0 arc.now.head.0)
         (λ s. IsBetterOffer net.now table.now.dest.0 (rows_of table.now) arc.now.tail.0 (pure_route s))) }
 {
-    let mut found = RowFindings::nothing();
     let Some(next) = route_at(table, arc.head) else {
-        return Ok(found);
+        return Ok(RowFindings::nothing());
     };
     let Some(value) = arc_value(alloc, net, table, arc)? else {
-        return Ok(found);
+        return Ok(RowFindings::nothing());
     };
-    if wanted.optimal {
-        found.beating = walk_of_arc(alloc, net, table, arc, next, &value)?;
-    }
-    if wanted.stable {
-        found.offers = offer_of_arc(alloc, net, table, arc, next, value)?;
-    }
-    Ok(found)
+    Ok(RowFindings {
+        beating: walk_of_arc(alloc, net, table, arc, next, &value, wanted)?,
+        offers: offer_of_arc(alloc, net, table, arc, next, value, wanted)?,
+    })
 }
 
 /// What is found of the row of the node: its origin is looked at, and each of its arcs once.
@@ -308,7 +325,8 @@ pub fn judge_row(
 {
     let mut found = judge_origin(alloc, net, table, own, node)?;
     for arc in net.out_arcs(node) {
-        found = found.or(judge_arc(alloc, net, table, arc, wanted)?);
+        let of_arc = judge_arc(alloc, net, table, arc, wanted)?;
+        found = found.or(of_arc);
     }
     Ok(found)
 }
