@@ -5,9 +5,9 @@ use Rattle.alg_model.specs.Verdicts.{PureInstance}
 use Rattle.net_facts.specs.Misses.{IsFirstMissing}
 use Rattle.net_facts.specs.MissingLaws.{missing_is_small}
 use Rattle.net_graph.specs.Nets.{PureNet}
-use Rattle.report_text.specs.Refusals.{CanMissing}
+use Rattle.report_text.specs.Refusals.{CanMiss}
 
-pub can_missing : (properties : List PureProperty) (net : PureNet) (k : ℕ) (x : PureInstance) → IsFirstMissing properties net k x → CanMissing k x (Some net)
-can_missing properties net k x h =
+pub can_miss : (properties : List PureProperty) (net : PureNet) (k : ℕ) (x : PureInstance) → IsFirstMissing properties net k x → CanMiss k x (Some net)
+can_miss properties net k x h =
     let small = missing_is_small properties net k x h in
     (small.0, record { is_of = h.violates.is_of; bound = small.1 })

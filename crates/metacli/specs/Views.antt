@@ -20,7 +20,7 @@ use Rattle.metacli.specs.declared.outcome.Outcome.TheVariants as outcome
 
 abbrev pub pure_outcome : Outcome → PureOutcome
 pure_outcome (outcome.Stopped a f r) = stopped a (option_map pure_file f) (pure_stop r)
-pure_outcome (outcome.Missing it) = stopped (Some it.alg) (Some (pure_file it.file)) (misses it.missing.arc.0 (pure_instance it.missing.instance))
+pure_outcome (outcome.Unfit it) = stopped (Some it.alg) (Some (pure_file it.file)) (misses it.missing.arc.0 (pure_instance it.missing.instance))
 pure_outcome (outcome.Checked it) = checked it.alg (option_map pure_file it.file) (pure_verdicts it.verdicts) (option_map pure_property it.unmet)
 pure_outcome (outcome.Coded it) = coded it.alg (option_map pure_file it.file) it.listing
 pure_outcome (outcome.Routed it) = routed it.solution it.alg (pure_file it.file) (map pure_row it.rows)
@@ -45,7 +45,7 @@ IsListedOn (Some f) after = last_of after f.net ≡ changed_net (pure_file f)
 -- the network of an arc that doesn't have a property is that of the file after its changes; those of the phases after
 -- the first are those after the first change, the first two, and so on
 abbrev pub IsAfter : Outcome → Type 0
-IsAfter (outcome.Missing it) = last_of it.after it.file.net ≡ changed_net (pure_file it.file)
+IsAfter (outcome.Unfit it) = last_of it.after it.file.net ≡ changed_net (pure_file it.file)
 IsAfter (outcome.Coded it) = IsListedOn it.file it.after
 IsAfter (outcome.Ran it) = it.changed ≡ nets_after it.file.net (pure_file it.file).changes
 IsAfter _ = Unit {0}

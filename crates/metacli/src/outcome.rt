@@ -82,7 +82,7 @@ pub enum Outcome {
         file: Option<NetFile>,
         stop: Stop,
     },
-    Missing(Missing),
+    Unfit(Unfit),
     Checked(Checked),
     Coded(Coded),
     Routed(Routed),
@@ -93,7 +93,7 @@ pub enum Outcome {
 
 /// An arc of the network after its changes, which is `None` where there are none, has a label that isn't fit.
 #[derive(Debug, Drop)]
-pub struct Missing {
+pub struct Unfit {
     pub alg: Alg,
     pub file: NetFile,
     pub after: Option<Net>,
@@ -204,7 +204,7 @@ impl Outcome {
         let mut made = Made::nothing(alloc);
         let (alg, file, decided) = match self {
             Outcome::Stopped { alg, file, stop } => (alg, file, stop.answer()),
-            Outcome::Missing(it) => (Some(it.alg), Some(it.file), missing_answer(it.missing)),
+            Outcome::Unfit(it) => (Some(it.alg), Some(it.file), missing_answer(it.missing)),
             Outcome::Checked(it) => {
                 made.verdicts = Some(it.verdicts);
                 (Some(it.alg), it.file, checked_answer(it.unmet))

@@ -18,7 +18,7 @@ ghost use Rattle.alg_classes.specs.Instances.{pure_property};
 ghost use Rattle.metacli.specs.Views.{CanBeWritten, pure_outcome};
 
 use crate::after::{last_of, net_after};
-use crate::outcome::{Missing, Outcome, Routed, Stop};
+use crate::outcome::{Outcome, Routed, Stop, Unfit};
 use alg_classes::Property;
 use alg_model::Alg;
 use best_first::{best_first_is_optimal, best_first_rows_are_the_networks};
@@ -106,7 +106,7 @@ fn outcome_of(
                 rows,
             })
         }
-        Err(missing) => Outcome::Missing(Missing {
+        Err(missing) => Outcome::Unfit(Unfit {
             alg,
             file,
             after,

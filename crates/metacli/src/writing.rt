@@ -10,7 +10,7 @@ ghost use Rattle.property_infer.specs.Views.{pure_verdict, pure_verdicts};
 ghost use Rattle.topology_file.specs.Views.{pure_file};
 ghost use Rattle.report_text.specs.CodeTexts.{CanList, code_text};
 ghost use Rattle.report_text.specs.VerdictTexts.{CanPrintVerdicts, lines_on, verdicts_text};
-ghost use Rattle.report_text.specs.Refusals.{CanMissing, misses, misses_text, refusal_text};
+ghost use Rattle.report_text.specs.Refusals.{CanMiss, misses, misses_text, refusal_text};
 ghost use Rattle.report_text.specs.SummaryTexts.{AreSummed, summary_text};
 ghost use Rattle.vector_runs.specs.Runs.{AreOfNetworks, pure_phase};
 ghost use Rattle.wedge_nets.specs.GadgetTexts.{gadget_text};
@@ -51,7 +51,7 @@ pub fn write<K: Sink>(alloc: Global, out: &mut K, outcome: &Outcome) -> Answer
 {
     match outcome {
         Outcome::Stopped { stop, .. } => write_refusal(alloc, out, *stop),
-        Outcome::Missing(it) => write_missing(
+        Outcome::Unfit(it) => write_missing(
             alloc,
             out,
             last_of(&it.after, &it.file.net),
@@ -143,7 +143,7 @@ fn stop_line(alloc: Global, stop: Stop) -> Result<Text, NoMemory>
 
 // Writes the line of an arc whose label doesn't have a property. Memory for the answer is taken before.
 fn write_missing<K: Sink>(alloc: Global, out: &mut K, net: &Net, missing: &Missing) -> Answer
-    requires { CanMissing missing.now.arc.0 (pure_instance missing.now.instance) (Some net.now) }
+    requires { CanMiss missing.now.arc.0 (pure_instance missing.now.instance) (Some net.now) }
     ensures { Written (K.holds out.old)
         (misses_text missing.now.arc.0 (pure_instance missing.now.instance) (Some net.now)) (K.holds out.new)
         (refused (misses missing.now.arc.0 (pure_instance missing.now.instance))) (pure_answer result) }
@@ -156,7 +156,7 @@ fn write_missing<K: Sink>(alloc: Global, out: &mut K, net: &Net, missing: &Missi
 
 // The line, and the answer that says the same.
 fn missing_line(alloc: Global, net: &Net, missing: &Missing) -> Result<(Text, Answer), NoMemory>
-    requires { CanMissing missing.now.arc.0 (pure_instance missing.now.instance) (Some net.now) }
+    requires { CanMiss missing.now.arc.0 (pure_instance missing.now.instance) (Some net.now) }
     ensures line { IfOk result (λ said.
         said.0 ≡ misses_text missing.now.arc.0 (pure_instance missing.now.instance) (Some net.now)) }
     ensures answer { IfOk result (λ said.

@@ -1,5 +1,5 @@
 -- Runs are bounded on every network over an algebra exactly if all its labels are monotone.
-use Rattle.std.proofs.Common.{ℕ, ◌+◌, ◌↔◌, length, map, refl, arith}
+use Rattle.std.proofs.Common.{◌+◌, ◌↔◌, length, map, refl, arith}
 use Rattle.std.specs.List.{range_with_len}
 use Rattle.alg_model.specs.Expressions.{PureAlg, PureLabel, PureValue}
 use Rattle.alg_model.specs.Formation.{IsAlg}

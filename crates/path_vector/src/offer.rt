@@ -1,10 +1,10 @@
-ghost use Rattle.std.specs.Prelude.{◌≡◌, ◌<◌, ◌∷◌, ℕ, IfOk, IfSome, length, option_map, option_and_then};
+ghost use Rattle.std.specs.Prelude.{◌≡◌, ◌<◌, ◌∷◌, ℕ, IfOk, IfSome, option_map, option_and_then};
 ghost use Rattle.alg_model.specs.declared.alg.TheConstants.{MAX_VALUE_NUMBER};
 ghost use Rattle.alg_model.specs.Application.{App};
 ghost use Rattle.alg_model.specs.Bounds.{AtMost};
 ghost use Rattle.alg_model.specs.Carriers.{carrier_of};
 ghost use Rattle.alg_model.specs.Expressions.{PureLabel};
-ghost use Rattle.net_graph.specs.Nets.{PureArc, PureNet, IsNet};
+ghost use Rattle.net_graph.specs.Nets.{PureArc, IsNet};
 ghost use Rattle.net_graph.specs.Routes.{is_better};
 ghost use Rattle.path_vector.specs.Known.{known_route, offered_route, placed, standing, route_through};
 ghost use Rattle.path_vector.specs.Known.{better_of, MayOffer};

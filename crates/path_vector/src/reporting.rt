@@ -1,5 +1,4 @@
 ghost use Rattle.std.specs.Prelude.{◌≡◌, ◌<◌, [], ◌∷◌, ◌++◌, map, cond, is_some, filter, length, IfOk, OnOk, option_map};
-ghost use Rattle.std.specs.Option.{option_map_or};
 ghost use Rattle.net_graph.specs.Nets.{PureArc, IsNet, arcs_to, has_arc};
 ghost use Rattle.path_vector.specs.Node.{reported_on};
 ghost use Rattle.path_vector.specs.Updates.{noted, pure_update, spoken_in};

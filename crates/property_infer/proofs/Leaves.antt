@@ -11,7 +11,7 @@ use Rattle.alg_model.specs.Carriers.{In}
 use Rattle.alg_model.specs.Formation.{IsCarrier}
 use Rattle.alg_classes.specs.declared.profile.Profile.{Profile}
 use Rattle.alg_classes.specs.Facts as facts
-use Rattle.alg_classes.specs.Facts.{PureExample, at, between}
+use Rattle.alg_classes.specs.Facts.{PureExample, between}
 use Rattle.alg_classes.specs.Profiles.{bit}
 use Rattle.alg_classes.specs.Classes.{pure_between, PureExamples, Settles, IsSettledBy, ExampleAtMost}
 use Rattle.alg_classes.specs.Constants.{unless, two_apart, pure_two, apart, constant, kept, constant_profile, kept_profile, constant_examples, kept_examples, constant_settled, kept_settled}

@@ -4,7 +4,7 @@ use Rattle.std.specs.List.{AllByRecursion}
 use Rattle.alg_model.specs.Bounds.{greatest_number}
 use Rattle.alg_model.specs.Expressions.{PureAlg, PureLabel}
 use Rattle.alg_model.specs.Instances.{InstanceAtMost}
-use Rattle.alg_model.specs.Properties.{PureProperty, Has}
+use Rattle.alg_model.specs.Properties.{PureProperty}
 use Rattle.alg_model.specs.Verdicts.{PureInstance, Violates, PureVerdict, holds, fails, PureVerdicts, OnEach}
 use Rattle.alg_model.specs.Views.{pure_label}
 use Rattle.alg_model.specs.Numbers.{max_instance_number}

@@ -1,20 +1,19 @@
 -- What labels tell is exact: for the algebra where they cover it, and for any set of labels whose profiles they have.
-use Rattle.std.proofs.Common.{◌≡◌, sym, subst, List, [], ◌∷◌, true, ⊎_elim}
+use Rattle.std.proofs.Common.{◌≡◌, sym, subst, List, [], ◌∷◌, true, ⊎_elim, arith}
 use Rattle.std.specs.List.{AllByRecursion, Contains}
 use Rattle.std.proofs.lemmas.List.Elements.{Contains-push, Contains-push_cases}
-use Rattle.alg_model.specs.Expressions.{Expression, PureAlg, PureLabel}
-use Rattle.alg_model.specs.Carriers.{carrier_of}
-use Rattle.alg_model.specs.Application.{IsLabel, App}
+use Rattle.alg_model.specs.Expressions.{PureAlg, PureLabel}
+use Rattle.alg_model.specs.Application.{IsLabel}
 use Rattle.alg_model.specs.Bounds.{greatest_number}
 use Rattle.alg_model.specs.Numbers.{max_instance_number}
-use Rattle.alg_model.specs.Properties.{PureProperty, Has}
+use Rattle.alg_model.specs.Properties.{PureProperty}
 use Rattle.alg_model.specs.Verdicts.{PureInstance, IsExact, ExactFor, PureVerdict, holds, fails, PureVerdicts, verdict_on}
 use Rattle.alg_model.specs.Instances.{InstanceAtMost, VerdictAtMost, VerdictsAtMost}
 use Rattle.alg_model.specs.Views.{pure_label}
 use Rattle.alg_classes.specs.declared.profile.Profile.{Profile}
 use Rattle.alg_classes.specs.Facts.{fact_of}
 use Rattle.alg_classes.specs.FactLaws.{has_by_profile}
-use Rattle.alg_classes.specs.Profiles.{bit, ProfileOf}
+use Rattle.alg_classes.specs.Profiles.{bit}
 use Rattle.profile_labels.specs.declared.labelled.Labelled.{Labelled}
 use Rattle.profile_labels.specs.Labels.{CoversBy, Has as HasProfile, IsCoveredBy, LabelledOf}
 use Rattle.property_infer.specs.Labels.{CoversLabels}
@@ -81,7 +80,7 @@ pub reported_of_labels : (a : PureAlg) (all : List PureLabel) (labels : List Lab
 reported_of_labels a all labels v c reported = stated_exact a (Contains all) labels v c.among c.covered reported
 
 only_one : (l m : PureLabel) → Contains (l ∷ []) m → m ≡ l
-only_one l m h = ⊎_elim (λ e. e) (λ b. absurd b) (Contains-push_cases [] l m h)
+only_one l m h = ⊎_elim (λ (b : Contains {X = PureLabel} [] m). absurd (omega (arith, b.1))) (λ (e : l ≡ m). sym e) (Contains-push_cases [] l m h)
 
 only_exact : (a : PureAlg) (p : PureProperty) (l : PureLabel) (v : PureVerdict) → IsExact p a.expression (Contains (l ∷ [])) v
     → IsExact p a.expression (λ m. m ≡ l) v

@@ -1,7 +1,6 @@
 // What acts on the values of a part of an algebra.
 ghost use Rattle.std.specs.Prelude.{◌≡◌};
 ghost use Rattle.alg_classes.specs.Profiles.{IsProfile};
-ghost use Rattle.alg_model.specs.Formation.{IsCarrier};
 ghost use Rattle.alg_model.specs.Views.{expression_of};
 ghost use Rattle.alg_model.specs.declared.edition.Edition.{Edition};
 ghost use Rattle.property_infer.specs.Asked.{part_of, carrier_under, action_of, IsAction};

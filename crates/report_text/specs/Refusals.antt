@@ -66,11 +66,11 @@ refusal_text (long w) net = codes "too long: the " ++ which_text w ++ codes "\n"
 refusal_text memory net = codes "out of memory\n"
 
 -- an arc is one of the network's, and the instance can be printed
-abbrev pub CanMissing : ℕ → PureInstance → Option PureNet → Type 0
-CanMissing n x None = ⊥
-CanMissing n x (Some net) = (n < length net.arcs) × CanPrint net.alg.expression x
+abbrev pub CanMiss : ℕ → PureInstance → Option PureNet → Type 0
+CanMiss n x None = ⊥
+CanMiss n x (Some net) = (n < length net.arcs) × CanPrint net.alg.expression x
 
 -- the line can be printed: an arc that doesn't have a property is of a network, which is given
 abbrev pub CanRefuse : PureRefusal → Option PureNet → Type 0
-CanRefuse (misses n x) net = CanMissing n x net
+CanRefuse (misses n x) net = CanMiss n x net
 CanRefuse _ net = Unit {0}

@@ -1,10 +1,10 @@
 -- The rows of a table, each in its place.
-use Rattle.std.proofs.Common.{◌≡◌, ℕ, zero, suc, ◌+◌, ◌<◌, List, [], ◌∷◌, Option, Some, None, IfSome, length, map, option_map, get_or, ◌≤◌, refl, ap, ◌∙◌, arith}
+use Rattle.std.proofs.Common.{◌≡◌, ℕ, zero, suc, ◌+◌, ◌<◌, List, [], ◌∷◌, Some, length, map, option_map, get_or, ◌≤◌, refl, ap, ◌∙◌, arith}
 use Rattle.std.specs.List.{slice_get}
 use Rattle.std.proofs.lemmas.List.{length-map}
 use Rattle.std.proofs.lemmas.Option.{slice_get-map, slice_get_read, slice_get_within}
 use Rattle.net_graph.specs.Nets.{PureNet}
-use Rattle.net_graph.specs.Tables.{PureRow, IsRouteOf, AreRowsFrom, TableOf}
+use Rattle.net_graph.specs.Tables.{PureRow, AreRowsFrom, TableOf}
 use Rattle.net_graph.specs.Views.{pure_row}
 use Rattle.net_graph.specs.declared.route.RouteRow.{RouteRow}
 use Rattle.stable_check.specs.Checks.{IsRowAt}

@@ -1,12 +1,11 @@
 -- A search among the arcs of a node, and look-ups in a network's lists.
-use Rattle.std.proofs.Common.{◌≡◌, ℕ, ◌+◌, ◌<◌, ◌≤◌, List, [], ◌∷◌, Option, Some, None, Bool, true, false, ◌==◌, map, option_map, get_or, length, refl, sym, ap, ◌∙◌, below_more, subst, arith}
+use Rattle.std.proofs.Common.{◌≡◌, ℕ, ◌+◌, ◌<◌, ◌≤◌, List, Option, Some, None, true, ◌==◌, map, option_map, get_or, length, refl, sym, ap, ◌∙◌, below_more, subst, arith}
 use Rattle.std.specs.List.{slice_get, find}
 use Rattle.std.proofs.lemmas.Bool.Decides.{nat_tests}
 use Rattle.std.proofs.lemmas.Option.{same_Some, slice_get_within, slice_get-map, slice_get_read}
 use Rattle.std.proofs.lemmas.List.{length-map}
-use Rattle.alg_model.specs.Expressions.{PureLabel, PureValue}
 use Rattle.alg_model.specs.Views.{pure_label, pure_value}
-use Rattle.net_graph.specs.Nets.{PureArc, PureOrigin, PureNet, IsNet, is_arc_between, is_origin_at, arcs_from, origins_of, has_arc, label_between, origin_value}
+use Rattle.net_graph.specs.Nets.{PureArc, PureOrigin, PureNet, IsNet, is_arc_between, arcs_from, origins_of, has_arc, label_between, origin_value}
 use Rattle.net_graph.specs.Views.{pure_arc, pure_origin}
 use Rattle.net_graph.specs.declared.parts.Arc.{Arc}
 use Rattle.net_graph.specs.declared.parts.Origin.{Origin}

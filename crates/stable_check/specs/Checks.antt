@@ -1,5 +1,5 @@
 -- What the checks of a table look at, walk by walk, node by node and arc by arc.
-use Rattle.std.specs.Prelude.{◌≡◌, ◌*◌, ℕ, ◌<◌, ◌==◌, Bool, List, [], ◌∷◌, Option, Some, None, true, false, option_map, option_and_then, length, slice_get, if◌then◌else◌, IfSome, IsSomeAnd}
+use Rattle.std.specs.Prelude.{◌≡◌, ◌*◌, ℕ, ◌==◌, Bool, List, [], ◌∷◌, Option, Some, None, false, option_map, option_and_then, length, slice_get, if◌then◌else◌, IfSome, IsSomeAnd}
 use Rattle.std.specs.Borrow.{Bor}
 use Rattle.alg_model.specs.Numbers.{max_label_number}
 use Rattle.alg_model.specs.declared.tree.Value.{Value}

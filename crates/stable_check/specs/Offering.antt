@@ -1,15 +1,15 @@
 -- What offers are, and where there is an arc that makes one.
-use Rattle.std.proofs.Common.{◌≡◌, ◌≢◌, ℕ, ◌<◌, List, [], ◌∷◌, Option, Some, None, IfSome, Bool, true, false, ◌⊎◌, inl, inr, cond, if◌then◌else◌, option_map, option_and_then, length, refl, sym, ap, ◌∙◌}
+use Rattle.std.proofs.Common.{◌≡◌, ℕ, ◌<◌, List, [], ◌∷◌, Option, Some, None, IfSome, Bool, true, false, inl, inr, if◌then◌else◌, option_map, option_and_then, length, refl, sym, ap, ◌∙◌}
 use Rattle.std.specs.Bool.{Decides}
 use Rattle.alg_model.specs.Expressions.{PureLabel, PureValue}
 use Rattle.alg_model.specs.Carriers.{In, IsPreferred}
 use Rattle.net_graph.specs.Nets.{PureNet, IsNet, has_arc, label_between, origin_value}
 use Rattle.net_graph.specs.Routes.{PureRoute}
-use Rattle.net_graph.specs.Walks.{Walk, Weight, along}
-use Rattle.net_graph.specs.Tables.{PureRow, Reported, TableOf, HasWalks, IsRouteOf, Offers, IsOfferBy, IsChoice, Stable, Relaxed, carrier, is_among, route_at, value_at}
-use Rattle.net_graph.specs.ArcLaws.{of_some, IsArc, arcs_are, IsOrigin, origins_are, along_has, along_in, along_none}
-use Rattle.net_graph.specs.RouteLaws.{table_route_in, no_route_past}
-use Rattle.stable_check.specs.Checks.{passed_on, offer_by, own_offer, Outdoes, Makes, OutdoneBy, MadeBy, ImprovedBy, IsMade, IsOutdone, IsRelaxedAt, IsWalkOf}
+use Rattle.net_graph.specs.Walks.{along}
+use Rattle.net_graph.specs.Tables.{PureRow, Reported, TableOf, Offers, IsOfferBy, IsChoice, Stable, carrier, is_among, route_at, value_at}
+use Rattle.net_graph.specs.ArcLaws.{of_some, IsArc, arcs_are, IsOrigin, origins_are, along_has, along_in}
+use Rattle.net_graph.specs.RouteLaws.{table_route_in}
+use Rattle.stable_check.specs.Checks.{passed_on, offer_by, own_offer, Outdoes, Makes, OutdoneBy, MadeBy, ImprovedBy, IsMade, IsOutdone}
 
 -- the label between two nodes is that of an arc
 pub label_is : (net : PureNet) → IsNet net → (i j : ℕ) (l : PureLabel) → label_between net i j ≡ Some l → IsArc net i j l

@@ -1,14 +1,14 @@
 -- When routes are walks, and when rows make a relaxed table.
-use Rattle.std.proofs.Common.{◌≡◌, ℕ, ◌+◌, ◌<◌, ◌≤◌, List, [], ◌∷◌, Option, Some, None, IfSome, Bool, true, false, ◌==◌, length, refl, sym, ◌∙◌, inl, inr, arith}
+use Rattle.std.proofs.Common.{◌≡◌, ℕ, ◌<◌, List, [], ◌∷◌, Option, Some, None, IfSome, Bool, true, false, ◌==◌, length, refl, sym, ◌∙◌, inl, inr, arith}
 use Rattle.std.specs.Bool.{Decides}
 use Rattle.std.proofs.lemmas.Bool.{cases_lt}
 use Rattle.std.proofs.lemmas.Bool.Decides.{nat_tests}
 use Rattle.alg_model.specs.Expressions.{PureValue}
-use Rattle.net_graph.specs.Nets.{PureNet, IsNet, origin_value}
+use Rattle.net_graph.specs.Nets.{PureNet, IsNet}
 use Rattle.net_graph.specs.Routes.{PureRoute}
 use Rattle.net_graph.specs.RowTexts.{AreNodesOf}
-use Rattle.net_graph.specs.Tables.{PureRow, TableOf, Relaxed, HasWalks, IsRouteOf, route_at, value_at, carrier}
-use Rattle.net_graph.specs.Walks.{Walk, Weight, along}
+use Rattle.net_graph.specs.Tables.{PureRow, TableOf, Relaxed, HasWalks, route_at}
+use Rattle.net_graph.specs.Walks.{Walk, Weight}
 use Rattle.net_graph.specs.RouteLaws.{no_route_past}
 use Rattle.stable_check.specs.Checks.{begins_with, IsWalkOf, IsRelaxedAt}
 use Rattle.stable_check.specs.WalkWeights.{weighs_walk, walk_nodes}

@@ -1,14 +1,13 @@
 -- What arcs make of a value along a list of nodes.
-use Rattle.std.proofs.Common.{◌≡◌, ◌≢◌, ℕ, ◌+◌, ◌<◌, ◌≤◌, ◌*◌, ◌-◌, ◌==◌, Bor, zero, suc, List, [], ◌∷◌, Option, Some, None, IfSome, Bool, true, false, map, drop, option_map, Result, Ok, Err, IfOk, length, get_or, refl, ap, arith}
+use Rattle.std.proofs.Common.{◌≡◌, ℕ, ◌+◌, ◌<◌, ◌≤◌, ◌*◌, ◌-◌, ◌==◌, Bor, zero, suc, List, [], ◌∷◌, Option, Some, None, IfSome, true, false, drop, option_map, Result, Ok, Err, IfOk, length, get_or, refl, ap, arith}
 use Rattle.meta_base.specs.declared.ids.NodeId.{NodeId}
 use Rattle.meta_base.specs.NodePaths.{numbers}
 use Rattle.alg_model.specs.Expressions.{PureValue}
-use Rattle.net_graph.specs.Nets.{PureNet, IsNet, has_arc, has_origin, origin_value}
+use Rattle.net_graph.specs.Nets.{PureNet, IsNet, origin_value}
 use Rattle.net_graph.specs.Walks.{Walk, Weight, along}
 use Rattle.net_graph.specs.ArcLaws.{of_some, IsOrigin, origins_are, along_has, along_none, along_in, along_at_most, walk_within}
 use Rattle.std.specs.Option.{option_copied}
 use Rattle.std.proofs.lemmas.Bool.Decides.{nat_tests}
-use Rattle.alg_model.specs.Bounds.{AtMost}
 use Rattle.alg_model.specs.Carriers.{In}
 use Rattle.alg_model.specs.Laws.{at_most_more}
 use Rattle.alg_model.specs.declared.edition.TheConstants.{MAX_LABEL_NUMBER}

@@ -1,4 +1,4 @@
-ghost use Rattle.std.specs.Prelude.{◌≡◌, ◌↔◌, ℕ, List};
+ghost use Rattle.std.specs.Prelude.{◌↔◌, ℕ, List};
 ghost use Rattle.alg_model.specs.Properties.{isotone};
 ghost use Rattle.net_graph.specs.Nets.{PureNet, IsNet};
 ghost use Rattle.net_graph.specs.Tables.{PureRow, NetHas, Optimal, Relaxed};

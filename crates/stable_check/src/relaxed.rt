@@ -1,10 +1,9 @@
-ghost use Rattle.std.specs.Prelude.{◌≡◌, ◌<◌, ℕ, Some, length, option_map, IfOk, IfSome};
+ghost use Rattle.std.specs.Prelude.{◌≡◌, ◌<◌, Some, length, option_map, IfOk, IfSome};
 ghost use Rattle.std.specs.Bool.{Decides};
 ghost use Rattle.meta_base.specs.NodePaths.{numbers};
 ghost use Rattle.alg_model.specs.Carriers.{In, IsPreferred};
 ghost use Rattle.alg_model.specs.Views.{pure_label, pure_value};
 ghost use Rattle.net_graph.specs.Nets.{IsNet, label_between};
-ghost use Rattle.net_graph.specs.RowTexts.{AreNodesOf};
 ghost use Rattle.net_graph.specs.Tables.{carrier, route_at, Relaxed, TableOf};
 ghost use Rattle.net_graph.specs.Views.{pure_route, rows_of};
 ghost use Rattle.stable_check.specs.Checks.{begins_with, AreOwnValues, ImprovedBy, IsImproved, IsRelaxedAt, IsWalkOf};

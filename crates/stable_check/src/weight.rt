@@ -1,13 +1,8 @@
-ghost use Rattle.std.specs.Prelude.{◌≡◌, ◌<◌, ◌≤◌, ◌+◌, ℕ, None, length, option_map, IfOk, IfSome};
+ghost use Rattle.std.specs.Prelude.{◌≡◌, ◌<◌, ◌≤◌, None, length, option_map, IfOk, IfSome};
 ghost use Rattle.meta_base.specs.NodePaths.{numbers};
-ghost use Rattle.alg_model.specs.declared.alg.TheConstants.{MAX_VALUE_NUMBER};
-ghost use Rattle.alg_model.specs.declared.edition.TheConstants.{MAX_LABEL_NUMBER};
-ghost use Rattle.alg_model.specs.Bounds.{AtMost};
-ghost use Rattle.alg_model.specs.Carriers.{In};
 ghost use Rattle.alg_model.specs.Views.{pure_value};
 ghost use Rattle.net_graph.specs.Nets.{IsNet};
 ghost use Rattle.net_graph.specs.RowTexts.{AreNodesOf};
-ghost use Rattle.net_graph.specs.Tables.{carrier};
 ghost use Rattle.net_graph.specs.Walks.{Walk, Weight, along};
 ghost use Rattle.stable_check.specs.declared.weight.TheConstants.{MAX_WALK_NODES};
 ghost use Rattle.stable_check.specs.Checks.{carried, IsSmall};

@@ -1,7 +1,7 @@
 -- Actions on the two sides of a sum's or a union's values, and how facts and examples come from those of the
 -- two sides.
-use Rattle.std.specs.Prelude.{true, false, ◌&&◌, ◌||◌, Option, Some, None, option_map}
-use Rattle.alg_model.specs.Expressions.{PureValue, first, second}
+use Rattle.std.specs.Prelude.{false, ◌&&◌, ◌||◌, Option, Some, None, option_map}
+use Rattle.alg_model.specs.Expressions.{first, second}
 use Rattle.alg_classes.specs.declared.profile.Profile.{Profile}
 use Rattle.alg_classes.specs.declared.fact.Fact.TheVariants.{Total, Dead, Monotone, Strict, Isotone, Cancellative, Condensed, Narrow}
 use Rattle.alg_classes.specs.Facts.{Action, PureExample, at, between}

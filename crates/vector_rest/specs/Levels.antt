@@ -1,5 +1,5 @@
 -- Levels of routes, what is known on an arc, and the budget of an update.
-use Rattle.std.specs.Prelude.{◌≡◌, ◌≢◌, ℕ, ◌+◌, ◌-◌, ◌*◌, ◌<◌, ◌≤◌, ◌==◌, false, min, List, ◌∷◌, Option, Some, None, cond, filter, length, option_and_then}
+use Rattle.std.specs.Prelude.{◌≡◌, ◌≢◌, ℕ, ◌+◌, ◌-◌, ◌*◌, ◌<◌, ◌≤◌, ◌==◌, false, min, List, Option, Some, None, cond, filter, length, option_and_then}
 use Rattle.alg_model.specs.Expressions.{PureCarrier, PureValue}
 use Rattle.alg_model.specs.Carriers.{In, Order}
 use Rattle.net_graph.specs.Nets.{PureNet}

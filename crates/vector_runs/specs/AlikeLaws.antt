@@ -1,6 +1,6 @@
 -- Two quiet runs through the same networks have the same rows where labels are monotone. Lemmas, so that proofs of other
 -- crates may cite them.
-use Rattle.std.proofs.Common.{◌≡◌, ℕ, ◌-◌, Bool, true, List, [], ◌∷◌, length, map, refl}
+use Rattle.std.proofs.Common.{◌≡◌, ℕ, ◌-◌, true, List, [], ◌∷◌, length, map, refl}
 use Rattle.std.specs.List.{AllByRecursion}
 use Rattle.alg_model.specs.Properties.{monotone}
 use Rattle.net_graph.specs.Nets.{PureNet, IsNet}

@@ -56,6 +56,16 @@ module _ {N M S W : Type 0} (state : N → S) (note : M → W) where
   pub same_views : (blocks : List (Block N M)) (b : ℕ) (x y : Block N M) → slice_get blocks b ≡ Some x → view_of state note y ≡ view_of state note x → (c : ℕ) → view_at state note (slice_set blocks b y) c ≡ view_at state note blocks c
   same_views blocks b x y e same = found_same view_in blocks b y x e same
 
+  -- the view of a block, and of one that is set
+  pub view_here : (blocks : List (Block N M)) (b : ℕ) (x : Block N M) → slice_get blocks b ≡ Some x → view_at state note blocks b ≡ view_of state note x
+  view_here blocks b x e = ap view_in e
+
+  pub view_set : (blocks : List (Block N M)) (b : ℕ) (x y : Block N M) → slice_get blocks b ≡ Some x → view_at state note (slice_set blocks b y) b ≡ view_of state note y
+  view_set blocks b x y e = ap view_in (set_same blocks b y x e)
+
+  pub view_other : (blocks : List (Block N M)) (b : ℕ) (y : Block N M) (c : ℕ) → (c == b) ≡ false → view_at state note (slice_set blocks b y) c ≡ view_at state note blocks c
+  view_other blocks b y c ne = ap view_in (set_other blocks b c y (eqb-false c b ne))
+
   -- what is seen of the views where a block is set, if that of the block is given by the old one
   pub found_at : {Y : Type 0} (f r : View S W → Y) (blocks : List (Block N M)) (b : ℕ) (x y : Block N M) → slice_get blocks b ≡ Some x → f (view_of state note y) ≡ r (view_of state note x)
       → (c : ℕ) → f (view_at state note (slice_set blocks b y) c) ≡ cond (c == b) (r (view_at state note blocks c)) (f (view_at state note blocks c))

@@ -11,8 +11,9 @@ use Rattle.net_graph.specs.Nets.{PureNet, IsNet}
 use Rattle.net_graph.specs.declared.limits.TheConstants.{MAX_ARCS}
 use Rattle.node_core.specs.declared.node.TheConstants.{MAX_CLOCK}
 use Rattle.node_core.specs.Kinds.{Kind, IsLawful}
-use Rattle.node_core.specs.Machine.{Machine, AreUnbegun, Start, Drained, Ordered, Replay, SentIn, replay_from}
-use Rattle.node_core.specs.Running.{IsRunning}
+use Rattle.node_core.specs.Machine.{Machine, AreUnbegun, Start, Drained, Ordered, Replay, SentIn, front_clock, replay_from}
+use Rattle.node_core.specs.OrderLaws.{front_up_to}
+use Rattle.node_core.specs.Running.{AreUpTo, IsRunning}
 use Rattle.quiet_ledger.specs.declared.book.TheConstants.{MAX_BASE}
 use Rattle.quiet_ledger.specs.declared.totals.Totals.{Totals}
 use Rattle.journal_merge.specs.declared.log.NodeLog.{NodeLog}
@@ -20,11 +21,13 @@ use Rattle.journal_merge.specs.Merging.{AreOfDifferentNodes, ClocksAscend, IsMer
 use Rattle.woven_laws.specs.Histories.{Taken, entry_of, put_out, option_out, option_after}
 use Rattle.woven_laws.specs.HistoryLaws.{option_out_join, woven_same, woven_then}
 use Rattle.woven_laws.specs.Woven.{Woven, IsMergeOf}
+use Rattle.woven_laws.specs.ClockLaws.{woven_up_to}
 use Rattle.woven_laws.specs.Counts.{total, sent_by_all, taken_by_all, waiting_on}
-use Rattle.woven_laws.specs.CountLaws.{total_same, total_plus}
+use Rattle.woven_laws.specs.CountLaws.{total_same, total_plus, total_below}
 use Rattle.woven_laws.specs.MergedLogs.{logs_of, logs_mergeable, timed_ascends, merged_is, merged_count}
 use Rattle.weave.specs.Views.{View}
 use Rattle.weave.specs.Gathered.{block_of, machine_across, AreGathered}
+use Rattle.weave.specs.Between.{IsOneRound}
 use Rattle.weave.specs.Rounds.{IsRound, HasCome, IsOver}
 use Rattle.weave.specs.Phases.{IsPhaseEnd}
 use Rattle.weave.proofs.Runs.{map_join, none_sent, none_taken}
@@ -37,7 +40,7 @@ use Rattle.std.specs.declared.collections.VecDeque.{VecDeque}
 use Rattle.std.specs.declared.alloc.Global.{Global}
 use Rattle.std.proofs.lemmas.List.{length-map}
 use Rattle.std.proofs.lemmas.Option.{slice_get_past}
-use Rattle.weave.proofs.Round.{total_below, woven_runs, none_waiting, drained_waits, begun_link_few}
+use Rattle.weave.proofs.Round.{woven_runs, none_waiting, drained_waits, begun_link_few}
 
 module _ {S M : Type 0} (k : Kind S M) (lawful : IsLawful k) (net : PureNet) (is_net : IsNet net) (count turns : ℕ) where
   -- before any round
@@ -80,7 +83,7 @@ module _ {S M : Type 0} (k : Kind S M) (lawful : IsLawful k) (net : PureNet) (is
         ∙ total_plus (length net.nodes) (λ i. length (h i)) (λ i. length (g i))
 
   -- and after one round more
-  pub come_on : (c : Machine S M) (old new : ℕ → View S M) (before after : Totals) (left : ℕ) → HasCome k net count turns c old before → left + before.taken ≡ turns → IsRound k net count left old new before after
+  pub come_on : (c : Machine S M) (old new : ℕ → View S M) (before after : Totals) (left : ℕ) → HasCome k net count turns c old before → left + before.taken ≤ turns → IsRound k net count left old new before after
       → HasCome k net count turns c new after
   come_on c old new before after left a is b =
       let mid = machine_across net count old in
@@ -102,6 +105,46 @@ module _ {S M : Type 0} (k : Kind S M) (lawful : IsLawful k) (net : PureNet) (is
         taken = omega (arith, t1, t2, t3);
         few = omega (arith, t2, few, is);
       }
+
+  -- and after one delivery between two rounds
+  pub come_one : (c : Machine S M) (old new : ℕ → View S M) (before after : Totals) (sent blocks : ℕ) → blocks ≡ count → HasCome k net count turns c old before → (before.taken ≡ turns → ⊥) → IsOneRound k net blocks old new sent
+      → after.sent ≡ before.sent + sent → after.taken ≡ before.taken + 1 → HasCome k net count turns c new after
+  come_one c old new before after sent blocks same a left one s t =
+      let most = a.few in
+      come_on c old new before after 1 a (omega (arith, most, left)) (subst (λ n. IsRound k net n 1 old new before after) same (one before after s t))
+
+  -- no clock is above the number of messages that were taken
+  pub come_up_to : (c : Machine S M) (views : ℕ → View S M) (totals : Totals) → IsRunning k net c → AreUpTo k c 0 → HasCome k net count turns c views totals → AreUpTo k (machine_across net count views) totals.taken
+  come_up_to c views totals running up a =
+      let t = a.taken in
+      subst (AreUpTo k (machine_across net count views)) (omega (arith, t)) (woven_up_to k lawful net is_net c (machine_across net count views) a.history a.woven running 0 up)
+
+  -- so where turns are left, the next clock isn't above the greatest
+  pub next_early : (c : Machine S M) (views : ℕ → View S M) (totals : Totals) → IsRunning k net c → AreUpTo k c 0 → HasCome k net count turns c views totals → turns ≤ MAX_CLOCK → (totals.taken ≡ turns → ⊥)
+      → (a t : ℕ) → front_clock k net (machine_across net count views) a ≡ Some t → t ≤ MAX_CLOCK
+  next_early c views totals running up come few left a t front =
+      by (ltb totals.taken turns) refl
+    where
+      by : (b : Bool) → ltb totals.taken turns ≡ b → t ≤ MAX_CLOCK
+      by true h =
+          let less : totals.taken < turns = grind (arith, nat_tests) in
+          let next = front_up_to k lawful net (machine_across net count views) a t totals.taken (come_up_to c views totals running up come) front in
+          omega (arith, less, next, few)
+      by false h =
+          let past : turns ≤ totals.taken = grind (arith, nat_tests) in
+          let most = come.few in
+          absurd (left (omega (arith, past, most)))
+
+  -- and where not all was taken that was sent, something waits
+  pub something_waits : (c : Machine S M) (views : ℕ → View S M) (totals : Totals) → HasCome k net count turns c views totals
+      → ((d : Machine S M) (history : ℕ → List (Taken M)) → Woven k net c history d → waiting_on net c + sent_by_all k net c.node history ≡ taken_by_all net history + waiting_on net d)
+      → (totals.sent ≡ totals.taken → ⊥) → ¬ Drained (machine_across net count views)
+  something_waits c views totals come counts differ drained =
+      let sum = counts (machine_across net count views) come.history come.woven in
+      let none = drained_waits net (machine_across net count views) drained in
+      let s = come.sent in
+      let t = come.taken in
+      differ (omega (arith, sum, none, s, t))
 
   -- no more is sent than each taken message can make
   put_few : (s : S) (history : List (Taken M)) → k.net s ≡ net → k.is_begun s ≡ true → length (put_out k s history) ≤ length history * MAX_ARCS

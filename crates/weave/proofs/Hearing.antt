@@ -1,9 +1,11 @@
 -- One message that a node of a block takes.
-use Rattle.std.proofs.Common.{◌≡◌, ℕ, ◌+◌, max, Bool, true, false, cond, List, [], ◌∷◌, ◌++◌, Option, Some, map, slice_get, slice_set, option_map, refl, sym, ap, subst, ◌∙◌, append-nil}
+use Rattle.std.proofs.Common.{◌≡◌, ℕ, ◌+◌, ◌<◌, max, Bool, true, false, cond, List, [], ◌∷◌, ◌++◌, Option, Some, None, map, slice_get, slice_set, option_map, refl, sym, ap, subst, ◌∙◌, append-nil}
 use Rattle.std.specs.Prelude.{◌==◌}
 use Rattle.std.proofs.lemmas.Bool.{eqb-false}
+use Rattle.std.proofs.lemmas.Option.{same_Some}
 use Rattle.meta_base.specs.declared.ids.ArcId.{ArcId}
 use Rattle.meta_base.specs.declared.ids.Delivery.{Delivery}
+use Rattle.node_core.specs.declared.node.TheConstants.{MAX_CLOCK}
 use Rattle.node_core.specs.Configs.{numbered, noted}
 use Rattle.net_graph.specs.Nets.{PureNet}
 use Rattle.node_core.specs.Kinds.{Kind, listener, on_arc}
@@ -11,8 +13,8 @@ use Rattle.node_core.specs.Machine.{changed_at}
 use Rattle.node_core.specs.MachineLaws.{same_test, at_each}
 use Rattle.weave.specs.declared.lane.Lane.{Lane}
 use Rattle.weave.specs.declared.seat.Seat.{Seat}
-use Rattle.weave.specs.Lanes.{HasPassed, lane_of, lane_in, noted_lane}
-use Rattle.weave.specs.Views.{View, IsSeated, AreSeated, HasTaken, IsSameView}
+use Rattle.weave.specs.Lanes.{PureLane, elsewhere, inside, coming, going, HasPassed, lane_of, lane_in, noted_lane}
+use Rattle.weave.specs.Views.{View, IsSeated, AreSeated, HasTaken, IsLate, IsSameView}
 use Rattle.weave.specs.Blocks.{flat, clock_in, log_in, view_over}
 use Rattle.weave.proofs.Passing.{passed_by, passed_then, passed_noted}
 use Rattle.weave.proofs.Places.{set_same, set_other, taken_at, kept_at}
@@ -47,6 +49,28 @@ module _ {N M S W : Type 0} (state : N → S) (note : M → W) (k : Kind S W) (n
         lane_is = λ b. subst (λ l. HasPassed (noted_lane note (lane_in (slice_get lanes b))) [] l (noted_lane note (lane_in (slice_get (slice_set lanes e.arc.0 next) b)))) (noted_one (e.arc.0 == b) m)
             (passed_noted note (lane_in (slice_get lanes b)) (lane_in (slice_get (slice_set lanes e.arc.0 next) b)) [] (cond (e.arc.0 == b) (m ∷ []) []) (taken_at lanes e.arc.0 lane next m lane_is passed b));
       }
+
+  -- where the block has no listener of the arc, or not both ends of it, nothing is late there
+  pub late_unseated : (a : ℕ) → ((i : ℕ) → listener net a ≡ Some i → flat (slice_get seats i) ≡ None) → IsLate k net (view_over state note seats lanes) a
+  late_unseated a none i s m rest hears there waits = let gone = none i hears in absurd (let clash : None ≡ Some s = rw gone at there in cc)
+
+  pub late_elsewhere : (a : ℕ) → lane_in (slice_get lanes a) ≡ elsewhere → IsLate k net (view_over state note seats lanes) a
+  late_elsewhere a none i s m rest hears there waits = absurd (let clash : elsewhere ≡ inside (m ∷ rest) = rw none at waits in cc)
+
+  noted_front : (l : PureLane M) (m : W) (rest : List W) → noted_lane note l ≡ inside (m ∷ rest) → (n : M) × (more : List M) × (l ≡ inside (n ∷ more)) × (note n ≡ m)
+  noted_front elsewhere m rest e = absurd (cc)
+  noted_front (inside []) m rest e = absurd (cc)
+  noted_front (inside (n ∷ more)) m rest e = (n, more, refl, (cc))
+  noted_front (coming link received) m rest e = absurd (cc)
+  noted_front (going link sent) m rest e = absurd (cc)
+
+  pub late_here : (i a : ℕ) (seat : Seat N M) (lane : Lane M) → slice_get seats i ≡ Some (Some seat) → slice_get lanes a ≡ Some lane → listener net a ≡ Some i
+      → ((m : M) (rest : List M) → lane_of lane ≡ inside (m ∷ rest) → MAX_CLOCK < max seat.clock (k.stamp (note m)) + 1) → IsLate k net (view_over state note seats lanes) a
+  late_here i a seat lane here there listens late j s m rest hears at waits =
+      let same : i ≡ j = same_Some _ _ (sym listens ∙ hears) in
+      let front = noted_front (lane_of lane) m rest (rw there at waits) in
+      let high : MAX_CLOCK < max seat.clock (k.stamp m) + 1 = subst (λ x. MAX_CLOCK < max seat.clock (k.stamp x) + 1) front.3 (late front.0 front.1 front.2) in
+      subst (λ x. MAX_CLOCK < max (clock_in (flat (slice_get seats x))) (k.stamp m) + 1) same (rw here high)
 
   -- a seat and a lane that stayed as they were
   pub unheard : (i a : ℕ) (seat new : Seat N M) (lane next : Lane M) → slice_get seats i ≡ Some (Some seat) → slice_get lanes a ≡ Some lane → new ≡ seat → lane_of next ≡ lane_of lane

@@ -8,5 +8,7 @@ mod Linking
 mod Deals
 mod Parting
 mod Round
+mod OneRound
+mod Waiting
 mod Returns
 mod Ending

@@ -15,6 +15,7 @@ use Rattle.quiet_ledger.specs.Ledger.{sent_by, taken_by}
 use Rattle.quiet_ledger.specs.declared.book.Share.{Share}
 use Rattle.quiet_ledger.specs.declared.totals.Totals.{Totals}
 use Rattle.woven_laws.specs.Counts.{total, sent_by_all, taken_by_all}
+use Rattle.woven_laws.specs.CountLaws.{total_below}
 use Rattle.weave.specs.declared.block.Block.{Block}
 use Rattle.weave.specs.declared.part.Part.{Part}
 use Rattle.weave.specs.Views.{View, IsSeated, HasRun, IsSameView}
@@ -22,8 +23,7 @@ use Rattle.weave.specs.Blocks.{view_of, IsEntered, IsReady, HasWorked}
 use Rattle.weave.specs.Gathered.{block_of, no_view, view_at, machine_across, AreGathered, AreLinked, AreSettled}
 use Rattle.weave.specs.Rounds.{share_of, AreLent, IsRound, HasRunIn}
 use Rattle.weave.proofs.Runs.{run_same}
-use Rattle.weave.proofs.Working.{worked_then}
-use Rattle.weave.proofs.Round.{round_sent, round_taken, round_is, round_gathered, round_logs, shares_add_up, sum_total, total_below}
+use Rattle.weave.proofs.Round.{round_sent, round_taken, round_is, round_gathered, round_logs, shares_add_up, sum_total}
 
 -- a share of the turns is no more than all of them
 whole_shares : (q r count : ℕ) → 0 < count → q + r ≤ count * q + r
@@ -199,18 +199,15 @@ module _ {N M S W : Type 0} (state : N → S) (note : M → W) (k : Kind S W) (n
           by true t was clock = subst (λ c. IsSeated k net i c x) clock (here i x (eqb-true w (block_of count i) t) was)
           by false t was clock = let none = gathered.own i w t in absurd (cc)
 
-  -- what was done first, and then by the workers
-  pub chained : (n : ℕ) (parts mid parts' : List (Part N M)) → length parts ≡ n → length parts' ≡ n → ((w : ℕ) (d : Part N M) → w < n → HasWorked state note k net (slice_index_or parts w d) (slice_index_or mid w d))
-      → ((w : ℕ) (d : Part N M) → w < n → (slice_index_or parts' w d).refused ≡ false → HasWorked state note k net (slice_index_or mid w d) (slice_index_or parts' w d) × IsEntered (slice_index_or parts' w d))
+  -- what each worker did with its part
+  pub each_worked : (n : ℕ) (parts parts' : List (Part N M)) → length parts ≡ n → length parts' ≡ n
+      → ((w : ℕ) (d : Part N M) → w < n → (slice_index_or parts' w d).refused ≡ false → HasWorked state note k net (slice_index_or parts w d) (slice_index_or parts' w d) × IsEntered (slice_index_or parts' w d))
       → All (λ (x : Part N M). x.refused ≡ false) parts'
       → (w : ℕ) (p q : Part N M) → slice_get parts w ≡ Some p → slice_get parts' w ≡ Some q → HasWorked state note k net p q × IsEntered q
-  chained n parts mid parts' len len' first then unrefused w p q at at' =
+  each_worked n parts parts' len len' then unrefused w p q at at' =
       let within : w < n = subst (λ m. w < m) len (slice_get_within parts w p at) in
       let within' : w < length parts' = subst (λ m. w < m) (sym len') within in
       let is : slice_index_or parts w p ≡ p = get_or_from_slice_get parts w p p at in
       let is' : slice_index_or parts' w p ≡ q = get_or_from_slice_get parts' w q p at' in
-      let a = first w p within in
-      let b = then w p within (unrefused w p within') in (
-        subst₂ (HasWorked state note k net) is is' (worked_then state note k net (slice_index_or parts w p) (slice_index_or mid w p) (slice_index_or parts' w p) a b.0),
-        subst IsEntered is' b.1,
-      )
+      let b = then w p within (unrefused w p within') in
+      (subst₂ (HasWorked state note k net) is is' b.0, subst IsEntered is' b.1)

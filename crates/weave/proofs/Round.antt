@@ -27,7 +27,7 @@ use Rattle.weave.specs.Rounds.{HasRunIn, share_of}
 
 module _ {M : Type 0} (put taken : List M) where
   -- where both ends are in one block they stay there
-  inside_passed : (waits : List M) (n : PureLane M) → HasPassed (inside waits) put taken n → (rest : List M) × (n ≡ inside rest) × (waits ++ put ≡ taken ++ rest)
+  pub inside_passed : (waits : List M) (n : PureLane M) → HasPassed (inside waits) put taken n → (rest : List M) × (n ≡ inside rest) × (waits ++ put ≡ taken ++ rest)
   inside_passed waits elsewhere p = absurd p
   inside_passed waits (inside rest) p = (rest, refl, p)
   inside_passed waits (coming link received) p = absurd p
@@ -193,13 +193,6 @@ sum_total f (x ∷ xs) g e =
     let here : f x ≡ g 0 = e 0 x refl in
     let rest : sum_by f xs ≡ total (length xs) (λ w. g (suc w)) = sum_total f xs (λ w. g (suc w)) (λ w y got. e (suc w) y got) in
     sum_by-cons f x xs ∙ (rw (here, rest) refl ∙ sym (total_front (length xs) g))
-
-pub total_below : (n : ℕ) (f g : ℕ → ℕ) → ((i : ℕ) → i < n → f i ≤ g i) → total n f ≤ total n g
-total_below zero f g below = omega arith
-total_below (suc n) f g below =
-    let rest = total_below n f g (λ i lt. below i (omega arith)) in
-    let last : f n ≤ g n = below n (omega arith) in
-    omega arith
 
 none_some : (n : ℕ) → None ≡ Some n → ⊥
 none_some n e = absurd (cc)

@@ -1,20 +1,15 @@
 -- What a worker does with its part adds up, counts and all.
-use Rattle.std.proofs.Common.{◌≡◌, ℕ, zero, suc, ◌+◌, ◌*◌, ◌<◌, ◌≤◌, List, [], ◌++◌, Some, length, refl, sym, ap, subst, subst₂, arith, All, slice_get, slice_set, slice_index_or}
-use Rattle.std.specs.Prelude.{◌==◌, Bool, true, false}
-use Rattle.std.proofs.lemmas.Bool.{eqb-true, eqb-false}
-use Rattle.std.proofs.lemmas.List.{get_or-set_same, get_or-set_other, length-set}
-use Rattle.std.proofs.lemmas.Option.{slice_get_within, get_or_from_slice_get}
+use Rattle.std.proofs.Common.{◌≡◌, ℕ, zero, suc, ◌+◌, ◌*◌, ◌<◌, ◌≤◌, [], ◌++◌, Some, length, sym, ap, subst, arith}
 use Rattle.net_graph.specs.Nets.{PureNet, IsNet}
 use Rattle.net_graph.specs.declared.limits.TheConstants.{MAX_ARCS}
 use Rattle.quiet_ledger.specs.declared.book.TheConstants.{MAX_SHARE}
 use Rattle.node_core.specs.Kinds.{Kind, IsLawful, on_arc, speaker}
-use Rattle.node_core.specs.MachineLaws.{at_each, speaks_within, all_mapped}
+use Rattle.node_core.specs.MachineLaws.{speaks_within, all_mapped}
 use Rattle.woven_laws.specs.Counts.{total}
 use Rattle.woven_laws.specs.CountLaws.{on_arc_total}
 use Rattle.weave.specs.declared.part.Part.{Part}
 use Rattle.weave.specs.Views.{View, AreSeated, TakesOne, IsSameView}
 use Rattle.weave.specs.Blocks.{view_of, sent_in, taken_in, IsReady, HasWorked}
-use Rattle.weave.proofs.Hearing.{same_view}
 use Rattle.weave.proofs.Runs.{run_same, run_then, sent_then, taken_then, none_sent, none_taken, one, run_taken, sent_taken, one_taken, seated_run}
 
 -- a sum of numbers none of which is above 1
@@ -122,26 +117,3 @@ module _ {N M S W : Type 0} (state : N → S) (note : M → W) (k : Kind S W) (n
       by : (t : ℕ) → sent + t * MAX_ARCS ≤ MAX_SHARE → 0 < t → sent + count ≤ MAX_SHARE
       by zero h g = absurd (omega (arith, g))
       by (suc t) h g = omega (arith, h, f)
-
-  -- a part that stays
-  pub worked_none : (p : Part N M) → HasWorked state note k net p p
-  worked_none p = worked_same p p (same_view state note k net p.block.seats.items p.block.lanes.items) refl refl refl
-
-  -- one part of several works
-  pub worked_at : (parts : List (Part N M)) (i : ℕ) (old new : Part N M) → slice_get parts i ≡ Some old → HasWorked state note k net old new → (w : ℕ) (d : Part N M) → HasWorked state note k net (slice_index_or parts w d) (slice_index_or (slice_set parts i new) w d)
-  worked_at parts i old new at worked w d =
-      at_each (λ j. HasWorked state note k net (slice_index_or parts j d) (slice_index_or (slice_set parts i new) j d)) i
-      (subst₂ (HasWorked state note k net) (sym (get_or_from_slice_get parts i old d at)) (sym (get_or-set_same parts i new d (slice_get_within parts i old at))) worked)
-      (λ j ne. subst (HasWorked state note k net (slice_index_or parts j d)) (sym (get_or-set_other parts i j new d (eqb-false j i ne))) (worked_none (slice_index_or parts j d)))
-      w
-
-  pub all_set : (P : Part N M → Type 0) (parts : List (Part N M)) (i : ℕ) (new : Part N M) → All P parts → P new → All P (slice_set parts i new)
-  all_set P parts i new all one j d lt =
-      by (j == i) refl
-    where
-      by : (b : Bool) → (j == i) ≡ b → P (slice_index_or (slice_set parts i new) j d)
-      by true t =
-          let same : j ≡ i = eqb-true j i t in
-          let within : i < length parts = subst₂ (λ a b. a < b) same (length-set parts i new) lt in
-          subst (λ n. P (slice_index_or (slice_set parts i new) n d)) (sym same) (subst P (sym (get_or-set_same parts i new d within)) one)
-      by false t = subst P (sym (get_or-set_other parts i j new d (eqb-false j i t))) (all j d (subst (λ n. j < n) (length-set parts i new) lt))

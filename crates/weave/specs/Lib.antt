@@ -4,6 +4,7 @@ pub mod Views
 pub mod Blocks
 pub mod Gathered
 pub mod Rounds
+pub mod Between
 pub mod Arcs
 pub mod Dealt
 pub mod Apart

@@ -1,12 +1,13 @@
 -- What a block has, as contracts see it, and what its worker makes of it.
-use Rattle.std.specs.Prelude.{◌≡◌, ℕ, ◌+◌, ◌==◌, max, true, List, [], ◌∷◌, ◌++◌, Option, Some, None, cond, map, length}
+use Rattle.std.specs.Prelude.{◌≡◌, ℕ, ◌+◌, ◌<◌, ◌==◌, max, true, List, [], ◌∷◌, ◌++◌, Option, Some, None, cond, map, length}
 use Rattle.std.specs.List.{AllByRecursion}
 use Rattle.meta_base.specs.declared.ids.Delivery.{Delivery}
 use Rattle.net_graph.specs.Nets.{PureNet}
+use Rattle.meta_base.specs.Numbers.{max_turns}
 use Rattle.node_core.specs.Kinds.{Kind, listener, speaker, on_arc}
 use Rattle.node_core.specs.Machine.{changed_at}
 use Rattle.woven_laws.specs.Histories.{Taken, entry_of, taken_on, clock_past, IsTimed, option_after, option_out}
-use Rattle.weave.specs.Lanes.{PureLane, HasPassed}
+use Rattle.weave.specs.Lanes.{PureLane, inside, HasPassed}
 
 -- the block's nodes with their clocks and logs, and what it has of each arc
 pub record View (S M : Type 0) : Type 0 where
@@ -41,6 +42,11 @@ module _ {S M : Type 0} (k : Kind S M) (net : PureNet) where
     pub clock_is : (j : ℕ) → w.clock j ≡ changed_at v.clock number e.clock j
     pub log_is : (j : ℕ) → w.log j ≡ changed_at v.log number (v.log number ++ e ∷ []) j
     pub lane_is : (b : ℕ) → HasPassed (v.lane b) (on_arc b sent) (cond (e.arc.0 == b) (message ∷ []) []) (w.lane b)
+
+  -- where a message waits in front of an arc for a node of the block, its clock is above the greatest
+  abbrev pub IsLate : View S M → ℕ → Type 0
+  IsLate v a = (i : ℕ) (s : S) (m : M) (rest : List M) → listener net a ≡ Some i → v.node i ≡ Some s
+      → v.lane a ≡ inside (m ∷ rest) → max_turns < max (v.clock i) (k.stamp m) + 1
 
   -- a message was taken, and all that its listener put out, so many messages, was sent
   abbrev pub TakesOne : View S M → ℕ → View S M → Type 0

@@ -2,7 +2,7 @@
 ghost use Rattle.std.specs.Prelude.{◌≡◌, ◌<◌, [], length, map, IfOk, IfSome, IfNone};
 ghost use Rattle.node_core.specs.Configs.{noted};
 ghost use Rattle.weave.specs.Blocks.{view_of, view_over};
-ghost use Rattle.weave.specs.Views.{AreSeated, HasTaken, IsSameView, TakesOne};
+ghost use Rattle.weave.specs.Views.{AreSeated, HasTaken, IsLate, IsSameView, TakesOne};
 
 use crate::lane::Lane;
 use crate::seat::{Seat, take};
@@ -27,9 +27,9 @@ pub struct Block<N: NodeCore> {
     pub(crate) coming: Vec<ArcId>,
 }
 
-// The listener of the arc takes the message in front there, if both are here and one is seen. What it puts out isn't
-// sent yet.
-fn hear<N: NodeCore>(
+/// The listener of the arc takes the message in front there, if both are here and one is seen. What it puts out isn't
+/// sent yet.
+pub(crate) fn hear<N: NodeCore>(
     seats: &mut Vec<Option<Seat<N>>>,
     lanes: &mut Vec<Lane<N::Message>>,
     net: &Net,
@@ -42,6 +42,8 @@ fn hear<N: NodeCore>(
     ensures none { IfOk result (λ made. IfNone made (IsSameView
         (view_over N.state N.note seats.old.items lanes.old.items)
         (view_over N.state N.note seats.new.items lanes.new.items))) }
+    ensures late { IfOk result (λ made. IfNone made (IsLate N.kind net.now
+        (view_over N.state N.note seats.old.items lanes.old.items) arc.0)) }
     ensures some { IfOk result (λ made. IfSome made (λ e. HasTaken N.kind net.now
         (view_over N.state N.note seats.old.items lanes.old.items) e (map (noted N.note) out.new) []
         (view_over N.state N.note seats.new.items lanes.new.items))) }

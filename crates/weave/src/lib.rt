@@ -3,6 +3,7 @@
 //! `woven_laws`, `journal_merge`, `link_queues` and `quiet_ledger`; it knows no route and prints nothing.
 #![tactic(auto)]
 
+mod between;
 mod block;
 mod dealing;
 mod gathering;

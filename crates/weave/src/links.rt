@@ -46,8 +46,8 @@ fn linked<M: Drop>(alloc: Global, waits: List<M>) -> Result<(InEnd<M>, OutEnd<M>
     Ok((into, out))
 }
 
-// Takes out what waits on the arc, which is whole in the block.
-fn take_waiting<N: NodeCore>(
+/// Takes out what waits on the arc, which is whole in the block.
+pub(crate) fn take_waiting<N: NodeCore>(
     blocks: &mut Vec<Block<N>>,
     block: usize,
     arc: ArcId,

@@ -1,19 +1,22 @@
-ghost use Rattle.std.specs.Prelude.{◌≡◌, ◌<◌, ◌≤◌, ◌^◌, map, length, vec_len, IfOk};
+ghost use Rattle.std.specs.Prelude.{◌≡◌, ◌<◌, ◌≤◌, ◌^◌, ℕ, [], map, length, nat_lt, slice_get, vec_len, IfOk, IfNone, IfSome};
 ghost use Rattle.net_graph.specs.Nets.{IsNet};
 ghost use Rattle.node_core.specs.declared.node.TheConstants.{MAX_CLOCK};
 ghost use Rattle.node_core.specs.Kinds.{IsLawful};
-ghost use Rattle.node_core.specs.Machine.{AreUnbegun, Machine};
-ghost use Rattle.node_core.specs.Running.{IsRunning};
+ghost use Rattle.node_core.specs.Machine.{AreUnbegun, Drained, Machine};
+ghost use Rattle.node_core.specs.Running.{AreUpTo, IsRunning};
 ghost use Rattle.quiet_ledger.specs.declared.book.TheConstants.{MAX_WORKERS};
 ghost use Rattle.woven_laws.specs.Counts.{waiting_on};
-ghost use Rattle.weave.specs.Gathered.{view_at};
+ghost use Rattle.weave.specs.Gathered.{machine_across, view_at};
+ghost use Rattle.weave.specs.Lanes.{lane_in, waits_inside};
 ghost use Rattle.weave.specs.Phases.{IsPhaseEnd};
 ghost use Rattle.weave.specs.Rounds.{HasCome, IsOver};
 
+use crate::between::deliver_between;
 use crate::block::Block;
 use crate::dealing::{blocks_of, waiting_in};
 use crate::gathering::take_apart;
 use crate::lane::Lane;
+use crate::links::block_at;
 use crate::rounds::{Plan, run_round};
 use journal_merge::merge;
 use meta_base::{ArcId, Delivery, Gate, List, NoMemory};
@@ -91,8 +94,8 @@ fn keeps_rules(net: &Net)
     let _edition = net.edition();
 }
 
-// What holds of every kind of node. Where threads are started, the bound itself doesn't say it.
-fn keeps_laws<N: NodeCore>()
+/// What holds of every kind of node. Where threads are started, the bound itself doesn't say it.
+pub(crate) fn keeps_laws<N: NodeCore>()
     ensures { IsLawful N.kind }
 {}
 
@@ -105,7 +108,7 @@ fn block_count(net: &Net, workers: u32) -> usize
     net.node_count().clamp(1, workers as usize)
 }
 
-// Rounds, until nothing is on its way or all turns are used up.
+// Rounds, until nothing is on its way or all turns are used up. Each but the first begins with a delivery.
 fn run_rounds<N: NodeCore + Send, G: Gate, R: Threads + Wait + Sync>(
     rt: &R,
     alloc: Global,
@@ -122,7 +125,8 @@ where
     requires count { (0 < vec_len blocks) × (vec_len blocks ≤ MAX_WORKERS) }
     requires turns { turns ≤ MAX_CLOCK }
     requires begun { (c : Machine N.State N.Note) × IsRunning N.kind net.now c × (waiting_on net.now c ≤ 2 ^ 20)
-        × HasCome N.kind net.now (vec_len blocks) turns c (view_at N.state N.note blocks.items) totals }
+        × HasCome N.kind net.now (vec_len blocks) turns c (view_at N.state N.note blocks.items) totals
+        × AreUpTo N.kind c 0 }
     ensures count { IfOk result (λ r. vec_len r.0 ≡ vec_len blocks) }
     ensures come { IfOk result (λ r. (c : Machine N.State N.Note)
         → IsRunning N.kind net.now c → waiting_on net.now c ≤ 2 ^ 20
@@ -131,42 +135,60 @@ where
     ensures over { IfOk result (λ r. IsOver turns r.1) }
 {
     keeps_laws::<N>();
-    let mut blocks = blocks;
-    let mut totals = totals;
-    let mut is_later = false;
-    for _ in rt.forever() {
+    histories_count::<N>();
+    if totals.sent == totals.taken || totals.taken == turns {
+        return Ok((blocks, totals));
+    }
+    let plan = Plan {
+        totals,
+        turns: turns - totals.taken,
+        arc: first_waiting(net, &blocks),
+    };
+    let (mut blocks, mut totals) = run_round(rt, alloc, net, blocks, plan, gate)?;
+    loop {
         if totals.sent == totals.taken || totals.taken == turns {
             return Ok((blocks, totals));
         }
+        let Some(arc) = first_waiting(net, &blocks) else {
+            unreachable!()
+        };
+        let sent = deliver_between(alloc, net, &mut blocks, arc, workers, gate)?;
+        totals.sent += sent;
+        totals.taken += 1;
         let plan = Plan {
             totals,
             turns: turns - totals.taken,
-            arc: first_waiting(net, &blocks),
-            is_later,
-            workers,
+            arc: Some(arc),
         };
         (blocks, totals) = run_round(rt, alloc, net, blocks, plan, gate)?;
-        is_later = true;
     }
-    Ok((blocks, totals))
 }
 
-// The first arc on which a message waits.
-fn first_waiting<N: NodeCore>(net: &Net, blocks: &[Block<N>]) -> ArcId
+// The first arc on which a message waits, if one waits anywhere.
+fn first_waiting<N: NodeCore>(net: &Net, blocks: &[Block<N>]) -> Option<ArcId>
     requires { 0 < length blocks.now }
+    ensures arc { IfSome result (λ arc. arc.0 < length net.now.arcs) }
+    ensures some { IfSome result (λ arc. 0 < length ((machine_across net.now (length blocks.now)
+        (view_at N.state N.note blocks.now)).link arc.0)) }
+    ensures first { IfSome result (λ arc. (a : ℕ) → a < arc.0 → (machine_across net.now (length blocks.now)
+        (view_at N.state N.note blocks.now)).link a ≡ []) }
+    ensures none { IfNone result (Drained (machine_across net.now (length blocks.now)
+        (view_at N.state N.note blocks.now))) }
 {
     for id in 0..net.arc_count() {
         let arc = ArcId(id as u32);
-        let block = net.arc(arc).tail.0 as usize % blocks.len();
+        let block = block_at(net.arc(arc).tail, blocks.len());
         if waits_on(&blocks[block].lanes, id) {
-            return arc;
+            return Some(arc);
         }
     }
-    ArcId(0)
+    None
 }
 
 // Whether a message waits on the arc of that number, inside a block.
-fn waits_on<M>(lanes: &[Lane<M>], id: usize) -> bool {
+fn waits_on<M>(lanes: &[Lane<M>], id: usize) -> bool
+    ensures { result ≡ nat_lt 0 (length (waits_inside (lane_in (slice_get lanes.now id)))) }
+{
     match lanes.get(id) {
         Some(Lane::Inside(queue)) => queue.waiting() > 0,
         Some(Lane::Elsewhere | Lane::From(_) | Lane::To(_)) | None => false,

@@ -1,5 +1,5 @@
 // A round: the blocks are lent to workers, one to each, and come back.
-ghost use Rattle.std.specs.Prelude.{◌≡◌, ◌<◌, ◌≤◌, ◌*◌, ◌+◌, ◌^◌, ℕ, All, false, vec_len, length, map, IfOk, OnOk, Some, slice_get, slice_index_or};
+ghost use Rattle.std.specs.Prelude.{◌≡◌, ◌<◌, ◌≤◌, ◌*◌, ◌+◌, ◌^◌, ℕ, All, false, vec_len, length, map, IfOk, Some, slice_get, slice_index_or};
 ghost use Rattle.net_graph.specs.Nets.{IsNet};
 ghost use Rattle.net_graph.specs.declared.limits.TheConstants.{MAX_ARCS};
 ghost use Rattle.node_core.specs.declared.node.TheConstants.{MAX_CLOCK};
@@ -11,8 +11,8 @@ ghost use Rattle.weave.specs.Gathered.{AreGathered, machine_across, view_at};
 ghost use Rattle.weave.specs.Rounds.{AreLent, IsRound, share_of};
 
 use crate::block::Block;
-use crate::links::{link_blocks, settle_blocks};
-use crate::part::{Part, turn};
+use crate::links::{block_at, link_blocks, settle_blocks};
+use crate::part::Part;
 use crate::worker::work;
 use meta_base::{ArcId, Gate, List, NoMemory};
 use net_graph::Net;
@@ -31,12 +31,8 @@ pub(crate) struct Plan {
     pub(crate) totals: Totals,
     /// How many deliveries may still be made.
     pub(crate) turns: u64,
-    /// The first arc on which a message waits.
-    pub(crate) arc: ArcId,
-    /// Whether there was a round before it, so that a delivery is made on that arc first.
-    pub(crate) is_later: bool,
-    /// The number of workers that is reported to the gate for that delivery.
-    pub(crate) workers: u32,
+    /// The first arc on which a message waits, or waited before the delivery that came first.
+    pub(crate) arc: Option<ArcId>,
 }
 
 // What a worker is lent: a block, a share of the book in which nothing is entered, and turns.
@@ -90,31 +86,6 @@ fn turns_of(turns: u64, count: u64, extra: usize, worker: usize) -> u64
 {
     let rest = if worker == extra { turns % count } else { 0 };
     turns / count + rest
-}
-
-// The delivery between two rounds, if there was one before: the first arc on which a message waits has it taken.
-fn deliver_first<N: NodeCore, G: Gate>(
-    alloc: Global,
-    net: &Net,
-    parts: &mut Vec<Part<N>>,
-    extra: usize,
-    plan: &Plan,
-    gate: &G,
-) -> Result<(), NoMemory>
-    requires net { IsNet net.now }
-    requires extra { extra < vec_len parts.old }
-    requires ready { All (IsReady N.state N.note N.kind net.now) parts.old.items }
-    requires fresh { All (λ part. part.refused ≡ false) parts.old.items }
-    ensures count { vec_len parts.new ≡ vec_len parts.old }
-    ensures worked { OnOk result ((w : ℕ) (d : _) → w < vec_len parts.old → HasWorked N.state N.note N.kind net.now
-        (slice_index_or parts.old.items w d) (slice_index_or parts.new.items w d)) }
-    ensures ready { OnOk result (All (IsReady N.state N.note N.kind net.now) parts.new.items) }
-    ensures fresh { OnOk result (All (λ part. part.refused ≡ false) parts.new.items) }
-{
-    if plan.is_later {
-        turn(alloc, &mut parts[extra], net, plan.arc, plan.workers, gate)?;
-    }
-    Ok(())
 }
 
 // Lends each part to a worker on a thread of its own, and waits for all.
@@ -201,7 +172,6 @@ where
     link_blocks(alloc, net, &mut blocks)?;
     let extra = block_with(net, plan.arc, count);
     let mut parts = lent(alloc, blocks, shares, plan.turns, extra)?;
-    deliver_first(alloc, net, &mut parts, extra, &plan, gate)?;
     run_workers(rt, alloc, net, &book, &mut parts, gate);
     let (mut blocks, shares) = returned(alloc, parts)?;
     let totals = Book::gather(book, shares);
@@ -210,12 +180,12 @@ where
 }
 
 // The block in which the listener of the arc stands; the first, where there is no such arc.
-fn block_with(net: &Net, arc: ArcId, count: usize) -> usize
+fn block_with(net: &Net, arc: Option<ArcId>, count: usize) -> usize
     requires { 0 < count }
     ensures { result < count }
 {
-    if arc.0 as usize >= net.arc_count() {
-        return 0;
+    match arc {
+        Some(arc) if (arc.0 as usize) < net.arc_count() => block_at(net.arc(arc).tail, count),
+        _ => 0,
     }
-    net.arc(arc).tail.0 as usize % count
 }

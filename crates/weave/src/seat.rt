@@ -1,8 +1,9 @@
 // A node at work.
-ghost use Rattle.std.specs.Prelude.{◌≡◌, ◌+◌, ◌++◌, ◌∷◌, [], max, map, IfOk, Some, true, false};
+ghost use Rattle.std.specs.Prelude.{◌≡◌, ◌+◌, ◌<◌, ◌++◌, ◌∷◌, List, [], max, map, IfOk, Some, true, false};
+ghost use Rattle.node_core.specs.declared.node.TheConstants.{MAX_CLOCK};
 ghost use Rattle.node_core.specs.Configs.{noted};
 ghost use Rattle.node_core.specs.Kinds.{listener};
-ghost use Rattle.weave.specs.Lanes.{HasPassed, lane_of};
+ghost use Rattle.weave.specs.Lanes.{HasPassed, inside, lane_of};
 
 use crate::lane::{Lane, take_front};
 use meta_base::{ArcId, Delivery, List, NoMemory};
@@ -29,6 +30,8 @@ pub(crate) fn take<N: NodeCore>(
     requires last { N.kind.last (N.state seat.old.node) ≡ seat.old.clock }
     requires listens { listener (N.kind.net (N.state seat.old.node)) arc.0
         ≡ Some (N.kind.number (N.state seat.old.node)) }
+    ensures late { IfOk result (λ found. found ≡ false → (m : N.Message) (rest : List N.Message)
+        → lane_of lane.old ≡ inside (m ∷ rest) → MAX_CLOCK < max seat.old.clock (N.kind.stamp (N.note m)) + 1) }
     ensures none { IfOk result (λ found. found ≡ false → (seat.new ≡ seat.old)
         × (lane_of lane.new ≡ lane_of lane.old)) }
     ensures taken { IfOk result (λ found. found ≡ true → (m : N.Message)

@@ -1,5 +1,6 @@
 // A worker's part of a round.
-ghost use Rattle.std.specs.Prelude.{◌≡◌, false, OnOk};
+ghost use Rattle.std.specs.Prelude.{◌≡◌, ◌<◌, false, true, IfOk, OnOk};
+ghost use Rattle.weave.specs.declared.worker.TheConstants.{LOOKS};
 ghost use Rattle.net_graph.specs.Nets.{IsNet};
 ghost use Rattle.weave.specs.Blocks.{HasWorked, IsEntered, IsReady};
 
@@ -100,6 +101,7 @@ fn stretch<N: NodeCore, G: Gate, R: Wait>(
     ensures ready { OnOk result (IsReady N.state N.note N.kind net.now part.new) }
     ensures entered { OnOk result (IsEntered part.new) }
     ensures refused { part.new.refused ≡ part.old.refused }
+    ensures fruitful { IfOk result (λ is_fruitful. is_fruitful ≡ true → part.new.turns < part.old.turns) }
 {
     let turns = part.turns;
     deliver_inside(alloc, part, net, worker, gate)?;
@@ -112,7 +114,9 @@ fn stretch<N: NodeCore, G: Gate, R: Wait>(
 
 // Whether a worker ends its part: its turns are used up, so many looks in a row found nothing, or the last one found
 // nothing and the book shows as many taken as sent. Else it lets others go on where it found nothing.
-fn ends<R: Wait>(rt: &R, book: &Book, turns: u64, looks: u32) -> bool {
+fn ends<R: Wait>(rt: &R, book: &Book, turns: u64, looks: u32) -> bool
+    ensures { result ≡ false → (0 < turns) × (looks < LOOKS) }
+{
     if turns == 0 || looks >= LOOKS {
         return true;
     }
@@ -128,7 +132,7 @@ fn ends<R: Wait>(rt: &R, book: &Book, turns: u64, looks: u32) -> bool {
 }
 
 // Stretches, until the turns are used up, the book shows that nothing is on its way, or so many looks in a row found
-// nothing.
+// nothing. Each uses a turn or is a look more, so it ends whatever the other workers do.
 fn run<N: NodeCore, G: Gate, R: Wait>(
     rt: &R,
     alloc: Global,
@@ -145,7 +149,7 @@ fn run<N: NodeCore, G: Gate, R: Wait>(
     ensures refused { part.new.refused ≡ part.old.refused }
 {
     let mut looks: u32 = 0;
-    for _ in rt.forever() {
+    loop {
         let is_fruitful = stretch(rt, alloc, part, net, book, worker, gate)?;
         looks = if is_fruitful {
             0
@@ -156,7 +160,6 @@ fn run<N: NodeCore, G: Gate, R: Wait>(
             return Ok(());
         }
     }
-    Ok(())
 }
 
 /// A worker's part of a round. The part is refused where memory was, and else it worked.

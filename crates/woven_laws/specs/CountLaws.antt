@@ -1,6 +1,6 @@
 -- Sums below a bound, and the lengths of what lies on the arcs of a network. Lemmas, so that proofs of other crates
 -- may cite them.
-use Rattle.std.proofs.Common.{◌≡◌, ◌≢◌, ℕ, zero, suc, ◌+◌, ◌<◌, Bool, true, false, cond, List, [], ◌∷◌, length, refl, sym, ◌∙◌, ap, ap₂, arith}
+use Rattle.std.proofs.Common.{◌≡◌, ◌≢◌, ℕ, zero, suc, ◌+◌, ◌<◌, ◌≤◌, Bool, true, false, cond, List, [], ◌∷◌, length, refl, sym, ◌∙◌, ap, ap₂, arith}
 use Rattle.std.proofs.lemmas.Bool.{eqb-true, eqb-false, false_from_ne_true}
 use Rattle.std.specs.Prelude.{◌==◌}
 use Rattle.std.specs.List.{AllByRecursion}
@@ -21,6 +21,13 @@ total_zero zero f e = refl
 total_zero (suc n) f e =
     let r = total_zero n f (λ i lt. e i (omega arith)) in
     let last : f n ≡ 0 = e n (omega arith) in
+    omega arith
+
+pub total_below : (n : ℕ) (f g : ℕ → ℕ) → ((i : ℕ) → i < n → f i ≤ g i) → total n f ≤ total n g
+total_below zero f g below = omega arith
+total_below (suc n) f g below =
+    let rest = total_below n f g (λ i lt. below i (omega arith)) in
+    let last : f n ≤ g n = below n (omega arith) in
     omega arith
 
 -- a sum that is 0 is 0 everywhere

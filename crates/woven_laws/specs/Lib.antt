@@ -4,4 +4,5 @@ pub mod Counts
 pub mod ArcEnds
 pub mod HistoryLaws
 pub mod CountLaws
+pub mod ClockLaws
 pub mod MergedLogs

@@ -1,4 +1,4 @@
-use Rattle.std.proofs.Common.{sym, ◌-◌, ◌∷◌, length, take, drop, OnOk}
+use Rattle.std.proofs.Common.{◌-◌, ◌∷◌, length, take, drop, OnOk}
 use Rattle.std.proofs.lemmas.Result.{on_ok_weaker}
 use Rattle.std.specs.List.{AllByRecursion}
 use Rattle.alg_model.specs.Views.{pure_label}

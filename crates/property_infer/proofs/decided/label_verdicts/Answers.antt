@@ -1,4 +1,4 @@
-use Rattle.std.proofs.Common.{◌≡◌, sym, subst, [], ◌∷◌}
+use Rattle.std.proofs.Common.{sym, subst, [], ◌∷◌}
 use Rattle.std.proofs.lemmas.Result.{IfOk-weaker}
 use Rattle.alg_model.specs.Views.{pure_label}
 use Rattle.property_infer.specs.Labels.{CoversLabels}
@@ -6,6 +6,13 @@ use Rattle.property_infer.specs.LabelLaws.{covers_none}
 use Rattle.property_infer.specs.ReportedLaws.{reported_bounded, stated_of_label}
 use Rattle.property_infer.specs.Views.{pure_verdicts}
 use Rattle.property_infer.proofs.decided.label_verdicts.Goals as goal
+
+pub verdicts_of-requires : goal.verdicts_of-requires
+verdicts_of-requires c =
+    let a = c.args.alg.now in
+    let none = subst (CoversLabels a []) (sym c.new-labels.ensures) (covers_none a) in
+    let covers = subst (CoversLabels a (pure_label c.args.label.now ∷ [])) (sym c.as_slice.ensures) (c.in_ok-add_label.ensures.covers [] none) in
+    covers.each
 
 pub returns-clause-exact : goal.returns-clause-exact
 returns-clause-exact c =

@@ -1,4 +1,4 @@
-use Rattle.std.proofs.Common.{◌≡◌, Some, sym, lit≤}
+use Rattle.std.proofs.Common.{sym, lit≤}
 use Rattle.alg_model.specs.Views.{pure_label}
 use Rattle.alg_model.specs.declared.alg.TheConstants.{MAX_VALUE_NUMBER}
 use Rattle.alg_model.specs.Laws.{at_most_more}

@@ -1,4 +1,4 @@
-use Rattle.std.proofs.Common.{◌≡◌, ◌<◌, ℕ, Some, length, slice_get, refl, subst, sym, ◌∙◌, below_more, arith}
+use Rattle.std.proofs.Common.{◌≡◌, Some, length, slice_get, refl, subst, sym, ◌∙◌, below_more, arith}
 use Rattle.std.proofs.lemmas.Option.{same_Some}
 use Rattle.net_graph.specs.Tables.{PureRow}
 use Rattle.net_graph.specs.Views.{pure_row, rows_of}

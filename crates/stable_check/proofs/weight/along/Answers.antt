@@ -1,4 +1,4 @@
-use Rattle.std.proofs.Common.{sym, lit≤, arith, ◌*◌, ◌≤◌}
+use Rattle.std.proofs.Common.{sym, lit≤, ◌*◌}
 use Rattle.alg_model.specs.declared.alg.TheConstants.{MAX_VALUE_NUMBER}
 use Rattle.alg_model.specs.declared.edition.TheConstants.{MAX_LABEL_NUMBER}
 use Rattle.alg_model.specs.Laws.{at_most_more}

@@ -1,8 +1,7 @@
-use Rattle.std.proofs.Common.{◌≡◌, ◌≤◌, ◌-◌, ◌+◌, IfSome, length, option_map, sym, ◌∙◌, ap, subst, arith}
+use Rattle.std.proofs.Common.{◌≤◌, ◌-◌, ◌+◌, length, option_map, sym, ◌∙◌, ap, arith}
 use Rattle.alg_model.specs.Views.{pure_value}
 use Rattle.net_graph.specs.Walks.{along}
 use Rattle.stable_check.specs.declared.weight.TheConstants.{MAX_WALK_NODES}
-use Rattle.stable_check.specs.Checks.{IsSmall}
 use Rattle.stable_check.specs.WalkWeights.{carried_last, carried_more, node_within, any_small, along_small, lent}
 use Rattle.stable_check.proofs.weight.carry.Goals as goal
 

@@ -1,4 +1,4 @@
-use Rattle.std.proofs.Common.{◌≡◌, ◌-◌, length, option_map, sym, ◌∙◌, ap}
+use Rattle.std.proofs.Common.{length, sym, ◌∙◌, ap}
 use Rattle.meta_base.specs.NodePaths.{numbers}
 use Rattle.alg_model.specs.Views.{pure_value}
 use Rattle.stable_check.specs.Checks.{carried}

@@ -1,6 +1,7 @@
 use Rattle.std.proofs.Common.{◌≡◌, ◌∙◌, ap, sym, subst, map, length, vec_len, refl}
 use Rattle.node_core.specs.Machine.{Start}
 use Rattle.node_core.specs.MachineOf.{machine_of}
+use Rattle.node_core.specs.OrderLaws.{start_up_to}
 use Rattle.weave.specs.Dealt.{IsDealt}
 use Rattle.weave.specs.Gathered.{view_at}
 use Rattle.weave.proofs.Ending.{few_links, made_count, first_come, small_start, start_runs, all_there, logs_same, mergeable, nodes_all, phase_ends}
@@ -51,7 +52,7 @@ run_rounds-requires-clause-begun g c _ _ =
     let dealt = subst (λ m. IsDealt k.note net m k.state made links.items views) (sym c.in_ok-blocks.ensures.count) c.in_ok-blocks.ensures.dealt in
     let first = first_come k.kind lawful net is_net n turns k.state k.note nodes c.requires.nodes machine c.in_ok-start.ensures.start c.in_ok-start.ensures.running made links.items c.into_parts-nodes.ensures.nodes c.into_parts-nodes.ensures.links
     len views dealt c.waiting_in.result (rw c.deref.ensures.value at c.waiting_in.ensures) in
-    (Start k.kind nodes, begun, small, first)
+    (Start k.kind nodes, begun, small, first, start_up_to k.kind lawful nodes)
 
 pub take_apart-requires : goal.take_apart-requires
 take_apart-requires g c =

@@ -3,8 +3,8 @@ use Rattle.weave.proofs.Hearing.{same_view}
 use Rattle.weave.proofs.Working.{worked_same, worked_then}
 use Rattle.weave.proofs.worker.run.Goals as goal
 
-pub loop-init : goal.loop-init
-loop-init g c =
+pub loop-is_fruitful-init : goal.loop-is_fruitful-init
+loop-is_fruitful-init g c =
     let k = g.N.NodeCore in
     let part = c.args.part.now in
     record {
@@ -13,16 +13,16 @@ loop-init g c =
       refused = refl;
     }
 
-pub loop-preserved : goal.loop-preserved
-loop-preserved g c =
+pub loop-is_fruitful-preserved : goal.loop-is_fruitful-preserved
+loop-is_fruitful-preserved g c =
     let k = g.N.NodeCore in
     record {
-      worked = worked_then k.state k.note k.kind c.args.net.now c.args.part.now c.loop.part c.stretch.new.part c.loop.invariant.worked c.in_ok-is_fruitful.ensures.worked;
+      worked = worked_then k.state k.note k.kind c.args.net.now c.args.part.now c.loop-is_fruitful.part c.stretch.new.part c.loop-is_fruitful.invariant.worked c.in_ok-is_fruitful.ensures.worked;
       ready = c.in_ok-is_fruitful.ensures.ready;
-      refused = c.stretch.ensures.refused ∙ c.loop.invariant.refused;
+      refused = c.stretch.ensures.refused ∙ c.loop-is_fruitful.invariant.refused;
     }
 
 pub returns-then-ends-clause-worked : goal.returns-then-ends-clause-worked
 returns-then-ends-clause-worked g c =
     let k = g.N.NodeCore in
-    worked_then k.state k.note k.kind c.args.net.now c.args.part.now c.loop.part c.stretch.new.part c.loop.invariant.worked c.in_ok-is_fruitful.ensures.worked
+    worked_then k.state k.note k.kind c.args.net.now c.args.part.now c.loop-is_fruitful.part c.stretch.new.part c.loop-is_fruitful.invariant.worked c.in_ok-is_fruitful.ensures.worked

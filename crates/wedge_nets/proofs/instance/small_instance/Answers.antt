@@ -10,5 +10,5 @@ returns c =
     let label = pure_label c.args.instance.now.label in
     let value = pure_value c.args.instance.now.first in
     is_gadget c.args.alg.now (pure_instance c.args.instance.now) _ c.tree.ensures.formed c.requires.property c.requires.violates refl
-    (c.in_ok-small_acting.ensures.0 ∙ ap (λ a. small_label_on a label value) c.tree.ensures.tree)
-    (c.in_ok-small_acting.ensures.1 ∙ ap (λ a. small_value_under a label value) c.tree.ensures.tree) refl
+    (c.in_ok-label.ensures.0 ∙ ap (λ a. small_label_on a label value) c.tree.ensures.tree)
+    (c.in_ok-label.ensures.1 ∙ ap (λ a. small_value_under a label value) c.tree.ensures.tree) refl

@@ -1,4 +1,4 @@
-use Rattle.std.proofs.Common.{◌≡◌, ℕ, ◌<◌, None, length, take, option_map, replicate, vec_len, find, ◌==◌}
+use Rattle.std.proofs.Common.{◌≡◌, ℕ, None, length, take, option_map, replicate, vec_len, find, ◌==◌}
 use Rattle.alg_model.specs.Views.{pure_value}
 use Rattle.net_graph.specs.Nets.{PureOrigin, origins_of}
 use Rattle.stable_check.specs.Checks.{own_at}

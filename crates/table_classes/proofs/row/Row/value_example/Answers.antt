@@ -1,4 +1,4 @@
-use Rattle.std.proofs.Common.{◌≡◌, sym, ap, ◌∙◌, subst, option_map}
+use Rattle.std.proofs.Common.{sym, ap, ◌∙◌, subst, option_map}
 use Rattle.alg_model.specs.declared.alg.TheConstants.{MAX_INSTANCE_NUMBER}
 use Rattle.alg_classes.specs.Classes.{ExampleAtMost, pure_at}
 use Rattle.table_classes.specs.Found.{IsAnswerOf}
