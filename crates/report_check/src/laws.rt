@@ -10,10 +10,15 @@ ghost use Rattle.report_check.specs.Hops.{Follows, IsHopChoice, hops_at};
 ghost use Rattle.report_check.specs.Judged.{JudgedOptimal, beaten, no_walk, table_at, unbeaten};
 ghost use Rattle.report_check.specs.ReportText.{HasOneMeaning, HasPaths, ReportText};
 
+use sig_text::values_are_reported;
+use stable_check::relaxed_is_optimal;
+
 /// A report means one list of tables over a network at most, has one fault at most, and not both.
 pub fn one_report_one_meaning()
     ensures { (net : PureNet) (text : List ℕ) → HasOneMeaning net text }
-{}
+{
+    values_are_reported();
+}
 
 /// The printed rows of the tables of all destinations are a report that means these tables. So what is printed of
 /// them can be judged by whoever is given it.
@@ -35,7 +40,9 @@ pub fn findings_decide()
         JudgedOptimal net tables (beaten i dest walk) → Walk net dest walk
         × IsPreferred (carrier net) (Weight net dest walk) (value_at (table_at tables dest) i)
         × ¬ Optimal net dest (table_at tables dest) }
-{}
+{
+    relaxed_is_optimal();
+}
 
 /// Where labels are isotone, the next hops that are listed for a row of an optimal table are the second nodes of all
 /// walks whose weight is equivalent to the row's value; and the node itself is listed exactly where it is such a walk.
@@ -45,7 +52,9 @@ pub fn hops_are_second_nodes()
         × AreEquivalent (carrier net) (Weight net dest (i ∷ j ∷ p)) (value_at t i))) }
     ensures here { (net : PureNet) (dest : ℕ) (t : List PureRow) (i : ℕ) →
         ((hops_at net dest t i).here ≡ true ↔ AreEquivalent (carrier net) (Weight net dest (i ∷ [])) (value_at t i)) }
-{}
+{
+    relaxed_is_optimal();
+}
 
 /// Where labels are strict and isotone, whoever follows at each node one of the listed next hops comes from each node
 /// with a route to an origin, without a loop, by a walk whose weight is equivalent to the row's value. Where they

@@ -68,7 +68,7 @@ fn end_line<'a>(word: &[u8], count: &[u8]) -> Said<'a>
     ensures said { pure_said result ≡ end_line_of word.now count.now }
     ensures path { PathWithin 0 result }
 {
-    if (word == b"quiet" || word == b"spent") && is_count(count) {
+    if (word == b"quiet".as_slice() || word == b"spent".as_slice()) && is_count(count) {
         Said::Ending
     } else {
         Said::Bad
@@ -80,7 +80,7 @@ fn none_line<'a>(node: &'a [u8], dest: &'a [u8], word: &[u8]) -> Said<'a>
     ensures said { pure_said result ≡ none_line_of node.now dest.now word.now }
     ensures path { PathWithin 0 result }
 {
-    if word == b"none" {
+    if word == b"none".as_slice() {
         Said::NoRoute { node, dest }
     } else {
         Said::Bad

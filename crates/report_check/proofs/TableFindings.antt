@@ -84,7 +84,7 @@ stable_on net dest rows n k (better i d s) e h = h
 
 -- One table more.
 
-walk_there : (net : PureNet) (dest : ℕ) (rows : List PureRow) → HasWalks net dest rows → (i : ℕ) → IfSome (route_at rows i) (IsWalkOf net dest i)
+pub walk_there : (net : PureNet) (dest : ℕ) (rows : List PureRow) → HasWalks net dest rows → (i : ℕ) → IfSome (route_at rows i) (IsWalkOf net dest i)
 walk_there net dest rows h i = by (route_at rows i) (h i)
   where
     by : (o : Option PureRoute) → ((r : PureRoute) → o ≡ Some r → Walk net dest r.path × (Weight net dest r.path ≡ Some r.value) × ((p : List ℕ) × (r.path ≡ i ∷ p))) → IfSome o (IsWalkOf net dest i)
