@@ -6,3 +6,5 @@ pub mod Refuting
 pub mod Equals
 pub mod Homeward
 pub mod Reading
+pub mod Solid
+pub mod PrintedRows

@@ -144,32 +144,32 @@ lead_all net (line ∷ lines) p last n h =
     rw h.1 (rw there at more)
 
 -- what a report means is what its lines come to
-meant : Spelled → (net : PureNet) (text : List ℕ) (tables : List (List PureRow)) → ReportText net text tables → (p : PureProgress) × (outcome net no_rows 1 (lines_of text) ≡ Ok p) × (p.tables ≡ tables)
+meant : Spelled → (net : PureNet) (text : List ℕ) (tables : List (List PureRow)) → ReportText net text tables → (p : PureProgress) × (outcome net (no_rows net) 1 (lines_of text) ≡ Ok p) × (p.tables ≡ tables)
 meant sp net text tables r =
-    let lead = lead_same r.spelling (row_spelled net) net (one_spelling sp net r.spelling r.is_spelling) (lines_of text) no_rows r.last r.lead in
-    (r.last, lead_all net (lines_of text) no_rows r.last 1 lead ∙ rw r.whole refl, r.tables_are)
+    let lead = lead_same r.spelling (row_spelled net) net (one_spelling sp net r.spelling r.is_spelling) (lines_of text) (no_rows net) r.last r.lead in
+    (r.last, lead_all net (lines_of text) (no_rows net) r.last 1 lead ∙ rw r.whole refl, r.tables_are)
 
-line_fault : Spelled → (net : PureNet) (text : List ℕ) (f : ReportFault) → IsLineFault net text f → outcome net no_rows 1 (lines_of text) ≡ Err f
+line_fault : Spelled → (net : PureNet) (text : List ℕ) (f : ReportFault) → IsLineFault net text f → outcome net (no_rows net) 1 (lines_of text) ≡ Err f
 line_fault sp net text f r =
     let same = one_spelling sp net r.spelling r.is_spelling in
-    let lead = lead_same r.spelling (row_spelled net) net same r.before no_rows r.last r.good in
+    let lead = lead_same r.spelling (row_spelled net) net same r.before (no_rows net) r.last r.good in
     let broken : after_said (row_spelled net) net r.last (said_in r.line) ≡ Err f.kind = sym (said_same r.spelling (row_spelled net) net r.last same (said_in r.line)) ∙ r.broken in
     let number : 1 + length r.before ≡ f.line = omega (arith, r.number) in
-    let all = outcome_after net r.before (r.line ∷ r.others) no_rows r.last 1 lead in
+    let all = outcome_after net r.before (r.line ∷ r.others) (no_rows net) r.last 1 lead in
     let fault : record { line = f.line; kind = f.kind } ≡ f = refl in
     rw r.cut (all ∙ rw (broken, number) (ap Err fault))
 
-rows_missing : Spelled → (net : PureNet) (text : List ℕ) (f : ReportFault) → f.kind ≡ RowsMissing → AreRowsMissing net text f.line → outcome net no_rows 1 (lines_of text) ≡ Err f
+rows_missing : Spelled → (net : PureNet) (text : List ℕ) (f : ReportFault) → f.kind ≡ RowsMissing → AreRowsMissing net text f.line → outcome net (no_rows net) 1 (lines_of text) ≡ Err f
 rows_missing sp net text f e r =
-    let lead = lead_same r.spelling (row_spelled net) net (one_spelling sp net r.spelling r.is_spelling) (lines_of text) no_rows r.last r.good in
+    let lead = lead_same r.spelling (row_spelled net) net (one_spelling sp net r.spelling r.is_spelling) (lines_of text) (no_rows net) r.last r.good in
     let number : 1 + length (lines_of text) ≡ f.line = omega (arith, r.number) in
     let fault : record { line = f.line; kind = RowsMissing } ≡ f = rw (← e) refl in
-    lead_all net (lines_of text) no_rows r.last 1 lead ∙ rw (r.missing, number) (ap Err fault)
+    lead_all net (lines_of text) (no_rows net) r.last 1 lead ∙ rw (r.missing, number) (ap Err fault)
 
-faulty : Spelled → (net : PureNet) (text : List ℕ) (f : ReportFault) → IsReportFault net text f → outcome net no_rows 1 (lines_of text) ≡ Err f
+faulty : Spelled → (net : PureNet) (text : List ℕ) (f : ReportFault) → IsReportFault net text f → outcome net (no_rows net) 1 (lines_of text) ≡ Err f
 faulty sp net text f h = by f.kind refl h
   where
-    by : (kind : ReportKind) → f.kind ≡ kind → IsFaultOf net text f kind → outcome net no_rows 1 (lines_of text) ≡ Err f
+    by : (kind : ReportKind) → f.kind ≡ kind → IsFaultOf net text f kind → outcome net (no_rows net) 1 (lines_of text) ≡ Err f
     by BadLine e r = line_fault sp net text f r
     by UnknownName e r = line_fault sp net text f r
     by WrongRow e r = line_fault sp net text f r
@@ -211,9 +211,9 @@ pub record HasRead (net : PureNet) (text : List ℕ) (p : PureProgress) (n : ℕ
   pub before : List (List ℕ)
   pub cut : lines_of text ≡ before ++ rest
   pub number : n ≡ length before + 1
-  pub good : Lead (row_spelled net) net no_rows before p
+  pub good : Lead (row_spelled net) net (no_rows net) before p
 
-pub begin : (net : PureNet) (text : List ℕ) (p : PureProgress) → p ≡ no_rows → HasRead net text p 1 (lines_of text)
+pub begin : (net : PureNet) (text : List ℕ) (p : PureProgress) → p ≡ no_rows net → HasRead net text p 1 (lines_of text)
 begin net text p e = record { before = []; cut = refl; number = omega arith; good = e }
 
 lead_more : (net : PureNet) (before : List (List ℕ)) (line : List ℕ) (p q r : PureProgress) → Lead (row_spelled net) net p before q → after_said (row_spelled net) net q (said_in line) ≡ Ok r → Lead (row_spelled net) net p (before ++ line ∷ []) r
@@ -226,7 +226,7 @@ read_more net text p q n lines rest line h e f = record {
   before = h.before ++ line ∷ [];
   cut = h.cut ∙ (rw e (sym (append_assoc h.before (line ∷ []) rest)));
   number = omega (arith, h.number, length-append h.before (line ∷ []));
-  good = lead_more net h.before line no_rows p q h.good f;
+  good = lead_more net h.before line (no_rows net) p q h.good f;
 }
 
 pub read_fault : Spelled → (net : PureNet) (text : List ℕ) (p : PureProgress) (n : ℕ) (lines rest : List (List ℕ)) (line : List ℕ) (kind : ReportKind) → HasRead net text p n lines → lines ≡ line ∷ rest

@@ -9,12 +9,9 @@ use Rattle.meta_base.specs.NodePaths.{numbers}
 use Rattle.meta_base.specs.declared.ids.NodeId.{NodeId}
 use Rattle.alg_model.specs.Carriers.{IsPreferred}
 use Rattle.alg_model.specs.Expressions.{PureValue}
-use Rattle.alg_model.specs.Properties.{isotone}
-use Rattle.alg_model.specs.Verdicts.{PureInstance}
-use Rattle.net_facts.specs.Misses.{IsFirstMissing}
 use Rattle.net_graph.specs.Nets.{PureNet, IsNet, origin_value}
 use Rattle.net_graph.specs.Routes.{PureRoute}
-use Rattle.net_graph.specs.Tables.{PureRow, NetHas, HasWalks, IsChoice, Offers, OnTablesFrom, Relaxed, Reported, Stable, TableOf, carrier, route_at, value_at}
+use Rattle.net_graph.specs.Tables.{PureRow, HasWalks, IsChoice, Offers, OnTablesFrom, Relaxed, Reported, Stable, TableOf, carrier, route_at, value_at}
 use Rattle.net_graph.specs.Unbeaten.{none_last}
 use Rattle.net_graph.specs.Walks.{Walk, Weight, along}
 use Rattle.net_graph.specs.ArcLaws.{along_none}
@@ -180,18 +177,11 @@ on_tables Holds d (t ∷ tables) h =
 all_tables : (Holds : ℕ → List PureRow → Type 0) (tables : List (List PureRow)) → ((k : ℕ) → k < length tables → Holds k (table_at tables k)) → OnTablesFrom Holds 0 tables
 all_tables Holds tables h = on_tables Holds 0 tables (λ k l. let here : 0 + k ≡ k = omega arith in rw here (h k l))
 
-pub settled_yes : (net : PureNet) (tables : List (List PureRow)) (x : PureOptimal) → is_unbeaten x ≡ true → OptimalBefore net tables (length tables) x → NetHas isotone net → JudgedOptimal net tables unbeaten
-settled_yes net tables unbeaten e h f = (all_tables (Relaxed net) tables h, f)
-settled_yes net tables (no_walk i d) e h f = absurd (cc)
-settled_yes net tables (beaten i d walk) e h f = absurd (cc)
-settled_yes net tables (unsettled arc x) e h f = absurd h
-
-pub settled_open : (net : PureNet) (tables : List (List PureRow)) (x : PureOptimal) (arc : ℕ) (y : PureInstance) → is_unbeaten x ≡ true → OptimalBefore net tables (length tables) x
-    → IsFirstMissing (isotone ∷ []) net arc y → JudgedOptimal net tables (unsettled arc y)
-settled_open net tables unbeaten arc y e h f = (all_tables (Relaxed net) tables h, f)
-settled_open net tables (no_walk i d) arc y e h f = absurd (cc)
-settled_open net tables (beaten i d walk) arc y e h f = absurd (cc)
-settled_open net tables (unsettled a x) arc y e h f = absurd h
+pub all_relaxed_tables : (net : PureNet) (tables : List (List PureRow)) (x : PureOptimal) → is_unbeaten x ≡ true → OptimalBefore net tables (length tables) x → OnTablesFrom (Relaxed net) 0 tables
+all_relaxed_tables net tables unbeaten e h = all_tables (Relaxed net) tables h
+all_relaxed_tables net tables (no_walk i d) e h = absurd (cc)
+all_relaxed_tables net tables (beaten i d walk) e h = absurd (cc)
+all_relaxed_tables net tables (unsettled arc x) e h = absurd h
 
 pub settled_no : (net : PureNet) (tables : List (List PureRow)) (n : ℕ) (x : PureOptimal) → is_unbeaten x ≡ false → OptimalBefore net tables n x → JudgedOptimal net tables x
 settled_no net tables n unbeaten e h = absurd (cc)

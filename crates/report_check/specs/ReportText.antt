@@ -1,5 +1,5 @@
 -- Which tables a report means over a network, and which fault refuses it.
-use Rattle.std.specs.Prelude.{◌≡◌, ◌≢◌, ℕ, ◌+◌, ◌<◌, List, [], ◌∷◌, ◌++◌, Bool, true, false, ◌==◌, ◌&&◌, ◌||◌, not, nat_lt, nat_le, if◌then◌else◌, Option, Some, None, option_map, option_and_then, Result, Ok, Err, length, codes}
+use Rattle.std.specs.Prelude.{◌≡◌, ◌≢◌, ℕ, ◌+◌, ◌<◌, List, [], ◌∷◌, ◌++◌, Bool, true, false, ◌==◌, ◌&&◌, ◌||◌, not, nat_lt, nat_le, if◌then◌else◌, Option, Some, None, option_map, option_and_then, Result, Ok, Err, length, map, codes}
 use Rattle.std.specs.Option.{ok_or}
 use Rattle.std.specs.List.{list_all}
 use Rattle.std.specs.Str.{bytes_eq}
@@ -64,8 +64,12 @@ pub record PureProgress : Type 0 where
   pub rows : List PureRow
   pub is_over : Bool
 
-abbrev pub no_rows : PureProgress
-no_rows = record { tables = []; rows = []; is_over = false }
+-- before the first line: where there is no node, no row is missing, and each destination has its table
+abbrev pub first_tables : PureNet → List (List PureRow)
+first_tables net = if length net.nodes == 0 then map (λ _. []) net.dests else []
+
+abbrev pub no_rows : PureNet → PureProgress
+no_rows net = record { tables = first_tables net; rows = []; is_over = false }
 
 -- there is a table for each destination
 abbrev pub is_whole : PureNet → PureProgress → Bool
@@ -155,7 +159,7 @@ pub record ReportText (net : PureNet) (text : List ℕ) (tables : List (List Pur
   pub spelling : RowSpelling
   pub is_spelling : IsRowSpelling net spelling
   pub last : PureProgress
-  pub lead : Lead spelling net no_rows (lines_of text) last
+  pub lead : Lead spelling net (no_rows net) (lines_of text) last
   pub tables_are : last.tables ≡ tables
   pub whole : is_whole net last ≡ true
 
@@ -169,7 +173,7 @@ pub record IsLineFault (net : PureNet) (text : List ℕ) (fault : ReportFault) :
   pub spelling : RowSpelling
   pub is_spelling : IsRowSpelling net spelling
   pub last : PureProgress
-  pub good : Lead spelling net no_rows before last
+  pub good : Lead spelling net (no_rows net) before last
   pub broken : after_said spelling net last (said_in line) ≡ Err fault.kind
 
 -- no line breaks a rule, and the last row is missing: that is said of the line after the last
@@ -178,7 +182,7 @@ pub record AreRowsMissing (net : PureNet) (text : List ℕ) (line : ℕ) : Type 
   pub spelling : RowSpelling
   pub is_spelling : IsRowSpelling net spelling
   pub last : PureProgress
-  pub good : Lead spelling net no_rows (lines_of text) last
+  pub good : Lead spelling net (no_rows net) (lines_of text) last
   pub missing : is_whole net last ≡ false
 
 -- the fault that refuses the report

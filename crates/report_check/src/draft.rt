@@ -1,16 +1,17 @@
 // A report that is being read.
-ghost use Rattle.std.specs.Prelude.{◌≡◌, ◌≤◌, Ok, true, length, IfOk, IfErr, IfSome};
+ghost use Rattle.std.specs.Prelude.{◌≡◌, ◌≤◌, Ok, true, length, map, IfOk, IfErr, IfSome};
 ghost use Rattle.alg_model.specs.Bounds.{AtMost};
 ghost use Rattle.alg_model.specs.Carriers.{In};
 ghost use Rattle.alg_model.specs.Views.{pure_value};
 ghost use Rattle.meta_base.specs.NodePaths.{numbers};
 ghost use Rattle.net_graph.specs.declared.route.TheConstants.{MAX_ROW_NUMBER};
-ghost use Rattle.net_graph.specs.Tables.{carrier, IsRouteOf};
-ghost use Rattle.net_graph.specs.Views.{pure_row};
+ghost use Rattle.net_graph.specs.Tables.{carrier, IsRouteOf, OnTablesFrom, TableOf};
+ghost use Rattle.net_graph.specs.Views.{pure_row, rows_of};
 ghost use Rattle.report_check.specs.declared.draft.LineError.TheVariants.{NoMemory as NoMemoryLeft};
 ghost use Rattle.report_check.specs.declared.report.TheConstants.{MAX_REPORT_BYTES};
-ghost use Rattle.report_check.specs.ReportText.{after_end, after_none, after_route, after_said, as_value, dest_in, is_next as is_next_row, is_whole as is_whole_report, no_rows, node_in, path_in, said_in, unless_over, with_row as with_one_row};
+ghost use Rattle.report_check.specs.ReportText.{after_end, after_none, after_route, after_said, as_value, dest_in, is_next as is_next_row, first_tables as first_tables_of, is_whole as is_whole_report, no_rows, node_in, path_in, said_in, unless_over, with_row as with_one_row};
 ghost use Rattle.report_check.specs.Said.{error_at, progress_of, row_spelled, IsDraft, IsRefusedAs};
+ghost use Rattle.report_check.specs.Views.{AreOfDests};
 ghost use Rattle.topology_file.specs.Texts.{words_of};
 
 use crate::lines::{Said, line_says};
@@ -62,14 +63,33 @@ impl LineError {
 
 /// What no line gives.
 pub fn empty_draft(alloc: Global, net: &Net) -> Result<Draft, NoMemory>
-    ensures progress { IfOk result (λ draft. progress_of draft ≡ no_rows) }
+    ensures progress { IfOk result (λ draft. progress_of draft ≡ no_rows net.now) }
     ensures draft { IfOk result (IsDraft net.now) }
 {
     Ok(Draft {
-        tables: Vec::with_capacity(alloc, net.dest_count())?,
+        tables: first_tables(alloc, net)?,
         rows: Vec::new(alloc),
         is_over: false,
     })
+}
+
+// The tables that need no row. Only where the network has no node is there one of each destination.
+fn first_tables(alloc: Global, net: &Net) -> Result<Vec<DestTable>, NoMemory>
+    ensures tables { IfOk result (λ tables. map rows_of tables.items ≡ first_tables_of net.now) }
+    ensures table_of { IfOk result (λ tables. OnTablesFrom (TableOf net.now) 0 (map rows_of tables.items)) }
+    ensures dests { IfOk result (λ tables. AreOfDests 0 tables.items) }
+{
+    let mut tables = Vec::with_capacity(alloc, net.dest_count())?;
+    if net.node_count() > 0 {
+        return Ok(tables);
+    }
+    for dest in 0..net.dest_count() {
+        tables.push(DestTable {
+            dest: DestId(dest as u32),
+            rows: List::new(alloc),
+        })?;
+    }
+    Ok(tables)
 }
 
 /// Whether there is a table for each destination.

@@ -1,9 +1,9 @@
-ghost use Rattle.std.specs.Prelude.{◌≡◌, ◌+◌, ◌<◌, ℕ, List, true, length, map, option_map, IfOk};
+ghost use Rattle.std.specs.Prelude.{◌≡◌, ◌+◌, ◌<◌, ◌&&◌, ℕ, List, true, length, map, option_map, IfOk};
 ghost use Rattle.meta_base.specs.NodePaths.{numbers};
 ghost use Rattle.net_graph.specs.Nets.{IsNet};
-ghost use Rattle.net_graph.specs.Tables.{OnTablesFrom, PureRow, TableOf};
+ghost use Rattle.net_graph.specs.Tables.{OnTablesFrom, PureRow, Relaxed, TableOf};
 ghost use Rattle.net_graph.specs.Views.{pure_route, rows_of};
-ghost use Rattle.report_check.specs.Findings.{OptimalBefore, OptimalUpTo, StableBefore, StableUpTo, beaten_or_not, unstable_or_not};
+ghost use Rattle.report_check.specs.Findings.{OptimalBefore, OptimalUpTo, StableBefore, StableUpTo, beaten_or_not, is_stable, is_unbeaten, unstable_or_not};
 ghost use Rattle.report_check.specs.Judged.{Judged, JudgedOptimal, table_at};
 ghost use Rattle.report_check.specs.Views.{AreOfDests, pure_judgement, pure_optimal, pure_stable};
 ghost use Rattle.stable_check.specs.Checks.{AreOwnValues};
@@ -36,24 +36,20 @@ pub fn judge(alloc: Global, net: &Net, tables: &[DestTable]) -> Result<Judgement
     for table in tables {
         found = judge_more(alloc, net, table, found)?;
     }
+    if !found.optimal.is_yes() {
+        return Ok(found);
+    }
     Ok(Judgement {
-        optimal: settle(alloc, net, found.optimal)?,
+        optimal: settle(alloc, net)?,
         stable: found.stable,
     })
 }
 
-// Where nothing improves a row, it is asked whether all labels are isotone.
-fn settle(
-    alloc: Global,
-    net: &Net,
-    optimal: OptimalFinding,
-) -> Result<OptimalFinding, NoMemory>
-    ensures { (tables : List (List PureRow)) → OptimalBefore net.now tables (length tables) (pure_optimal optimal) →
-        IfOk result (λ settled. JudgedOptimal net.now tables (pure_optimal settled)) }
+// What is found of tables of which neither an origin nor an arc improves a row, by whether all labels are isotone.
+fn settle(alloc: Global, net: &Net) -> Result<OptimalFinding, NoMemory>
+    ensures { (tables : List (List PureRow)) → OnTablesFrom (Relaxed net.now) 0 tables →
+        IfOk result (λ found. JudgedOptimal net.now tables (pure_optimal found)) }
 {
-    if !optimal.is_yes() {
-        return Ok(optimal);
-    }
     match first_missing(alloc, net, &[Property::Isotone])? {
         None => Ok(OptimalFinding::Yes),
         Some(missing) => Ok(OptimalFinding::Unsettled {
@@ -142,10 +138,7 @@ fn judge_node(
         (node.0 + 1) (pure_stable found.stable)) }
 {
     let optimal = weigh_walk(alloc, net, table, own, node, wanted, before.optimal)?;
-    let asked = Wanted {
-        optimal: wanted.optimal && optimal.is_yes(),
-        stable: wanted.stable && before.stable.is_yes(),
-    };
+    let asked = still_wanted(wanted, &optimal, &before.stable);
     if !asked.optimal && !asked.stable {
         return Ok(Judgement {
             optimal,
@@ -157,6 +150,17 @@ fn judge_node(
         optimal: optimal.or(beaten_by(node, table.dest, row.beating)),
         stable: before.stable.or(unstable_by(node, table.dest, row.offers)),
     })
+}
+
+// What is wanted and isn't found yet.
+fn still_wanted(wanted: Wanted, optimal: &OptimalFinding, stable: &StableFinding) -> Wanted
+    ensures optimal { result.optimal ≡ (wanted.optimal && is_unbeaten (pure_optimal optimal.now)) }
+    ensures stable { result.stable ≡ (wanted.stable && is_stable (pure_stable stable.now)) }
+{
+    Wanted {
+        optimal: wanted.optimal && optimal.is_yes(),
+        stable: wanted.stable && stable.is_yes(),
+    }
 }
 
 // What is found of the table once the walk of the node's row is weighed. After the first row that has none no other

@@ -10,7 +10,7 @@ ghost use Rattle.report_check.specs.Hops.{Follows, IsHopChoice, hops_at};
 ghost use Rattle.report_check.specs.Judged.{JudgedOptimal, beaten, no_walk, table_at, unbeaten};
 ghost use Rattle.report_check.specs.ReportText.{HasOneMeaning, HasPaths, ReportText};
 
-use sig_text::values_are_reported;
+use sig_text::{printed_values_are_read_back_to, values_are_reported};
 use stable_check::relaxed_is_optimal;
 
 /// A report means one list of tables over a network at most, has one fault at most, and not both.
@@ -26,7 +26,10 @@ pub fn printed_rows_are_read_back()
     ensures { (net : PureNet) (tables : List (List PureRow)) → IsNet net → OnTablesFrom (TableOf net) 0 tables →
         OnTablesFrom (λ dest table. HasPaths net table) 0 tables → length tables ≡ length net.dests →
         ReportText net (concat (map (row_text net) (joined_rows tables))) tables }
-{}
+{
+    values_are_reported();
+    printed_values_are_read_back_to();
+}
 
 /// What is found of tables decides whether they are optimal, but for labels that aren't isotone (Griffin and Sobrinho
 /// 2005): unbeaten tables are; a table with a path that is no walk of its value isn't; and neither is one with a row
