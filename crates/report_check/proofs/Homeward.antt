@@ -146,20 +146,17 @@ count_le p q (suc n) f = by (count_le p q n f) (p n) refl (q n) refl
 
 count_less : (p q : ℕ → Bool) (n x : ℕ) → ((k : ℕ) → p k ≡ true → q k ≡ true) → x < n → p x ≡ false → q x ≡ true → count p n < count q n
 count_less p q zero x f l e g = absurd (omega arith)
-count_less p q (suc n) x f l e g = by (p n) refl (q n) refl
+count_less p q (suc n) x f l e g = by (λ h. count_less p q n x f (omega (arith, l, h)) e g) (p n) refl (q n) refl
   where
-    rest : x ≢ n → count p n < count q n
-    rest h = count_less p q n x f (omega (arith, l, h)) e g
-
-    by : (b : Bool) → p n ≡ b → (c : Bool) → q n ≡ c → count p (suc n) < count q (suc n)
-    by true a true b =
+    by : (x ≢ n → count p n < count q n) → (b : Bool) → p n ≡ b → (c : Bool) → q n ≡ c → count p (suc n) < count q (suc n)
+    by rest true a true b =
         let more = rest (λ h. let k : p n ≡ false = rw h at e in cc) in
         rw (a, b) (omega arith)
-    by true a false b = absurd (let h = f n a in cc)
-    by false a true b =
+    by rest true a false b = absurd (let h = f n a in cc)
+    by rest false a true b =
         let most = count_le p q n f in
         rw (a, b) (omega arith)
-    by false a false b =
+    by rest false a false b =
         let more = rest (λ h. let k : q n ≡ true = rw h at g in cc) in
         rw (a, b) more
 
@@ -220,6 +217,12 @@ along_strict net m i j v w h e = by (label_between net i j) (labels_have strict 
     by None s f = absurd (cc)
     by (Some l) s f = image l s f
 
+values_equal : (c : PureCarrier) (x y : Option PureValue) (u v : PureValue) → x ≡ Some u → y ≡ Some v → AreEquivalent c x y → Order c u v ≡ Equal
+values_equal c x y u v e f h = rw (e, f) at h
+
+values_less : (c : PureCarrier) (x y : Option PureValue) (u v : PureValue) → x ≡ Some u → y ≡ Some v → Order c u v ≡ Less → OrderOrNone c x y ≡ Less
+values_less c x y u v e f h = rw (e, f) h
+
 -- so the row of a hop is better
 hop_better : (net : PureNet) → IsNet net → NetHas strict net → (dest : ℕ) (t : List PureRow) → TableOf net dest t → (i j : ℕ) → AreEquivalent (carrier net) (along net i j (value_at t j)) (value_at t i) → better net t i j ≡ true
 hop_better net n s dest t h i j e =
@@ -227,22 +230,22 @@ hop_better net n s dest t h i j e =
     let w = first_value c (along net i j (value_at t j)) (value_at t i) e in
     let u = second_value c (along net i j (value_at t j)) (value_at t i) e in
     let v = along_value net i j (value_at t j) w.0 w.1 in
-    let image : along net i j (Some v.0) ≡ Some w.0 = rw v.1 at w.1 in
+    let image : along net i j (Some v.0) ≡ Some w.0 = ap (along net i j) (sym v.1) ∙ w.1 in
     let v_in : In c v.0 = of_some (In c) (value_at t j) v.0 (table_value_in net dest t h j) v.1 in
     let u_in : In c u.0 = of_some (In c) (value_at t i) u.0 (table_value_in net dest t h i) u.1 in
     let w_in : In c w.0 = of_some (In c) (along net i j (value_at t j)) w.0 (along_in net n i j (value_at t j) (table_value_in net dest t h j)) w.1 in
-    let equal : Order c w.0 u.0 ≡ Equal = rw (w.1, u.1) at e in
-    is_it_less (OrderOrNone c (value_at t j) (value_at t i)) (rw (v.1, u.1) (preferred_to c v.0 w.0 u.0 v_in w_in u_in (along_strict net s i j v.0 w.0 v_in image) equal))
+    let equal : Order c w.0 u.0 ≡ Equal = values_equal c (along net i j (value_at t j)) (value_at t i) w.0 u.0 w.1 u.1 e in
+    is_it_less (OrderOrNone c (value_at t j) (value_at t i)) (values_less c (value_at t j) (value_at t i) v.0 u.0 v.1 u.1 (preferred_to c v.0 w.0 u.0 v_in w_in u_in (along_strict net s i j v.0 w.0 v_in image) equal))
 
 not_among : (f : ℕ → Bool) (i : ℕ) (p : List ℕ) → f i ≡ false → AllByRecursion (λ k. f k ≡ true) p → list_any (λ m. m == i) p ≡ false
 not_among f i [] e h = refl
-not_among f i (k ∷ p) e h = by (k == i) refl
+not_among f i (k ∷ p) e h = by (not_among f i p e h.1) (k == i) refl
   where
-    by : (b : Bool) → (k == i) ≡ b → (b || list_any (λ m. m == i) p) ≡ false
-    by true g =
+    by : list_any (λ m. m == i) p ≡ false → (b : Bool) → (k == i) ≡ b → (b || list_any (λ m. m == i) p) ≡ false
+    by rest true g =
         let same : k ≡ i = grind (arith, nat_tests) in
         absurd (let a : f i ≡ true = rw same at h.0 in cc)
-    by false g = not_among f i p e h.1
+    by rest false g = rest
 
 -- a way home from the node
 pub record Home (net : PureNet) (dest : ℕ) (t : List PureRow) (choice : ℕ → Option ℕ) (i : ℕ) : Type 0 where

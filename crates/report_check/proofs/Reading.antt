@@ -1,5 +1,5 @@
 -- What the lines of a report give, row by row.
-use Rattle.std.proofs.Common.{◌≡◌, ◌≢◌, ℕ, ◌+◌, ◌-◌, ◌<◌, ◌≤◌, zero, suc, List, [], ◌∷◌, ◌++◌, IfSome, Option, Some, None, Bool, true, false, ◌==◌, ◌&&◌, not, cond, if◌then◌else◌, map, take, length, Result, Ok, Err, append_assoc, append-nil, length-append, refl, ap, sym, ◌∙◌, subst, arith}
+use Rattle.std.proofs.Common.{◌≡◌, ◌≢◌, ℕ, ◌+◌, ◌-◌, ◌<◌, ◌≤◌, zero, suc, List, [], ◌∷◌, ◌++◌, IfSome, Option, Some, None, Bool, true, false, ◌==◌, ◌&&◌, not, cond, if◌then◌else◌, map, replicate, length, Result, Ok, Err, append_assoc, append-nil, length-append, refl, ap, sym, ◌∙◌, subst, arith}
 use Rattle.std.specs.List.{onto_first}
 use Rattle.std.proofs.lemmas.Bool.Decides.{nat_tests}
 use Rattle.std.proofs.lemmas.List.{length-map, map-append}
@@ -12,8 +12,9 @@ use Rattle.topology_file.specs.Texts.{lines_from, lines_of, without_return}
 use Rattle.report_check.specs.declared.draft.LineError.{LineError}
 use Rattle.report_check.specs.declared.draft.LineError.TheVariants.{Bad, NoMemory}
 use Rattle.report_check.specs.declared.faults.ReportKind.{ReportKind}
-use Rattle.report_check.specs.ReportText.{PureProgress, and_then, is_next, is_whole, node_in, path_in, with_row}
-use Rattle.report_check.specs.Said.{IsRefusedAs}
+use Rattle.report_check.specs.Faults.{IsReportRefusedBy}
+use Rattle.report_check.specs.ReportText.{IsReportFault, PureProgress, and_then, is_next, is_whole, node_in, path_in, with_row}
+use Rattle.report_check.specs.Said.{IsRefusedAs, error_at}
 use Rattle.report_check.specs.Views.{AreOfDests}
 
 -- a line is no longer than its text
@@ -93,3 +94,42 @@ row_ends net p row e = rw e refl
 
 pub row_goes_on : (net : PureNet) (p : PureProgress) (row : PureRow) → (length (p.rows ++ row ∷ []) == length net.nodes) ≡ false → with_row net p row ≡ record p { rows = p.rows ++ row ∷ [] }
 row_goes_on net p row e = rw e refl
+
+-- Drafts.
+
+pub row_added : (net : PureNet) (d : ℕ) (rows : List RouteRow) (row : RouteRow) → AreRowsFrom net d 0 (map pure_row rows) → row.node.0 ≡ length (map pure_row rows) → row.dest.0 ≡ d → IfSome (pure_row row).route (IsRouteOf net)
+    → AreRowsFrom net d 0 (map pure_row (rows ++ row ∷ []))
+row_added net d rows row h n e r = rw (map-append pure_row rows (row ∷ [])) (rows_more net d 0 (map pure_row rows) (pure_row row) h (omega (arith, n)) e r)
+
+pub table_added : (net : PureNet) (tables : List DestTable) (table : DestTable) → OnTablesFrom (TableOf net) 0 (map rows_of tables) → TableOf net (length tables) (rows_of table) → OnTablesFrom (TableOf net) 0 (map rows_of (tables ++ table ∷ []))
+table_added net tables table h t =
+    let place : length tables ≡ 0 + length (map rows_of tables) = omega (arith, length-map tables rows_of) in
+    rw (map-append rows_of tables (table ∷ [])) (tables_more (TableOf net) 0 (map rows_of tables) (rows_of table) h (rw place at t))
+
+pub dest_added : (tables : List DestTable) (table : DestTable) → AreOfDests 0 tables → table.dest.0 ≡ length tables → AreOfDests 0 (tables ++ table ∷ [])
+dest_added tables table h e = dests_more 0 tables table h (omega (arith, e))
+
+-- tables without rows
+
+replicate_more : {X : Type 0} (n : ℕ) (x : X) → replicate (suc n) x ≡ replicate n x ++ x ∷ []
+replicate_more zero x = refl
+replicate_more (suc n) x = ap (λ xs. x ∷ xs) (replicate_more n x)
+
+pub replicate_map : {X Y : Type 0} (xs : List X) (y : Y) → replicate (length xs) y ≡ map (λ (_ : X). y) xs
+replicate_map [] y = refl
+replicate_map (x ∷ xs) y = ap (λ ys. y ∷ ys) (replicate_map xs y)
+
+pub empty_added : (tables : List DestTable) (table : DestTable) (n : ℕ) → map rows_of tables ≡ replicate n [] → table.rows ≡ [] → map rows_of (tables ++ table ∷ []) ≡ replicate (n + 1) []
+empty_added tables table n h e =
+    let more : n + 1 ≡ suc n = omega arith in
+    let none : rows_of table ≡ [] = rw e refl in
+    rw (map-append rows_of tables (table ∷ []), more, replicate_more {X = List PureRow} n [], h, none) refl
+
+pub empty_table : (net : PureNet) (d : ℕ) (table : DestTable) → length net.nodes ≡ 0 → table.rows ≡ [] → TableOf net d (rows_of table)
+empty_table net d table none e = rw e (record { rows = tt; count = sym none })
+
+-- Errors.
+
+pub fault_at : (net : PureNet) (text : List ℕ) (n : ℕ) (after : Result PureProgress ReportKind) (e : LineError) → ((kind : ReportKind) → after ≡ Err kind → IsReportFault net text (record { line = n; kind = kind })) → IsRefusedAs after e → IsReportRefusedBy net text (error_at n e)
+fault_at net text n after (Bad kind) f h = f kind h
+fault_at net text n after NoMemory f h = tt

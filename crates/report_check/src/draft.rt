@@ -279,24 +279,36 @@ fn with_row(alloc: Global, net: &Net, draft: Draft, row: RouteRow) -> Result<Dra
 {
     let Draft {
         mut tables,
-        mut rows,
-        is_over,
-    } = draft;
-    if rows.is_empty() {
-        rows = Vec::with_capacity(alloc, net.node_count())?;
-    }
-    let dest = row.dest;
-    rows.push(row)?;
-    if rows.len() == net.node_count() {
-        tables.push(DestTable {
-            dest,
-            rows: List::from_vec(rows),
-        })?;
-        rows = Vec::new(alloc);
-    }
-    Ok(Draft {
-        tables,
         rows,
         is_over,
+    } = draft;
+    let mut rows = with_room(alloc, net, rows)?;
+    let dest = row.dest;
+    rows.push(row)?;
+    if rows.len() != net.node_count() {
+        return Ok(Draft {
+            tables,
+            rows,
+            is_over,
+        });
+    }
+    tables.push(DestTable {
+        dest,
+        rows: List::from_vec(rows),
+    })?;
+    Ok(Draft {
+        tables,
+        rows: Vec::new(alloc),
+        is_over,
     })
+}
+
+// The same rows. The first one of a table takes the memory for all.
+fn with_room(alloc: Global, net: &Net, rows: Vec<RouteRow>) -> Result<Vec<RouteRow>, NoMemory>
+    ensures { IfOk result (λ more. more.items ≡ rows.items) }
+{
+    if !rows.is_empty() {
+        return Ok(rows);
+    }
+    Ok(Vec::with_capacity(alloc, net.node_count())?)
 }

@@ -1,5 +1,7 @@
 // What a line of a report says, by its words alone.
 ghost use Rattle.std.specs.Prelude.{◌≡◌, length};
+ghost use Rattle.std.specs.List.{list_all};
+ghost use Rattle.meta_base.specs.Bytes.{is_digit};
 ghost use Rattle.report_check.specs.ReportText.{end_line as end_line_of, is_count as is_count_of, none_line as none_line_of, said_by as said_by_words, said_in};
 ghost use Rattle.report_check.specs.Said.{PathWithin, pure_said};
 ghost use Rattle.topology_file.specs.Texts.{words_of};
@@ -91,7 +93,11 @@ fn none_line<'a>(node: &'a [u8], dest: &'a [u8], word: &[u8]) -> Said<'a>
 fn is_count(word: &[u8]) -> bool
     ensures { result ≡ is_count_of word.now }
 {
-    1 <= word.len()
-        && word.len() <= MAX_COUNT_DIGITS
-        && word.iter().all(|byte| is_digit(*byte))
+    1 <= word.len() && word.len() <= MAX_COUNT_DIGITS && are_digits(word)
+}
+
+fn are_digits(word: &[u8]) -> bool
+    ensures { result ≡ list_all is_digit word.now }
+{
+    word.iter().all(|byte| is_digit(*byte))
 }
