@@ -5,6 +5,8 @@
 #![tactic(auto)]
 
 #[cfg(test)]
+mod judged;
+#[cfg(test)]
 mod machines;
 #[cfg(test)]
 mod nodes;

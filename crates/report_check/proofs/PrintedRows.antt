@@ -22,12 +22,12 @@ use Rattle.net_graph.specs.RowTexts.{AreNodesOf, dest_text, node_text, path_text
 use Rattle.net_graph.specs.Tables.{AreRowsFrom, IsRouteOf, OnTablesFrom, PureRow, TableOf, carrier, joined_rows, route_at}
 use Rattle.sig_text.specs.declared.bytes.TheConstants.{MAX_LITERAL_NUMBER}
 use Rattle.sig_text.specs.Literals.{ValueTextTo}
-use Rattle.topology_file.specs.LineLaws.{IsWord, all_joined, both_true, first_line, is_plain, no_return, plain_is, all_pass}
+use Rattle.topology_file.specs.LineLaws.{IsWord, all_joined, both_true, first_line, is_plain, plain_is, all_pass}
 use Rattle.topology_file.specs.LineTexts.{ended}
 use Rattle.topology_file.specs.Texts.{ends_word, is_not, lines_of, without_return, words_of}
 use Rattle.report_check.specs.declared.faults.ReportKind.{ReportKind}
 use Rattle.report_check.specs.declared.faults.ReportKind.TheVariants.{BadLine, UnknownName, WrongRow, BadValue, RowsMissing}
-use Rattle.report_check.specs.ReportText.{HasPaths, Lead, PureProgress, PureSaid, ReportText, RowSpelling, after_said, and_then, as_value, dest_in, first_tables, in_turn, is_next, is_whole, no_route, no_rows, node_in, path_in, route, said_by, said_in, with_row}
+use Rattle.report_check.specs.ReportText.{HasPaths, Lead, PureProgress, PureSaid, ReportText, RowSpelling, after_none, after_route, after_said, unless_over, and_then, as_value, dest_in, first_tables, in_turn, is_next, is_whole, no_route, no_rows, node_in, path_in, route, said_by, said_in, with_row}
 use Rattle.report_check.specs.Said.{row_spelled}
 use Rattle.report_check.proofs.Reading.{row_ends, row_goes_on}
 use Rattle.report_check.proofs.Runs.{Spelled, is_row_spelling}
@@ -37,10 +37,9 @@ use Rattle.report_check.proofs.Solid.{IsSolid, Solid, solid_plain, value_solid, 
 
 name_word : (name : List ℕ) → is_name name ≡ true → IsWord name
 name_word name h =
-    let a = both_true (leb 1 (length name)) (leb (length name) 32 && list_all is_name_byte name) h in
-    let b = both_true (leb (length name) 32) (list_all is_name_byte name) a.1 in
-    let c = a.0 in
-    record { bytes = b.1; some = grind (arith, nat_tests) }
+    let a = both_true (leb 1 (length name) && leb (length name) 32) (list_all is_name_byte name) h in
+    let b = (both_true (leb 1 (length name)) (leb (length name) 32) a.0).0 in
+    record { bytes = a.1; some = grind (arith, nat_tests) }
 
 -- the place of a name among names that are distinct
 same_bytes : (name : List ℕ) → bytes_eq name name ≡ true
@@ -97,6 +96,20 @@ path_read net n [] h = refl
 path_read net n (i ∷ path) h = rw (node_read net n i h.0, path_read net n path h.1) refl
 
 -- Lines.
+
+passes_at : (p : ℕ → Bool) (line : List ℕ) (i : ℕ) → p 0 ≡ true → list_all p line ≡ true → p (get_or line i 0) ≡ true
+passes_at p [] i z h = z
+passes_at p (c ∷ cs) zero z h = (both_true (p c) (list_all p cs) h).0
+passes_at p (c ∷ cs) (suc i) z h = passes_at p cs i z (both_true (p c) (list_all p cs) h).1
+
+not_true : (b : Bool) → not b ≡ true → b ≡ false
+not_true true h = absurd (cc)
+not_true false h = refl
+
+no_return : (line : List ℕ) → list_all is_plain line ≡ true → without_return line ≡ line
+no_return line h =
+    let last = passes_at (is_not 13) line (length line - 1) refl (all_pass is_plain (is_not 13) line (λ c k. (plain_is c k).1) h) in
+    rw (not_true (get_or line (length line - 1) 0 == 13) last) refl
 
 -- the line of a row
 abbrev pub row_line : PureNet → PureRow → List ℕ
@@ -169,6 +182,9 @@ said_route net n row r l d e p =
     by [] f = absurd (f refl)
     by (i ∷ path) f = refl
 
+still_open : (p : PureProgress) (made : Result PureProgress ReportKind) (q : PureProgress) → p.is_over ≡ false → made ≡ Ok q → unless_over p made ≡ Ok q
+still_open p made q e f = rw e f
+
 row_made : (net : PureNet) → IsNet net → (p : PureProgress) (row : PureRow) → p.is_over ≡ false → is_next net p row.node row.dest ≡ true → row.node < length net.nodes → row.dest < length net.dests → IfSome row.route (IsPrintable net)
     → after_said (row_spelled net) net p (said_in (row_line net row)) ≡ Ok (with_row net p row)
 row_made net n p row over next l d h = by row.route refl h
@@ -183,10 +199,13 @@ row_made net n p row over next l d h = by row.route refl h
     whole o e = rw (← e) refl
 
     by : (o : Option PureRoute) → row.route ≡ o → IfSome o (IsPrintable net) → after_said (row_spelled net) net p (said_in (row_line net row)) ≡ Ok (with_row net p row)
-    by None e h = rw (said_none net n row l d e, over, node, dest, next) (ap (λ (x : PureRow). Ok (with_row net p x)) (whole None e))
+    by None e h =
+        let made : after_none net p (node_text net row.node) (dest_text net row.dest) ≡ Ok (with_row net p row) = rw (node, dest, next) (ap (λ (x : PureRow). Ok (with_row net p x)) (whole None e)) in
+        rw (said_none net n row l d e) (still_open p (after_none net p (node_text net row.node) (dest_text net row.dest)) (with_row net p row) over made)
     by (Some r) e h =
-        rw (said_route net n row r l d e h, over, node, dest, path_read net n r.path h.nodes, next, h.spelled)
-        (ap (λ (x : PureRow). Ok (with_row net p x)) (whole (Some r) e))
+        let line = after_route (row_spelled net) net p (node_text net row.node) (dest_text net row.dest) (value_text (carrier net) r.value) (map (node_text net) r.path) in
+        let made : line ≡ Ok (with_row net p row) = rw (node, dest, path_read net n r.path h.nodes, next, h.spelled) (ap (λ (x : PureRow). Ok (with_row net p x)) (whole (Some r) e)) in
+        rw (said_route net n row r l d e h) (still_open p line (with_row net p row) over made)
 
 -- Rows in turn.
 
@@ -224,7 +243,7 @@ lead_rows net n tables before row (x ∷ rows) l h p e =
 lead_table : (net : PureNet) → IsNet net → (tables : List (List PureRow)) (table : List PureRow) → 0 < length net.nodes → length tables < length net.dests → TableOf net (length tables) table → AllByRecursion (λ (r : PureRow). IfSome r.route (IsPrintable net)) table
     → Lead (row_spelled net) net (at tables []) (map (row_line net) table) (at (tables ++ table ∷ []) [])
 lead_table net n tables [] some l t p = absurd (let c = t.count in omega arith)
-lead_table net n tables (row ∷ rows) some l t p = lead_rows net n tables [] row rows l t.rows p (t.count)
+lead_table net n tables (row ∷ rows) some l t p = lead_rows net n tables [] row rows l t.rows p (omega (arith, t.count))
 
 -- all tables
 lead_tables : (net : PureNet) → IsNet net → (before tables : List (List PureRow)) → 0 < length net.nodes → length before + length tables ≡ length net.dests → OnTablesFrom (TableOf net) (length before) tables
@@ -327,4 +346,4 @@ read_back sp back net tables n h p e = record {
         rw (f, empty, no_joined_rows net.dests) refl
     by false f =
         let some : 0 < length net.nodes = grind (arith, nat_tests) in
-        rw f (lead_tables net n [] tables some e h printable)
+        rw f (lead_tables net n [] tables some (omega (arith, e)) h printable)

@@ -113,7 +113,7 @@ few_members k (suc count) m h = by (has_mark m k) (few_members (k + 1) count m (
 wrapped : (opening text closing : List ℕ) → IsSolid opening → Solid text → Solid closing → IsSolid (opening ++ text ++ closing)
 wrapped opening text closing o t c = record {
   bytes = joined (opening ++ text) closing (joined opening text o.bytes t) c;
-  some = omega (arith, o.some, length-append opening (text ++ closing));
+  some = omega (arith, o.some, length-append opening text, length-append (opening ++ text) closing);
 }
 
 after_word : (opening text : List ℕ) → IsSolid opening → Solid text → IsSolid (opening ++ text)

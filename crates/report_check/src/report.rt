@@ -33,7 +33,8 @@ pub fn numbers_are_specified()
 ///   are a walk isn't asked.
 /// - `quiet N` or `spent N`, with N of 1 to 20 digits: at most one such line, after the last row.
 ///
-/// Rows stand for all destinations in order and, in each, for all nodes in order.
+/// Rows stand for all destinations in order and, in each, for all nodes in order. Where the network has no node there
+/// is none.
 ///
 /// # Errors
 ///
