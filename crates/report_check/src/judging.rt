@@ -8,7 +8,8 @@ ghost use Rattle.report_check.specs.Judged.{Judged, JudgedOptimal, table_at};
 ghost use Rattle.report_check.specs.Views.{AreOfDests, pure_judgement, pure_optimal, pure_stable};
 ghost use Rattle.stable_check.specs.Checks.{AreOwnValues};
 
-use crate::rows::{OfferFindings, Wanted, judge_row};
+use crate::found::{OfferFindings, Wanted};
+use crate::rows::judge_row;
 use crate::{Judgement, OptimalFinding, StableFinding};
 use alg_classes::Property;
 use meta_base::{DestId, List, NoMemory, NodeId};

@@ -4,8 +4,10 @@
 //! `sig_text`, and what these stand on.
 #![tactic(auto)]
 
+mod arcs;
 mod draft;
 mod faults;
+mod found;
 mod hops;
 mod judging;
 mod judgement;

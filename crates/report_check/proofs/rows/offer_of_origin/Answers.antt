@@ -15,7 +15,7 @@ pub weighed-found-requires-clause-row : goal.weighed-found-requires-clause-row
 weighed-found-requires-clause-row c = rw c.route_at-row.ensures (rows_in c.args.net.now c.args.table.now.dest.0 (rows_of c.args.table.now) c.requires.table c.args.node.0)
 
 pub returns-clause-better : goal.returns-clause-better
-returns-clause-better c =
+returns-clause-better c = λ wanted.
     let net = c.args.net.now in
     let dest = c.args.table.now.dest.0 in
     let rows = rows_of c.args.table.now in

@@ -3,7 +3,7 @@ use Rattle.alg_model.specs.Views.{pure_value}
 use Rattle.net_graph.specs.Views.{pure_route, rows_of}
 use Rattle.stable_check.specs.Offering.{rows_in}
 use Rattle.report_check.proofs.RowSearch.{worse_not_made}
-use Rattle.report_check.proofs.rows.may_matter.Goals as goal
+use Rattle.report_check.proofs.arcs.may_matter.Goals as goal
 
 pub is_worse-requires-clause-row : goal.is_worse-requires-clause-row
 is_worse-requires-clause-row c = rw c.route_at.ensures (rows_in c.args.net.now c.args.table.now.dest.0 (rows_of c.args.table.now) c.requires.table c.args.arc.now.tail.0)

@@ -5,7 +5,7 @@ use Rattle.net_graph.specs.Routes.{PureRoute}
 use Rattle.net_graph.specs.Views.{pure_route, rows_of}
 use Rattle.stable_check.specs.Offering.{rows_in}
 use Rattle.report_check.proofs.RowSearch.{offer_is, weighed_better}
-use Rattle.report_check.proofs.rows.offer_of_arc.Goals as goal
+use Rattle.report_check.proofs.arcs.offer_of_arc.Goals as goal
 
 pub weighed-requires-clause-row : goal.weighed-requires-clause-row
 weighed-requires-clause-row c = rw c.route_at.ensures (rows_in c.args.net.now c.args.table.now.dest.0 (rows_of c.args.table.now) c.requires.table c.args.arc.now.tail.0)
