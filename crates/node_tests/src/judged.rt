@@ -67,9 +67,11 @@ fn is_optimal(alloc: Global, net: &Net, found: &OptimalFinding, text: &str) -> R
         }
         OptimalFinding::Beaten { node, dest, walk } => {
             let (row, by) = rest.split_once(" by ").ok_or("no walk")?;
-            Ok(kind == "beaten"
-                && is_row(net, *node, *dest, row)?
-                && is_walk(alloc, net, walk.as_slice(), by)?)
+            Ok(
+                kind == "beaten"
+                    && is_row(net, *node, *dest, row)?
+                    && is_walk(alloc, net, walk.as_slice(), by)?,
+            )
         }
         OptimalFinding::Unsettled { arc, .. } => {
             let (tail, head) = rest.split_once(' ').ok_or("no arc")?;
@@ -89,9 +91,11 @@ fn is_stable(alloc: Global, net: &Net, found: &StableFinding, text: &str) -> Res
         }
         StableFinding::Better { node, dest, offer } => {
             let (row, route) = rest.split_once(" with ").ok_or("no offer")?;
-            Ok(kind == "better"
-                && is_row(net, *node, *dest, row)?
-                && is_route(alloc, net, Some(offer), route)?)
+            Ok(
+                kind == "better"
+                    && is_row(net, *node, *dest, row)?
+                    && is_route(alloc, net, Some(offer), route)?,
+            )
         }
     }
 }
@@ -109,8 +113,10 @@ fn is_judged(
     }
     let tables = read_report(alloc, net, report)?;
     let judgement = judge(alloc, net, tables.as_slice())?;
-    Ok(is_optimal(alloc, net, &judgement.optimal, optimal)?
-        && is_stable(alloc, net, &judgement.stable, stable)?)
+    Ok(
+        is_optimal(alloc, net, &judgement.optimal, optimal)?
+            && is_stable(alloc, net, &judgement.stable, stable)?,
+    )
 }
 
 // An expression, the lines of a network and of a report, and what its tables are judged to be.

@@ -1,9 +1,9 @@
 -- Values and none that are as good as others.
-use Rattle.std.proofs.Common.{◌≡◌, ◌≢◌, ℕ, Option, Some, None, IfSome, Bool, true, false, refl, sym, arith}
+use Rattle.std.proofs.Common.{◌≡◌, ◌≢◌, Option, Some, None, IfSome, true, refl, arith}
 use Rattle.std.specs.Ordering.{is_eq, ordering_reverse}
 use Rattle.std.specs.declared.cmp.Ordering.{Ordering}
-use Rattle.std.specs.declared.cmp.Ordering.TheVariants.{Less, Equal, Greater}
-use Rattle.alg_model.specs.Carriers.{In, AreEquivalent, IsPreferred, Order, OrderOrNone}
+use Rattle.std.specs.declared.cmp.Ordering.TheVariants.{Less, Equal}
+use Rattle.alg_model.specs.Carriers.{In, AreEquivalent, Order}
 use Rattle.alg_model.specs.Expressions.{PureCarrier, PureValue}
 use Rattle.alg_model.specs.Laws.{total_preorder}
 use Rattle.net_graph.specs.Unbeaten.{IsUnbeatenBy, unbeaten_trans}

@@ -1,5 +1,5 @@
 -- What the lines of a report give, row by row.
-use Rattle.std.proofs.Common.{◌≡◌, ◌≢◌, ℕ, ◌+◌, ◌-◌, ◌<◌, ◌≤◌, zero, suc, List, [], ◌∷◌, ◌++◌, IfSome, Option, Some, None, Bool, true, false, ◌==◌, ◌&&◌, not, cond, if◌then◌else◌, map, replicate, length, Result, Ok, Err, append_assoc, append-nil, length-append, refl, ap, sym, ◌∙◌, subst, arith}
+use Rattle.std.proofs.Common.{◌≡◌, ℕ, ◌+◌, ◌≤◌, zero, suc, List, [], ◌∷◌, ◌++◌, IfSome, Bool, true, false, ◌==◌, ◌&&◌, not, if◌then◌else◌, map, replicate, length, Result, Ok, Err, append_assoc, append-nil, refl, ap, sym, ◌∙◌, arith}
 use Rattle.std.specs.List.{onto_first}
 use Rattle.std.proofs.lemmas.Bool.Decides.{nat_tests}
 use Rattle.std.proofs.lemmas.List.{length-map, map-append}
@@ -8,7 +8,7 @@ use Rattle.net_graph.specs.Tables.{PureRow, AreRowsFrom, IsRouteOf, OnTablesFrom
 use Rattle.net_graph.specs.Views.{pure_row, rows_of}
 use Rattle.net_graph.specs.declared.route.DestTable.{DestTable}
 use Rattle.net_graph.specs.declared.route.RouteRow.{RouteRow}
-use Rattle.topology_file.specs.Texts.{lines_from, lines_of, without_return}
+use Rattle.topology_file.specs.Texts.{lines_of}
 use Rattle.report_check.specs.declared.draft.LineError.{LineError}
 use Rattle.report_check.specs.declared.draft.LineError.TheVariants.{Bad, NoMemory}
 use Rattle.report_check.specs.declared.faults.ReportKind.{ReportKind}

@@ -1,18 +1,17 @@
 -- What is found of tables decides whether they are optimal.
-use Rattle.std.proofs.Common.{◌≡◌, ◌≢◌, ℕ, ◌+◌, List, [], ◌∷◌, Option, Some, None, IfSome, Bool, true, false, inl, inr, option_map, option_and_then, refl, sym, subst}
+use Rattle.std.proofs.Common.{◌≡◌, ℕ, ◌+◌, List, [], ◌∷◌, Option, Some, None, Bool, true, false, inl, inr, option_map, option_and_then, refl}
 use Rattle.std.specs.List.{find}
 use Rattle.std.specs.declared.cmp.Ordering.{Ordering}
 use Rattle.std.specs.declared.cmp.Ordering.TheVariants.{Less, Equal, Greater}
 use Rattle.alg_model.specs.Application.{App}
 use Rattle.alg_model.specs.Carriers.{IsPreferred, OrderOrNone}
-use Rattle.alg_model.specs.Expressions.{PureLabel, PureValue}
+use Rattle.alg_model.specs.Expressions.{PureValue}
 use Rattle.net_graph.specs.Nets.{PureArc, PureNet, PureOrigin, has_arc, has_origin, is_arc_between, is_origin_at, origin_value}
-use Rattle.net_graph.specs.Routes.{PureRoute}
-use Rattle.net_graph.specs.Tables.{PureRow, OnTablesFrom, Optimal, carrier, route_at, value_at}
+use Rattle.net_graph.specs.Tables.{PureRow, OnTablesFrom, Optimal, carrier, value_at}
 use Rattle.net_graph.specs.Unbeaten.{none_last}
 use Rattle.net_graph.specs.Walks.{Walk, Weight, along}
 use Rattle.net_graph.specs.ArcLaws.{find_any}
-use Rattle.stable_check.specs.Checks.{ImprovedBy, IsWalkOf}
+use Rattle.stable_check.specs.Checks.{IsWalkOf}
 use Rattle.report_check.specs.Judged.{HasNoWalk, IsBeatenBy}
 use Rattle.report_check.proofs.TableFindings.{walk_there}
 

@@ -1,11 +1,11 @@
 -- What is found of a row, by its node's origin and arc by arc.
-use Rattle.std.proofs.Common.{◌≡◌, ◌≢◌, ℕ, ◌+◌, ◌<◌, ◌≤◌, List, [], ◌∷◌, Option, Some, None, IfSome, Bool, true, false, ◌||◌, ◌⊎◌, inl, inr, cond, if◌then◌else◌, option_map, option_and_then, length, refl, sym, ap, ◌∙◌, subst, arith}
+use Rattle.std.proofs.Common.{◌≡◌, ◌≢◌, ℕ, ◌+◌, ◌≤◌, List, ◌∷◌, Option, Some, None, IfSome, Bool, true, false, ◌||◌, ◌⊎◌, inl, inr, if◌then◌else◌, option_map, option_and_then, length, refl, sym, ◌∙◌, subst, arith}
 use Rattle.std.specs.Bool.{Decides}
 use Rattle.std.specs.List.{slice_get}
 use Rattle.std.specs.Option.{option_or, is_none, MatchOption, IsSomeAnd}
 use Rattle.std.specs.Ordering.{ordering_then, ordering_reverse}
 use Rattle.std.specs.declared.cmp.Ordering.{Ordering}
-use Rattle.std.specs.declared.cmp.Ordering.TheVariants.{Less, Equal, Greater}
+use Rattle.std.specs.declared.cmp.Ordering.TheVariants.{Less, Greater}
 use Rattle.meta_base.specs.NodePaths.{compare_paths}
 use Rattle.alg_model.specs.Expressions.{PureCarrier, PureValue}
 use Rattle.alg_model.specs.Carriers.{In, IsPreferred, Order}
@@ -20,7 +20,7 @@ use Rattle.net_graph.specs.Views.{pure_route}
 use Rattle.net_graph.specs.declared.route.Route.{Route}
 use Rattle.stable_check.specs.Checks.{passed_on, offer_by, own_offer, ImprovedBy, IsMade, IsOutdone, MadeBy, Makes, OutdoneBy, Outdoes}
 use Rattle.stable_check.specs.ArcSearch.{NoneBefore, none_more, none_at_all}
-use Rattle.stable_check.specs.Offering.{improved_has, made_has, outdone_has, made_by, outdone_by, offer_made, own_made, own_found, offer_found}
+use Rattle.stable_check.specs.Offering.{improved_has, made_has, outdone_has, outdone_by, offer_made, own_made, own_found, offer_found}
 use Rattle.report_check.specs.Findings.{IsMadeAlone}
 use Rattle.report_check.specs.Judged.{IsBeaten, IsBeatenBy, IsBetterOffer}
 

@@ -1,5 +1,5 @@
 -- What the lines of a report come to in turn, as a function.
-use Rattle.std.proofs.Common.{◌≡◌, ◌≢◌, ℕ, ◌+◌, List, [], ◌∷◌, ◌++◌, Bool, true, false, if◌then◌else◌, Option, Some, None, length, Result, Ok, Err, append-nil, append_assoc, length-append, refl, ap, sym, ◌∙◌, subst, arith}
+use Rattle.std.proofs.Common.{◌≡◌, ◌≢◌, ℕ, ◌+◌, List, [], ◌∷◌, ◌++◌, Bool, true, false, if◌then◌else◌, Option, Some, None, length, Result, Ok, Err, append-nil, append_assoc, length-append, refl, ap, sym, ◌∙◌, arith}
 use Rattle.std.specs.Option.{ok_or}
 use Rattle.alg_model.specs.Expressions.{Expression, PureValue}
 use Rattle.net_graph.specs.Limits.{max_row_number}

@@ -1,30 +1,26 @@
 -- What is found of tables, row by row and table by table.
-use Rattle.std.proofs.Common.{◌≡◌, ◌≢◌, ℕ, ◌+◌, ◌<◌, ◌≤◌, zero, suc, List, [], ◌∷◌, Option, Some, None, IfSome, Bool, true, false, ◌⊎◌, inl, inr, map, get_or, option_map, length, refl, sym, ap, ◌∙◌, subst, below_more, arith}
+use Rattle.std.proofs.Common.{◌≡◌, ℕ, ◌+◌, ◌<◌, zero, suc, List, [], ◌∷◌, Option, Some, None, IfSome, Bool, true, false, inl, inr, map, get_or, option_map, length, refl, sym, ap, ◌∙◌, below_more, arith}
 use Rattle.std.specs.Bool.{Decides}
-use Rattle.std.specs.List.{slice_get}
 use Rattle.std.specs.Option.{MatchOption}
 use Rattle.std.proofs.lemmas.Bool.{cases_lt}
-use Rattle.std.proofs.lemmas.List.{length-map}
 use Rattle.meta_base.specs.NodePaths.{numbers}
 use Rattle.meta_base.specs.declared.ids.NodeId.{NodeId}
-use Rattle.alg_model.specs.Carriers.{IsPreferred}
-use Rattle.alg_model.specs.Expressions.{PureValue}
-use Rattle.net_graph.specs.Nets.{PureNet, IsNet, origin_value}
+use Rattle.net_graph.specs.Nets.{PureNet}
 use Rattle.net_graph.specs.Routes.{PureRoute}
 use Rattle.net_graph.specs.Tables.{PureRow, HasWalks, IsChoice, Offers, OnTablesFrom, Relaxed, Reported, Stable, TableOf, carrier, route_at, value_at}
 use Rattle.net_graph.specs.Unbeaten.{none_last}
-use Rattle.net_graph.specs.Walks.{Walk, Weight, along}
+use Rattle.net_graph.specs.Walks.{Walk, Weight}
 use Rattle.net_graph.specs.ArcLaws.{along_none}
 use Rattle.net_graph.specs.RouteLaws.{no_route_past}
 use Rattle.net_graph.specs.Views.{pure_route, rows_of}
 use Rattle.net_graph.specs.declared.route.DestTable.{DestTable}
 use Rattle.net_graph.specs.declared.route.Route.{Route}
-use Rattle.stable_check.specs.Checks.{ImprovedBy, IsImproved, IsMade, IsOutdone, IsRelaxedAt, IsWalkOf}
+use Rattle.stable_check.specs.Checks.{ImprovedBy, IsMade, IsOutdone, IsRelaxedAt, IsWalkOf}
 use Rattle.stable_check.specs.Offering.{choice_by, outdone_no_choice}
 use Rattle.stable_check.specs.WalkRows.{all_relaxed}
 use Rattle.report_check.specs.Judged.{PureOptimal, unbeaten, no_walk, beaten, unsettled, PureStable, stable, not_offered, better}
 use Rattle.report_check.specs.Judged.{IsFirst, IsBeaten, IsBeatenBy, IsBetterOffer, IsNoChoice, HasNoWalk, IsUnrelaxed, IsUnstable, JudgedOptimal, JudgedStable, table_at}
-use Rattle.report_check.specs.Findings.{HasWalksBefore, OptimalUpTo, StableUpTo, OptimalBefore, StableBefore, beaten_or_not, first_optimal, first_stable, is_no_walk, is_stable, is_unbeaten, unstable_or_not}
+use Rattle.report_check.specs.Findings.{HasWalksBefore, OptimalUpTo, StableUpTo, OptimalBefore, StableBefore, beaten_or_not, first_optimal, first_stable, is_stable, is_unbeaten, unstable_or_not}
 use Rattle.report_check.specs.Views.{AreOfDests}
 
 -- One row more.

@@ -5,7 +5,7 @@ use Rattle.net_graph.specs.Routes.{PureRoute}
 use Rattle.net_graph.specs.Tables.{PureRow, IsChoice, Relaxed, Reported, Stable, route_at}
 use Rattle.stable_check.specs.Checks.{own_offer, IsMade, IsWalkOf, Makes}
 use Rattle.report_check.specs.Judged.{PureOptimal, unbeaten, no_walk, beaten, unsettled, PureStable, stable, not_offered, better}
-use Rattle.report_check.specs.Judged.{IsFirst, IsBeaten, IsBeatenBy, IsBetterOffer, IsNoChoice, HasNoWalk, IsUnrelaxed, IsUnstable, JudgedOptimal, JudgedStable, table_at}
+use Rattle.report_check.specs.Judged.{IsFirst, IsBeaten, IsBeatenBy, IsBetterOffer, IsNoChoice, HasNoWalk, JudgedOptimal, JudgedStable, table_at}
 
 -- the node's row has no route, or it is the offer of the own origin
 abbrev pub IsMadeAlone : PureNet → ℕ → Reported → ℕ → Type 0

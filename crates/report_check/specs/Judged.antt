@@ -1,6 +1,6 @@
 -- What is found of tables that anybody made: whether no walk beats their routes, and whether they are stable
 -- (Griffin and Sobrinho 2005; Sobrinho 2005).
-use Rattle.std.specs.Prelude.{◌≡◌, ℕ, ◌<◌, ◌⊎◌, List, [], ◌∷◌, Option, Some, None, IfSome, length, slice_index_or}
+use Rattle.std.specs.Prelude.{◌≡◌, ℕ, ◌<◌, ◌⊎◌, List, [], ◌∷◌, Some, IfSome, length, slice_index_or}
 use Rattle.alg_model.specs.Carriers.{IsPreferred}
 use Rattle.alg_model.specs.Properties.{isotone}
 use Rattle.alg_model.specs.Verdicts.{PureInstance}

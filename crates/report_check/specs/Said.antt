@@ -1,5 +1,5 @@
 -- What a line of the program says, and how what it says of a value is spelled.
-use Rattle.std.specs.Prelude.{◌≡◌, ℕ, ◌≤◌, List, Result, Err, length, map}
+use Rattle.std.specs.Prelude.{◌≡◌, ℕ, ◌≤◌, Result, Err, length, map}
 use Rattle.net_graph.specs.Limits.{max_row_number}
 use Rattle.net_graph.specs.Nets.{PureNet}
 use Rattle.net_graph.specs.Tables.{AreRowsFrom, OnTablesFrom, TableOf}

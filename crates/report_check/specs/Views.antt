@@ -1,5 +1,5 @@
 -- What judgements and hops of the program stand for.
-use Rattle.std.specs.Prelude.{◌≡◌, ℕ, ◌+◌, List, [], ◌∷◌, map, option_map}
+use Rattle.std.specs.Prelude.{◌≡◌, ℕ, ◌+◌, List, [], ◌∷◌, option_map}
 use Rattle.meta_base.specs.NodePaths.{numbers}
 use Rattle.alg_classes.specs.Instances.{pure_instance}
 use Rattle.alg_model.specs.Views.{pure_value}

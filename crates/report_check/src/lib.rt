@@ -9,8 +9,8 @@ mod draft;
 mod faults;
 mod found;
 mod hops;
-mod judging;
 mod judgement;
+mod judging;
 mod laws;
 mod lines;
 mod report;
@@ -18,6 +18,6 @@ mod rows;
 
 pub use faults::{ReportError, ReportFault, ReportKind};
 pub use hops::{ManyHops, best_hops};
-pub use judging::judge;
 pub use judgement::{Judgement, OptimalFinding, StableFinding};
+pub use judging::judge;
 pub use report::{MAX_REPORT_BYTES, numbers_are_specified, read_report};

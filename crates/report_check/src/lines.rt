@@ -18,7 +18,10 @@ pub enum Said<'a> {
     /// Nothing.
     Silent,
     /// The node has no route for the destination.
-    NoRoute { node: &'a [u8], dest: &'a [u8] },
+    NoRoute {
+        node: &'a [u8],
+        dest: &'a [u8],
+    },
     /// It has a route: the texts of its value and of the nodes of its path, of which there is one at least.
     Route {
         node: &'a [u8],

@@ -1,4 +1,4 @@
-use Rattle.std.proofs.Common.{◌≡◌, true, rules, arith}
+use Rattle.std.proofs.Common.{◌≡◌, true, arith}
 use Rattle.alg_model.specs.Views.{pure_value}
 use Rattle.net_graph.specs.Views.{pure_route, rows_of}
 use Rattle.stable_check.specs.Offering.{rows_in}

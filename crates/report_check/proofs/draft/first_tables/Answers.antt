@@ -1,9 +1,6 @@
-use Rattle.std.proofs.Common.{◌≡◌, [], ◌∷◌, length, map, refl, sym, ◌∙◌, arith, eqb, true}
+use Rattle.std.proofs.Common.{◌≡◌, [], length, ◌∙◌, arith, eqb, true}
 use Rattle.std.proofs.lemmas.Bool.Decides.{nat_tests}
-use Rattle.net_graph.specs.Tables.{OnTablesFrom, PureRow, TableOf}
-use Rattle.net_graph.specs.Views.{rows_of}
 use Rattle.net_graph.specs.declared.route.DestTable.{DestTable}
-use Rattle.report_check.specs.Views.{AreOfDests}
 use Rattle.report_check.proofs.Reading.{dest_added, empty_added, empty_table, replicate_map, table_added}
 use Rattle.report_check.proofs.draft.first_tables.Goals as goal
 

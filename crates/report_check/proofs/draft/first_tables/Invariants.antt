@@ -1,4 +1,4 @@
-use Rattle.std.proofs.Common.{◌≡◌, [], length, map, replicate, vec_len}
+use Rattle.std.proofs.Common.{◌≡◌, [], map, replicate, vec_len}
 use Rattle.net_graph.specs.Tables.{OnTablesFrom, TableOf}
 use Rattle.net_graph.specs.Views.{rows_of}
 use Rattle.report_check.specs.Views.{AreOfDests}

@@ -1,4 +1,4 @@
-use Rattle.std.proofs.Common.{◌≡◌, [], ◌∷◌, ◌++◌, List, length, map, ap, ◌∙◌, arith}
+use Rattle.std.proofs.Common.{◌≡◌, [], ◌∷◌, ◌++◌, List, length, ap, ◌∙◌, arith}
 use Rattle.std.proofs.lemmas.List.{length-map}
 use Rattle.net_graph.specs.Tables.{TableOf}
 use Rattle.net_graph.specs.Views.{pure_row, rows_of}
@@ -31,10 +31,10 @@ returns-clause-draft c =
     let place = next.1 ∙ length-map draft.tables.items rows_of in
     let added = row_added net (length draft.tables.items) draft.rows.items row c.requires.draft.rows next.0 place c.requires.route in
     let count : length (draft.rows.items ++ row ∷ []) ≡ length net.nodes =
-        omega (arith, ap length items, c.len.ensures, c.push.new.self.ok.0, c.if-len-node_count.false, c.node_count.ensures.count) in
+    omega (arith, ap length items, c.len.ensures, c.push.new.self.ok.0, c.if-len-node_count.false, c.node_count.ensures.count) in
     let table : DestTable = record { dest = row.dest; rows = c.from_vec.result } in
     let whole : TableOf net (length draft.tables.items) (rows_of table) =
-        rw (c.from_vec.ensures, items) (record { rows = added; count = length-map (draft.rows.items ++ row ∷ []) pure_row ∙ count }) in
+    rw (c.from_vec.ensures, items) (record { rows = added; count = length-map (draft.rows.items ++ row ∷ []) pure_row ∙ count }) in
     record {
       tables = rw c.in_ok-push-2.ensures.items (table_added net draft.tables.items table c.requires.draft.tables whole);
       dests = rw c.in_ok-push-2.ensures.items (dest_added draft.tables.items table c.requires.draft.dests place);

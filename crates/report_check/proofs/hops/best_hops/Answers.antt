@@ -1,6 +1,6 @@
-use Rattle.std.proofs.Common.{◌≡◌, ◌<◌, ◌∷◌, [], length, map, refl, sym, ap, ◌∙◌, arith}
-use Rattle.std.proofs.lemmas.List.{length-map, map-append}
-use Rattle.net_graph.specs.Views.{pure_row, rows_of}
+use Rattle.std.proofs.Common.{◌≡◌, ◌<◌, ◌∷◌, [], length, map, sym, arith}
+use Rattle.std.proofs.lemmas.List.{map-append}
+use Rattle.net_graph.specs.Views.{rows_of}
 use Rattle.report_check.specs.Views.{pure_hops}
 use Rattle.report_check.proofs.Hopping.{hops_more, hops_all}
 use Rattle.report_check.proofs.hops.best_hops.Goals as goal

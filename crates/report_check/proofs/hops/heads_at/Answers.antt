@@ -1,9 +1,9 @@
-use Rattle.std.proofs.Common.{◌≡◌, ◌+◌, ◌++◌, ◌∷◌, [], map, take, filter, length, true, false, refl, sym, ap, ◌∙◌, subst, arith, rules}
+use Rattle.std.proofs.Common.{◌≡◌, ◌++◌, ◌∷◌, [], length, true, false, sym, ap, ◌∙◌, arith, rules}
 use Rattle.meta_base.specs.declared.ids.NodeId.{NodeId}
 use Rattle.report_check.proofs.hops.heads_at.Goals.{then-branch+in_ok-push, else-branch}
 use Rattle.std.proofs.lemmas.List.{length-map, map-append}
 use Rattle.meta_base.specs.NodePaths.{numbers}
-use Rattle.net_graph.specs.Nets.{PureArc, arcs_from}
+use Rattle.net_graph.specs.Nets.{arcs_from}
 use Rattle.net_graph.specs.Views.{pure_arc, rows_of}
 use Rattle.stable_check.specs.ArcSearch.{out_arc, arc_there}
 use Rattle.report_check.specs.Hops.{is_hop}

@@ -1,7 +1,7 @@
 use Rattle.net_graph.specs.Nets.{origin_value}
 use Rattle.net_graph.specs.Tables.{carrier, value_at}
 use Rattle.report_check.proofs.Equals.{passes, tested}
-use Rattle.report_check.proofs.Homeward.{hop_walk, walk_hop}
+use Rattle.report_check.proofs.NextHops.{hop_walk, walk_hop}
 use Rattle.report_check.proofs.laws.hops_are_second_nodes.Goals as goal
 
 pub returns-clause-heads : goal.returns-clause-heads

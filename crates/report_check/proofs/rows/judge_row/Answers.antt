@@ -1,12 +1,9 @@
-use Rattle.std.proofs.Common.{ℕ, ◌≤◌, ◌+◌, length, subst, arith}
+use Rattle.std.proofs.Common.{ℕ, ◌+◌, subst, arith}
 use Rattle.std.specs.Bool.{Decides}
 use Rattle.std.specs.Option.{MatchOption}
 use Rattle.meta_base.specs.NodePaths.{numbers}
-use Rattle.meta_base.specs.declared.ids.NodeId.{NodeId}
-use Rattle.net_graph.specs.Nets.{arcs_from}
 use Rattle.net_graph.specs.Tables.{route_at}
 use Rattle.net_graph.specs.Views.{pure_arc, pure_route, rows_of}
-use Rattle.net_graph.specs.declared.route.Route.{Route}
 use Rattle.stable_check.specs.Checks.{ImprovedBy, IsOutdone, MadeBy, OutdoneBy}
 use Rattle.stable_check.specs.ArcSearch.{out_arc, arc_there, all_arcs}
 use Rattle.report_check.specs.Judged.{IsBeaten, IsBeatenBy, IsBetterOffer}
