@@ -60,6 +60,8 @@ pub fn write<K: Sink>(alloc: Global, out: &mut K, outcome: &Outcome) -> Answer
         Outcome::Checked(it) => answered(put_checked(alloc, out, it), checked_answer(it.unmet)),
         Outcome::Coded(it) => answered(put_code(alloc, out, it), Answer::Done),
         Outcome::Routed(it) => answered(put_routes(alloc, out, it), Answer::Done),
+        Outcome::Hopped(it) => answered(put_hops(alloc, out, it), Answer::Done),
+        Outcome::Judged(it) => answered(put_judged(alloc, out, it), Answer::Done),
         Outcome::Wedged(it) => answered(put_gadget(alloc, out, it), Answer::Done),
         Outcome::Ran(it) => answered(put_run(alloc, out, it), end_answer(it.run.is_quiet)),
         Outcome::Shown(it) => answered(put_shown(alloc, out, it), Answer::Done),
@@ -76,6 +78,31 @@ fn put_code<K: Sink>(alloc: Global, out: &mut K, coded: &Coded) -> Result<(), Cu
 {
     let net = listed_net(&coded.file, &coded.after);
     put_line(out, code_lines(alloc, &coded.alg, net, &coded.listing))
+}
+
+// Puts the lines of rows with all their next hops.
+fn put_hops<K: Sink>(alloc: Global, out: &mut K, hopped: &Hopped) -> Result<(), Cut>
+    requires { AllByRecursion (CanPrintHops hopped.now.file.net) (map pure_hops hopped.now.many) }
+    ensures { PutsText (K.holds out.old) (many_text hopped.now.file.net (map pure_hops hopped.now.many))
+        result (K.holds out.new) }
+{
+    for hops in hopped.many.as_slice() {
+        put_line(out, hops_line(alloc, &hopped.file.net, hops))?;
+    }
+    Ok(())
+}
+
+// Puts the lines of a judgement, by the network after the file's changes.
+fn put_judged<K: Sink>(alloc: Global, out: &mut K, judged: &Judged) -> Result<(), Cut>
+    requires after { last_of judged.now.after judged.now.file.net ≡ changed_net (pure_file judged.now.file) }
+    requires printable { CanPrintJudgement (changed_net (pure_file judged.now.file))
+        (pure_judgement judged.now.judgement) }
+    ensures { PutsText (K.holds out.old)
+        (judgement_text (changed_net (pure_file judged.now.file)) (pure_judgement judged.now.judgement))
+        result (K.holds out.new) }
+{
+    let net = last_of(&judged.after, &judged.file.net);
+    put_line(out, judgement_lines(alloc, net, &judged.judgement))
 }
 
 // Puts the line of a verdict on monotone, and the network that shows it.
