@@ -8,22 +8,27 @@ ghost use Rattle.net_graph.specs.Views.{pure_row};
 ghost use Rattle.net_graph.specs.RowTexts.{IsRowOf};
 ghost use Rattle.property_infer.specs.Views.{pure_verdict, pure_verdicts};
 ghost use Rattle.topology_file.specs.Views.{pure_file};
+ghost use Rattle.topology_file.specs.NetText.{changed_net};
+ghost use Rattle.report_check.specs.Views.{pure_hops, pure_judgement};
 ghost use Rattle.report_text.specs.CodeTexts.{CanList, code_text};
+ghost use Rattle.report_text.specs.JudgedTexts.{CanPrintHops, CanPrintJudgement, judgement_text};
 ghost use Rattle.report_text.specs.VerdictTexts.{CanPrintVerdicts, lines_on, verdicts_text};
 ghost use Rattle.report_text.specs.Refusals.{CanMiss, misses, misses_text, refusal_text};
 ghost use Rattle.report_text.specs.SummaryTexts.{AreSummed, summary_text};
 ghost use Rattle.vector_runs.specs.Runs.{AreOfNetworks, pure_phase};
 ghost use Rattle.wedge_nets.specs.GadgetTexts.{gadget_text};
 ghost use Rattle.wedge_nets.specs.Gadgets.{HasGadget};
+ghost use Rattle.metacli.specs.After.{last_of};
 ghost use Rattle.metacli.specs.Answers.{pure_answer, pure_stop, refused, write_fault};
 ghost use Rattle.metacli.specs.Outcome.{answer_in};
-ghost use Rattle.metacli.specs.Texts.{PutsText, TextOf, Written, last_net, routes_text, rows_text, run_text, unmet_text};
+ghost use Rattle.metacli.specs.Texts.{PutsText, TextOf, Written, last_net, many_text, routes_text, rows_text, run_text, unmet_text};
 ghost use Rattle.metacli.specs.Views.{CanBeWritten, IsListedOn, pure_outcome};
 
 use crate::Answer;
 use crate::after::last_of;
 use crate::outcome::{
-    Checked, Coded, Outcome, Ran, Routed, Shown, Stop, Wedged, checked_answer, end_answer,
+    Checked, Coded, Hopped, Judged, Outcome, Ran, Routed, Shown, Stop, Wedged, checked_answer,
+    end_answer,
 };
 use crate::phases::put_phases;
 use crate::putting::{Cut, answered, put_line, put_room, room_for_lines};
@@ -37,7 +42,8 @@ use net_facts::Missing;
 use net_graph::{Net, RouteRow};
 use property_infer::Verdicts;
 use report_text::{
-    code_lines, misses_line, push_row_line, refusal_line, required_line, verdict_line,
+    code_lines, hops_line, judgement_lines, misses_line, push_row_line, refusal_line,
+    required_line, verdict_line,
 };
 use std::alloc::Global;
 use topology_file::NetFile;
