@@ -10,11 +10,12 @@ use Rattle.topology_file.specs.NetText.{changed_net}
 use Rattle.metacli.specs.After.{last_of, nets_after}
 use Rattle.report_text.specs.Refusals.{PureRefusal, misses}
 use Rattle.vector_runs.specs.Runs.{pure_phase}
-use Rattle.metacli.specs.Answers.{pure_stop}
+use Rattle.metacli.specs.Answers.{pure_answer, pure_stop}
 use Rattle.metacli.specs.Texts.{IsPrintable}
-use Rattle.metacli.specs.Outcome.{PureOutcome, stopped, checked, coded, routed, wedged, ran, shown, gadget_in, journal_in, listing_in, past_in, rows_in, verdicts_in}
+use Rattle.metacli.specs.Outcome.{PureOutcome, stopped, checked, coded, routed, wedged, ran, shown, algebra_in, answer_in, file_in, gadget_in, journal_in, listing_in, past_in, rows_in, verdicts_in}
 use Rattle.metacli.specs.declared.outcome.Stop.{Stop}
 use Rattle.metacli.specs.declared.outcome.Made.{Made}
+use Rattle.metacli.specs.declared.outcome.Parts.{Parts}
 use Rattle.metacli.specs.declared.outcome.Outcome.{Outcome}
 use Rattle.metacli.specs.declared.outcome.Outcome.TheVariants as outcome
 
@@ -36,6 +37,13 @@ pub record IsMadeIn (made : Made) (o : PureOutcome) : Type 0 where
   pub rows : map pure_row made.rows ≡ rows_in o
   pub journal : made.journal ≡ journal_in o
   pub past : map pure_phase made.past ≡ past_in o
+
+-- what was read, what was made of it and the answer are what the outcome says
+pub record AreParts (p : Parts) (o : PureOutcome) : Type 0 where
+  pub alg : p.alg ≡ algebra_in o
+  pub file : option_map pure_file p.file ≡ file_in o
+  pub made : IsMadeIn p.made o
+  pub decided : pure_answer p.decided ≡ answer_in o
 
 -- the network whose labels were compiled, if there is one, is that of the file after its changes
 abbrev pub IsListedOn : Option NetFile → Option PureNet → Type 0

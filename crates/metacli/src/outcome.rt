@@ -2,9 +2,9 @@
 ghost use Rattle.std.specs.Prelude.{◌≡◌, ◌≢◌, None, if◌then◌else◌};
 ghost use Rattle.metacli.specs.Answers.{done, memory_refused, pure_answer, pure_stop, refused, spent, write_fault};
 ghost use Rattle.std.specs.Prelude.{option_map};
-ghost use Rattle.metacli.specs.Outcome.{Shows, algebra_in, answer_in, file_in, met_or, stopped};
+ghost use Rattle.metacli.specs.Outcome.{Shows, met_or, stopped};
 ghost use Rattle.metacli.specs.declared.outcome.Stop.TheVariants.{Memory};
-ghost use Rattle.metacli.specs.Views.{CanBeWritten, IsMadeIn, pure_outcome};
+ghost use Rattle.metacli.specs.Views.{AreParts, CanBeWritten, pure_outcome};
 ghost use Rattle.topology_file.specs.Views.{pure_file};
 ghost use Rattle.alg_classes.specs.Instances.{pure_instance, pure_property};
 ghost use Rattle.report_text.specs.Refusals.{misses, pure_refusal};
@@ -173,7 +173,12 @@ impl Outcome {
         ensures shows { Shows result command (pure_outcome self) }
         ensures answer { result.answer ≡ answer }
     {
-        let (alg, file, made, decided) = self.parts(alloc);
+        let Parts {
+            alg,
+            file,
+            made,
+            decided,
+        } = self.parts(alloc);
         let (net, changes) = match file {
             Some(NetFile { net, changes }) => (Some(net), changes),
             None => (None, List::new(alloc)),
@@ -195,46 +200,143 @@ impl Outcome {
     }
 
     // What was read, what was made of it, and the answer to that.
-    fn parts(self, alloc: Global) -> (Option<Alg>, Option<NetFile>, Made, Answer)
-        ensures alg { result.0 ≡ algebra_in (pure_outcome self) }
-        ensures file { option_map pure_file result.1 ≡ file_in (pure_outcome self) }
-        ensures made { IsMadeIn result.2 (pure_outcome self) }
-        ensures decided { pure_answer result.3 ≡ answer_in (pure_outcome self) }
+    fn parts(self, alloc: Global) -> Parts
+        ensures { AreParts result (pure_outcome self) }
+    {
+        match self {
+            Outcome::Stopped { alg, file, stop } => stopped_parts(alloc, alg, file, stop),
+            Outcome::Unfit(it) => it.parts(alloc),
+            Outcome::Checked(it) => it.parts(alloc),
+            Outcome::Coded(it) => it.parts(alloc),
+            Outcome::Routed(it) => it.parts(alloc),
+            Outcome::Wedged(it) => it.parts(alloc),
+            Outcome::Ran(it) => it.parts(alloc),
+            Outcome::Shown(it) => it.parts(alloc),
+        }
+    }
+}
+
+/// What was read, what was made of it, and the answer to that.
+#[derive(Drop)]
+pub struct Parts {
+    alg: Option<Alg>,
+    file: Option<NetFile>,
+    made: Made,
+    decided: Answer,
+}
+
+fn stopped_parts(alloc: Global, alg: Option<Alg>, file: Option<NetFile>, stop: Stop) -> Parts
+    ensures { AreParts result (stopped alg (option_map pure_file file) (pure_stop stop)) }
+{
+    Parts {
+        alg,
+        file,
+        made: Made::nothing(alloc),
+        decided: stop.answer(),
+    }
+}
+
+impl Unfit {
+    fn parts(self, alloc: Global) -> Parts
+        ensures { AreParts result (pure_outcome (Outcome.Unfit self)) }
+    {
+        Parts {
+            alg: Some(self.alg),
+            file: Some(self.file),
+            made: Made::nothing(alloc),
+            decided: missing_answer(self.missing),
+        }
+    }
+}
+
+impl Checked {
+    fn parts(self, alloc: Global) -> Parts
+        ensures { AreParts result (pure_outcome (Outcome.Checked self)) }
     {
         let mut made = Made::nothing(alloc);
-        let (alg, file, decided) = match self {
-            Outcome::Stopped { alg, file, stop } => (alg, file, stop.answer()),
-            Outcome::Unfit(it) => (Some(it.alg), Some(it.file), missing_answer(it.missing)),
-            Outcome::Checked(it) => {
-                made.verdicts = Some(it.verdicts);
-                (Some(it.alg), it.file, checked_answer(it.unmet))
-            }
-            Outcome::Coded(it) => {
-                made.listing = Some(it.listing);
-                (Some(it.alg), it.file, Answer::Done)
-            }
-            Outcome::Routed(it) => {
-                made.rows = it.rows;
-                (Some(it.alg), Some(it.file), Answer::Done)
-            }
-            Outcome::Wedged(it) => {
-                made.gadget = Some(it.verdict);
-                (Some(it.alg), None, Answer::Done)
-            }
-            Outcome::Ran(it) => {
-                let decided = end_answer(it.run.is_quiet);
-                made.past = it.run.past;
-                made.rows = it.run.last.rows;
-                made.journal = it.run.last.journal;
-                (Some(it.alg), Some(it.file), decided)
-            }
-            Outcome::Shown(it) => {
-                made.rows = it.last.rows;
-                made.journal = it.last.journal;
-                (Some(it.alg), Some(it.file), Answer::Done)
-            }
-        };
-        (alg, file, made, decided)
+        made.verdicts = Some(self.verdicts);
+        Parts {
+            alg: Some(self.alg),
+            file: self.file,
+            made,
+            decided: checked_answer(self.unmet),
+        }
+    }
+}
+
+impl Coded {
+    fn parts(self, alloc: Global) -> Parts
+        ensures { AreParts result (pure_outcome (Outcome.Coded self)) }
+    {
+        let mut made = Made::nothing(alloc);
+        made.listing = Some(self.listing);
+        Parts {
+            alg: Some(self.alg),
+            file: self.file,
+            made,
+            decided: Answer::Done,
+        }
+    }
+}
+
+impl Routed {
+    fn parts(self, alloc: Global) -> Parts
+        ensures { AreParts result (pure_outcome (Outcome.Routed self)) }
+    {
+        let mut made = Made::nothing(alloc);
+        made.rows = self.rows;
+        Parts {
+            alg: Some(self.alg),
+            file: Some(self.file),
+            made,
+            decided: Answer::Done,
+        }
+    }
+}
+
+impl Wedged {
+    fn parts(self, alloc: Global) -> Parts
+        ensures { AreParts result (pure_outcome (Outcome.Wedged self)) }
+    {
+        let mut made = Made::nothing(alloc);
+        made.gadget = Some(self.verdict);
+        Parts {
+            alg: Some(self.alg),
+            file: None,
+            made,
+            decided: Answer::Done,
+        }
+    }
+}
+
+impl Ran {
+    fn parts(self, alloc: Global) -> Parts
+        ensures { AreParts result (pure_outcome (Outcome.Ran self)) }
+    {
+        let Run {
+            past,
+            last,
+            is_quiet,
+        } = self.run;
+        Parts {
+            alg: Some(self.alg),
+            file: Some(self.file),
+            made: Made::of_phases(past, last),
+            decided: end_answer(is_quiet),
+        }
+    }
+}
+
+impl Shown {
+    fn parts(self, alloc: Global) -> Parts
+        ensures { AreParts result (pure_outcome (Outcome.Shown self)) }
+    {
+        Parts {
+            alg: Some(self.alg),
+            file: Some(self.file),
+            made: Made::of_phases(List::new(alloc), self.last),
+            decided: Answer::Done,
+        }
     }
 }
 
@@ -270,6 +372,27 @@ impl Made {
             rows: List::new(alloc),
             journal: List::new(alloc),
             past: List::new(alloc),
+        }
+    }
+
+    // The phases of a run.
+    fn of_phases(past: List<Phase>, last: Phase) -> Made
+        ensures { result ≡ record {
+          verdicts = None;
+          listing = None;
+          gadget = None;
+          rows = last.rows;
+          journal = last.journal;
+          past = past;
+        } }
+    {
+        Made {
+            verdicts: None,
+            listing: None,
+            gadget: None,
+            rows: last.rows,
+            journal: last.journal,
+            past,
         }
     }
 }
