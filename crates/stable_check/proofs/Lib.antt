@@ -1,9 +1,4 @@
 pub mod Optima
-pub mod Lists
-pub mod ArcSearch
-pub mod WalkWeights
 pub mod TableRows
 pub mod Paths
 pub mod Noted
-pub mod Offering
-pub mod WalkRows

@@ -41,8 +41,8 @@ pub(crate) fn origin_value<'a>(net: &'a Net, dest: DestId, node: NodeId) -> Opti
     Some(&origin.value)
 }
 
-// The node's route in the table, if it has one.
-pub(crate) fn route_at<'a>(table: &'a DestTable, node: NodeId) -> Option<&'a Route>
+/// The node's route in the table, if it has one.
+pub fn route_at<'a>(table: &'a DestTable, node: NodeId) -> Option<&'a Route>
     ensures { option_map (λ r. pure_route r.now) result ≡ route_at (rows_of table.now) node.0 }
 {
     let row = table.rows.as_slice().get(node.0 as usize)?;

@@ -6,22 +6,23 @@ ghost use Rattle.alg_model.specs.Carriers.{In};
 ghost use Rattle.alg_model.specs.Views.{pure_label, pure_value};
 ghost use Rattle.net_graph.specs.Nets.{PureNet, IsNet, label_between};
 ghost use Rattle.net_graph.specs.Routes.{compare_routes};
-ghost use Rattle.net_graph.specs.Tables.{carrier, is_among, route_at, TableOf};
+ghost use Rattle.net_graph.specs.Tables.{carrier, is_among, route_at, value_at, TableOf};
+ghost use Rattle.net_graph.specs.Walks.{along};
 ghost use Rattle.net_graph.specs.Views.{pure_route, rows_of};
 ghost use Rattle.stable_check.specs.Checks.{offer_by, own_offer, AreOwnValues, Makes, Outdoes};
 
 use crate::equality::is_same_route;
 use crate::lookup::route_at;
 use crate::own::OwnValues;
-use alg_model::{apply, order};
+use alg_model::{Value, apply, order};
 use meta_base::{List, NoMemory, NodeId};
 use net_graph::{Arc, DestTable, Net, Route};
 use path_store::compare;
 use std::alloc::Global;
 use std::cmp::Ordering;
 
-// The path of the node and the nodes after it.
-fn path_from(alloc: Global, node: NodeId, after: &[NodeId]) -> Result<List<NodeId>, NoMemory>
+/// The path of the node and the nodes after it. It is refused for want of memory alone.
+pub fn path_from(alloc: Global, node: NodeId, after: &[NodeId]) -> Result<List<NodeId>, NoMemory>
     ensures { IfOk result (λ path. path ≡ node ∷ after.now) }
 {
     let mut path = Vec::with_capacity(alloc, after.len().saturating_add(1))?;
@@ -37,15 +38,15 @@ fn has_node(nodes: &[NodeId], number: u32) -> bool
     nodes.iter().any(|node| node.0 == number)
 }
 
-// Whether the route's path passes the node.
-fn passes(route: &Route, node: NodeId) -> bool
+/// Whether the route's path passes the node. It takes no memory.
+pub fn passes(route: &Route, node: NodeId) -> bool
     ensures { result ≡ is_among (pure_route route.now).path node.0 }
 {
     has_node(route.path.as_slice(), node.0)
 }
 
-// What the node's own origin offers, if it has one.
-pub(crate) fn own_offer(
+/// What the node's own origin offers, if it has one. It is refused for want of memory alone.
+pub fn own_offer(
     alloc: Global,
     own: &OwnValues<'_>,
     node: NodeId,
@@ -60,6 +61,27 @@ pub(crate) fn own_offer(
         value: value.copy(alloc)?,
         path: path_from(alloc, node, &[])?,
     }))
+}
+
+/// What the arc makes of the value of its head's row: none where that has none, or the label prohibits it. It is
+/// refused for want of memory alone.
+pub fn arc_value(
+    alloc: Global,
+    net: &Net,
+    table: &DestTable,
+    arc: &Arc,
+) -> Result<Option<Value>, NoMemory>
+    requires net { IsNet net.now }
+    requires table { TableOf net.now table.now.dest.0 (rows_of table.now) }
+    requires arc { label_between net.now arc.now.tail.0 arc.now.head.0 ≡ Some (pure_label arc.now.label) }
+    ensures value { IfOk result (λ value. option_map pure_value value ≡
+        along net.now arc.now.tail.0 arc.now.head.0 (value_at (rows_of table.now) arc.now.head.0)) }
+    ensures value_in { IfOk result (λ value. IfSome (option_map pure_value value) (In (carrier net.now))) }
+{
+    let Some(next) = route_at(table, arc.head) else {
+        return Ok(None);
+    };
+    apply(alloc, net.alg(), &arc.label, &next.value)
 }
 
 // What the arc offers of its head's route, if anything: a value, and a path that doesn't pass the tail twice.
@@ -81,7 +103,7 @@ pub(crate) fn arc_offer(
     if passes(next, arc.tail) {
         return Ok(None);
     }
-    let Some(value) = apply(alloc, net.alg(), &arc.label, &next.value)? else {
+    let Some(value) = arc_value(alloc, net, table, arc)? else {
         return Ok(None);
     };
     let path = path_from(alloc, arc.tail, next.path.as_slice())?;
@@ -97,8 +119,8 @@ fn compare_routes(net: &Net, r: &Route, s: &Route) -> Ordering
     order(net.alg(), &r.value, &s.value).then(compare(r.path.as_slice(), s.path.as_slice()))
 }
 
-// Whether there is an offer, and it is better than the row's route, if that has one.
-pub(crate) fn outdoes(net: &Net, offer: Option<&Route>, row: Option<&Route>) -> bool
+/// Whether there is an offer, and it is better than the row's route, if that has one. It takes no memory.
+pub fn outdoes(net: &Net, offer: Option<&Route>, row: Option<&Route>) -> bool
     requires offer { IfSome (option_map (λ s. pure_route s.now) offer) (λ s. In (carrier net.now) s.value) }
     requires row { IfSome (option_map (λ r. pure_route r.now) row) (λ r. In (carrier net.now) r.value) }
     ensures { Decides result (Outdoes (carrier net.now)
@@ -111,8 +133,8 @@ pub(crate) fn outdoes(net: &Net, offer: Option<&Route>, row: Option<&Route>) -> 
     }
 }
 
-// Whether the row has a route, and the offer is that.
-pub(crate) fn makes(offer: Option<&Route>, row: Option<&Route>) -> bool
+/// Whether the row has a route, and the offer is that. It takes no memory.
+pub fn makes(offer: Option<&Route>, row: Option<&Route>) -> bool
     ensures { Decides result (Makes
         (option_map (λ s. pure_route s.now) offer.entry) (option_map (λ r. pure_route r.now) row.entry)) }
 {

@@ -9,15 +9,15 @@ use meta_base::{DestId, NoMemory, NodeId};
 use net_graph::Net;
 use std::alloc::Global;
 
-// For each node the value of its origin of a destination, if it has one, so that it is found without a look at
-// the other origins.
-#[derive(Drop)]
-pub(crate) struct OwnValues<'a> {
+/// For each node the value of its origin of a destination, if it has one, so that it is found without a look at
+/// the other origins.
+#[derive(Debug, Drop)]
+pub struct OwnValues<'a> {
     pub values: Vec<Option<&'a Value>>,
 }
 
 impl<'a> OwnValues<'a> {
-    // The values that the network's nodes have.
+    /// The values that the network's nodes have. It is refused for want of memory alone.
     pub fn of(alloc: Global, net: &'a Net, dest: DestId) -> Result<OwnValues<'a>, NoMemory>
         requires { dest.0 < length net.now.dests }
         ensures { IfOk result (λ own. AreOwnValues net.now dest.0 own.values.items) }
@@ -34,7 +34,7 @@ impl<'a> OwnValues<'a> {
         Ok(OwnValues { values })
     }
 
-    // The node's.
+    /// The node's.
     pub fn at(&self, node: NodeId) -> Option<&'a Value>
         ensures { (net : PureNet) (dest : ℕ) → AreOwnValues net dest self.now.values.items →
             option_map (λ v. pure_value v.now) result ≡ origin_value net dest node.0 }

@@ -9,10 +9,11 @@ ghost use Rattle.net_graph.specs.Views.{pure_route, rows_of};
 ghost use Rattle.stable_check.specs.Checks.{begins_with, AreOwnValues, ImprovedBy, IsImproved, IsRelaxedAt, IsWalkOf};
 
 use crate::lookup::route_at;
+use crate::offers::arc_value;
 use crate::own::OwnValues;
 use crate::table::are_nodes_of;
 use crate::weight::carry;
-use alg_model::{Value, apply, order, same_value};
+use alg_model::{Value, order, same_value};
 use meta_base::{NoMemory, NodeId};
 use net_graph::{Arc, DestTable, Net, Route};
 use std::alloc::Global;
@@ -38,8 +39,9 @@ fn weighs(weight: Option<&Value>, value: &Value) -> bool
     }
 }
 
-// Whether the path of the node's route, if it has one, is a walk from the node that weighs the route's value.
-fn has_walk(
+/// Whether the path of the node's route, if it has one, is a walk from the node that weighs the route's value. It is
+/// refused for want of memory alone.
+pub fn has_walk(
     alloc: Global,
     net: &Net,
     table: &DestTable,
@@ -67,8 +69,9 @@ fn has_walk(
     Ok(weighs(weight.as_ref(), &route.value))
 }
 
-// Whether the value is preferred to that of the row; none is preferred to nothing, and a value to none.
-fn is_preferred(net: &Net, value: Option<&Value>, row: Option<&Route>) -> bool
+/// Whether the value is preferred to that of the row; none is preferred to nothing, and a value to none. It takes no
+/// memory.
+pub fn is_preferred(net: &Net, value: Option<&Value>, row: Option<&Route>) -> bool
     requires value { IfSome (option_map (λ v. pure_value v.now) value) (In (carrier net.now)) }
     requires row { IfSome (option_map (λ r. pure_route r.now) row) (λ r. In (carrier net.now) r.value) }
     ensures { Decides result (IsPreferred (carrier net.now)
@@ -89,11 +92,8 @@ fn arc_improves(alloc: Global, net: &Net, table: &DestTable, arc: &Arc) -> Resul
     requires arc { label_between net.now arc.now.tail.0 arc.now.head.0 ≡ Some (pure_label arc.now.label) }
     ensures { IfOk result (λ r. Decides r (ImprovedBy net.now (rows_of table.now) arc.now.tail.0 arc.now.head.0)) }
 {
-    let Some(next) = route_at(table, arc.head) else {
-        return Ok(false);
-    };
-    let image = apply(alloc, net.alg(), &arc.label, &next.value)?;
-    Ok(is_preferred(net, image.as_ref(), route_at(table, arc.tail)))
+    let value = arc_value(alloc, net, table, arc)?;
+    Ok(is_preferred(net, value.as_ref(), route_at(table, arc.tail)))
 }
 
 // Whether an arc of the node makes a value that is preferred to its row's.

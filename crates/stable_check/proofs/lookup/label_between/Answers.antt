@@ -1,4 +1,4 @@
-use Rattle.stable_check.proofs.ArcSearch.{between_found}
+use Rattle.stable_check.specs.ArcSearch.{between_found}
 use Rattle.stable_check.proofs.lookup.label_between.Goals as goal
 
 pub returns-in_err-arc : goal.returns-in_err-arc

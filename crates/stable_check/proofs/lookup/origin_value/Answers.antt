@@ -1,4 +1,4 @@
-use Rattle.stable_check.proofs.ArcSearch.{origin_found}
+use Rattle.stable_check.specs.ArcSearch.{origin_found}
 use Rattle.stable_check.proofs.lookup.origin_value.Goals as goal
 
 pub returns-in_err-origin : goal.returns-in_err-origin

@@ -6,8 +6,8 @@ use Rattle.net_graph.specs.Tables.{route_at}
 use Rattle.net_graph.specs.Views.{pure_route, rows_of}
 use Rattle.net_graph.specs.RouteLaws.{table_route_in}
 use Rattle.stable_check.specs.Checks.{begins_with, carried}
-use Rattle.stable_check.proofs.WalkWeights.{origin_small, weight_at_last, lent}
-use Rattle.stable_check.proofs.WalkRows.{not_nodes, walk_by_weight, some_node}
+use Rattle.stable_check.specs.WalkWeights.{origin_small, weight_at_last, lent}
+use Rattle.stable_check.specs.WalkRows.{not_nodes, walk_by_weight, some_node}
 use Rattle.stable_check.proofs.relaxed.has_walk.Goals as goal
 
 pub returns-then-not-are_nodes_of : goal.returns-then-not-are_nodes_of

@@ -2,8 +2,8 @@ use Rattle.std.proofs.Common.{ℕ, refl, subst, arith}
 use Rattle.std.specs.Bool.{Decides}
 use Rattle.net_graph.specs.Views.{pure_arc, rows_of}
 use Rattle.stable_check.specs.Checks.{ImprovedBy}
-use Rattle.stable_check.proofs.ArcSearch.{out_arc, arc_there, all_arcs, none_more, none_at_all}
-use Rattle.stable_check.proofs.Offering.{improved_has}
+use Rattle.stable_check.specs.ArcSearch.{out_arc, arc_there, all_arcs, none_more, none_at_all}
+use Rattle.stable_check.specs.Offering.{improved_has}
 use Rattle.stable_check.proofs.relaxed.is_improved.Goals as goal
 
 pub arc_improves-requires-clause-arc : goal.arc_improves-requires-clause-arc

@@ -1,6 +1,6 @@
 use Rattle.net_graph.specs.Views.{rows_of}
 use Rattle.stable_check.specs.Checks.{ImprovedBy}
-use Rattle.stable_check.proofs.ArcSearch.{NoneBefore}
+use Rattle.stable_check.specs.ArcSearch.{NoneBefore}
 use Rattle.stable_check.proofs.relaxed.is_improved.Given as goal
 
 -- no arc so far

@@ -1,6 +1,6 @@
 use Rattle.std.proofs.Common.{refl, arith}
 use Rattle.net_graph.specs.Views.{rows_of}
-use Rattle.stable_check.proofs.WalkRows.{all_relaxed}
+use Rattle.stable_check.specs.WalkRows.{all_relaxed}
 use Rattle.stable_check.proofs.relaxed.is_relaxed.Goals as goal
 
 pub returns : goal.returns

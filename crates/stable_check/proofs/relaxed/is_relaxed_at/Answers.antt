@@ -1,5 +1,5 @@
 use Rattle.net_graph.specs.Views.{rows_of}
-use Rattle.stable_check.proofs.Offering.{origin_in, rows_in}
+use Rattle.stable_check.specs.Offering.{origin_in, rows_in}
 use Rattle.stable_check.proofs.relaxed.is_relaxed_at.Goals as goal
 
 pub is_preferred-requires-clause-value : goal.is_preferred-requires-clause-value

@@ -1,7 +1,7 @@
 use Rattle.std.proofs.Common.{◌∙◌}
 use Rattle.net_graph.specs.Views.{pure_route, rows_of}
-use Rattle.stable_check.proofs.WalkWeights.{lent}
-use Rattle.stable_check.proofs.Offering.{rows_in, offer_in}
+use Rattle.stable_check.specs.WalkWeights.{lent}
+use Rattle.stable_check.specs.Offering.{rows_in, offer_in}
 use Rattle.stable_check.proofs.stable.arc_outdoes.Goals as goal
 
 pub outdoes-requires-clause-row : goal.outdoes-requires-clause-row

@@ -1,7 +1,7 @@
 use Rattle.net_graph.specs.Tables.{route_at}
 use Rattle.net_graph.specs.Views.{rows_of}
-use Rattle.stable_check.proofs.WalkWeights.{if_ok}
-use Rattle.stable_check.proofs.Offering.{outdone_no_choice, choice_by}
+use Rattle.stable_check.specs.WalkWeights.{if_ok}
+use Rattle.stable_check.specs.Offering.{outdone_no_choice, choice_by}
 use Rattle.stable_check.proofs.stable.is_choice.Goals as goal
 
 pub returns-then-branch : goal.returns-then-branch

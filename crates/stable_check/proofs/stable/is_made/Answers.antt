@@ -1,8 +1,8 @@
 use Rattle.std.proofs.Common.{◌∙◌}
 use Rattle.net_graph.specs.Tables.{route_at}
 use Rattle.net_graph.specs.Views.{pure_route, rows_of}
-use Rattle.stable_check.proofs.WalkWeights.{lent, if_ok}
-use Rattle.stable_check.proofs.Offering.{made_by}
+use Rattle.stable_check.specs.WalkWeights.{lent, if_ok}
+use Rattle.stable_check.specs.Offering.{made_by}
 use Rattle.stable_check.proofs.stable.is_made.Goals as goal
 
 pub returns : goal.returns

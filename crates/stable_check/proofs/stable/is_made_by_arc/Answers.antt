@@ -3,8 +3,8 @@ use Rattle.std.specs.Bool.{Decides}
 use Rattle.net_graph.specs.Tables.{route_at}
 use Rattle.net_graph.specs.Views.{pure_arc, rows_of}
 use Rattle.stable_check.specs.Checks.{MadeBy}
-use Rattle.stable_check.proofs.ArcSearch.{out_arc, arc_there, all_arcs, none_more, none_at_all}
-use Rattle.stable_check.proofs.Offering.{made_has}
+use Rattle.stable_check.specs.ArcSearch.{out_arc, arc_there, all_arcs, none_more, none_at_all}
+use Rattle.stable_check.specs.Offering.{made_has}
 use Rattle.stable_check.proofs.stable.is_made_by_arc.Goals as goal
 
 pub arc_makes-requires-clause-arc : goal.arc_makes-requires-clause-arc

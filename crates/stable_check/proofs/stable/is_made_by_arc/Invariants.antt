@@ -1,7 +1,7 @@
 use Rattle.net_graph.specs.Tables.{route_at}
 use Rattle.net_graph.specs.Views.{rows_of}
 use Rattle.stable_check.specs.Checks.{MadeBy}
-use Rattle.stable_check.proofs.ArcSearch.{NoneBefore}
+use Rattle.stable_check.specs.ArcSearch.{NoneBefore}
 use Rattle.stable_check.proofs.stable.is_made_by_arc.Given as goal
 
 -- no arc so far

@@ -1,8 +1,8 @@
 use Rattle.std.proofs.Common.{refl, ◌∙◌}
 use Rattle.net_graph.specs.Tables.{route_at}
 use Rattle.net_graph.specs.Views.{pure_route, rows_of}
-use Rattle.stable_check.proofs.WalkWeights.{lent, if_ok}
-use Rattle.stable_check.proofs.Offering.{rows_in, own_offer_in, outdone_own, outdone_by}
+use Rattle.stable_check.specs.WalkWeights.{lent, if_ok}
+use Rattle.stable_check.specs.Offering.{rows_in, own_offer_in, outdone_own, outdone_by}
 use Rattle.stable_check.proofs.stable.is_outdone.Goals as goal
 
 pub outdoes-requires-clause-row : goal.outdoes-requires-clause-row

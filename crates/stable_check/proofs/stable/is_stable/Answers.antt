@@ -1,6 +1,6 @@
 use Rattle.std.proofs.Common.{refl, arith}
 use Rattle.net_graph.specs.Views.{rows_of}
-use Rattle.stable_check.proofs.Offering.{all_choices}
+use Rattle.stable_check.specs.Offering.{all_choices}
 use Rattle.stable_check.proofs.stable.is_stable.Goals as goal
 
 pub returns : goal.returns

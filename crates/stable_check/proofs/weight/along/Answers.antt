@@ -4,7 +4,7 @@ use Rattle.alg_model.specs.declared.edition.TheConstants.{MAX_LABEL_NUMBER}
 use Rattle.alg_model.specs.Laws.{at_most_more}
 use Rattle.alg_model.specs.Views.{pure_label, pure_value}
 use Rattle.stable_check.specs.declared.weight.TheConstants.{MAX_WALK_NODES}
-use Rattle.stable_check.proofs.Offering.{label_is}
+use Rattle.stable_check.specs.Offering.{label_is}
 use Rattle.stable_check.proofs.weight.along.Goals as goal
 
 pub apply-requires-clause-label : goal.apply-requires-clause-label

@@ -2,7 +2,7 @@ use Rattle.std.proofs.Common.{◌≤◌, ◌-◌, ◌+◌, length, option_map, s
 use Rattle.alg_model.specs.Views.{pure_value}
 use Rattle.net_graph.specs.Walks.{along}
 use Rattle.stable_check.specs.declared.weight.TheConstants.{MAX_WALK_NODES}
-use Rattle.stable_check.proofs.WalkWeights.{carried_last, carried_more, node_within, any_small, along_small, lent}
+use Rattle.stable_check.specs.WalkWeights.{carried_last, carried_more, node_within, any_small, along_small, lent}
 use Rattle.stable_check.proofs.weight.carry.Goals as goal
 
 pub loop-at-init : goal.loop-at-init

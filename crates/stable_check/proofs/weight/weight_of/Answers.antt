@@ -2,7 +2,7 @@ use Rattle.std.proofs.Common.{length, sym, ◌∙◌, ap}
 use Rattle.meta_base.specs.NodePaths.{numbers}
 use Rattle.alg_model.specs.Views.{pure_value}
 use Rattle.stable_check.specs.Checks.{carried}
-use Rattle.stable_check.proofs.WalkWeights.{empty_weight, origin_small, others_no_weight, weight_at_last, no_walk_no_weight, if_ok, none_of, not_empty}
+use Rattle.stable_check.specs.WalkWeights.{empty_weight, origin_small, others_no_weight, weight_at_last, no_walk_no_weight, if_ok, none_of, not_empty}
 use Rattle.stable_check.proofs.weight.weight_of.Goals as goal
 use Rattle.stable_check.proofs.weight.weight_of.Goals.{then-is_empty-via-then-is_empty, then-is_empty-via-else-is_empty+then-not-are_nodes_of}
 

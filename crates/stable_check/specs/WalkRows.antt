@@ -11,15 +11,15 @@ use Rattle.net_graph.specs.Tables.{PureRow, TableOf, Relaxed, HasWalks, route_at
 use Rattle.net_graph.specs.Walks.{Walk, Weight}
 use Rattle.net_graph.specs.RouteLaws.{no_route_past}
 use Rattle.stable_check.specs.Checks.{begins_with, IsWalkOf, IsRelaxedAt}
-use Rattle.stable_check.proofs.WalkWeights.{weighs_walk, walk_nodes}
+use Rattle.stable_check.specs.WalkWeights.{weighs_walk, walk_nodes}
 
-begins : (p : List ℕ) (i : ℕ) → begins_with p i ≡ true → (q : List ℕ) × (p ≡ i ∷ q)
+pub begins : (p : List ℕ) (i : ℕ) → begins_with p i ≡ true → (q : List ℕ) × (p ≡ i ∷ q)
 begins [] i e = absurd (cc)
 begins (j ∷ p) i e =
     let same : j ≡ i = grind (arith, nat_tests) in
     (p, rw same refl)
 
-begun : (p q : List ℕ) (i : ℕ) → p ≡ i ∷ q → begins_with p i ≡ true
+pub begun : (p q : List ℕ) (i : ℕ) → p ≡ i ∷ q → begins_with p i ≡ true
 begun p q i e =
     let same : (i == i) ≡ true = grind (arith, nat_tests) in
     rw (e, same) refl

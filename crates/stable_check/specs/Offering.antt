@@ -39,7 +39,7 @@ own_offer_in net n dest i = by (origin_value net dest i) (origin_in net n dest i
     by (Some v) h = h
 
 -- an offer by an arc, from what makes it
-offer_made : (net : PureNet) (reported : Reported) (i j : ℕ) (s : PureRoute) → offer_by net reported i j ≡ Some s → IsOfferBy net reported i j s
+pub offer_made : (net : PureNet) (reported : Reported) (i j : ℕ) (s : PureRoute) → offer_by net reported i j ≡ Some s → IsOfferBy net reported i j s
 offer_made net reported i j s e = by (reported j) refl e
   where
     image : (next : PureRoute) → reported j ≡ Some next → is_among next.path i ≡ false → (o : Option PureValue) → along net i j (Some next.value) ≡ o
@@ -59,7 +59,7 @@ offer_made net reported i j s e = by (reported j) refl e
     by None t h = absurd (cc)
     by (Some next) t h = loop next t (is_among next.path i) refl h
 
-offer_found : (net : PureNet) (reported : Reported) (i j : ℕ) (s : PureRoute) → IsOfferBy net reported i j s → offer_by net reported i j ≡ Some s
+pub offer_found : (net : PureNet) (reported : Reported) (i j : ℕ) (s : PureRoute) → IsOfferBy net reported i j s → offer_by net reported i j ≡ Some s
 offer_found net reported i j s o = rw (o.is_reported, o.loopless, o.weighs, ← o.path) refl
 
 -- values and offers come by arcs alone
@@ -74,7 +74,7 @@ improved_has net n rows i j h = by (along net i j (value_at rows j)) refl h
     by None e h = none (value_at rows i) h
     by (Some v) e h = along_has net n i j (value_at rows j) v e
 
-offer_has : (net : PureNet) → IsNet net → (reported : Reported) (i j : ℕ) (s : PureRoute) → offer_by net reported i j ≡ Some s → has_arc net i j ≡ true
+pub offer_has : (net : PureNet) → IsNet net → (reported : Reported) (i j : ℕ) (s : PureRoute) → offer_by net reported i j ≡ Some s → has_arc net i j ≡ true
 offer_has net n reported i j s e = let o = offer_made net reported i j s e in along_has net n i j (Some o.next.value) s.value o.weighs
 
 pub outdone_has : (net : PureNet) → IsNet net → (reported : Reported) (i j : ℕ) → OutdoneBy net reported i j → has_arc net i j ≡ true
@@ -102,7 +102,7 @@ offer_in net n dest rows h i j = by (offer_by net (route_at rows) i j) refl
         of_some (In (carrier net)) (along net i j (Some o.next.value)) s.value (along_in net n i j (Some o.next.value) (table_route_in net dest rows h j o.next o.is_reported).value_in) o.weighs
 
 -- an own offer
-own_made : (net : PureNet) (dest i : ℕ) (s : PureRoute) → own_offer net dest i ≡ Some s → (origin_value net dest i ≡ Some s.value) × (s.path ≡ i ∷ [])
+pub own_made : (net : PureNet) (dest i : ℕ) (s : PureRoute) → own_offer net dest i ≡ Some s → (origin_value net dest i ≡ Some s.value) × (s.path ≡ i ∷ [])
 own_made net dest i s e = by (origin_value net dest i) refl e
   where
     by : (o : Option PureValue) → origin_value net dest i ≡ o → option_map (λ (v : PureValue). record { value = v; path = i ∷ [] }) o ≡ Some s → (o ≡ Some s.value) × (s.path ≡ i ∷ [])
@@ -111,7 +111,7 @@ own_made net dest i s e = by (origin_value net dest i) refl e
         let k : record { value = v; path = i ∷ [] } ≡ s = cc in
         (ap Some (ap (λ (r : PureRoute). r.value) k), sym (ap (λ (r : PureRoute). r.path) k))
 
-own_found : (net : PureNet) (dest i : ℕ) (s : PureRoute) → origin_value net dest i ≡ Some s.value → s.path ≡ i ∷ [] → own_offer net dest i ≡ Some s
+pub own_found : (net : PureNet) (dest i : ℕ) (s : PureRoute) → origin_value net dest i ≡ Some s.value → s.path ≡ i ∷ [] → own_offer net dest i ≡ Some s
 own_found net dest i s e f = rw (e, ← f) refl
 
 -- a row is outdone by the own offer, or by an arc, or not at all

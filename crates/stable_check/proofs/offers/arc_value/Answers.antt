@@ -7,7 +7,7 @@ use Rattle.net_graph.specs.Nets.{label_between}
 use Rattle.net_graph.specs.Views.{pure_route, rows_of}
 use Rattle.net_graph.specs.ArcLaws.{of_some, IsArc, arcs_are}
 use Rattle.net_graph.specs.RouteLaws.{table_route_in}
-use Rattle.stable_check.proofs.offers.arc_offer.Goals as goal
+use Rattle.stable_check.proofs.offers.arc_value.Goals as goal
 
 pub apply-requires-clause-label : goal.apply-requires-clause-label
 apply-requires-clause-label c =

@@ -1,4 +1,4 @@
--- What is found in a list, and where.
+-- What is found in a list, and where. Lemmas, so that proofs of other crates may cite them.
 use Rattle.std.proofs.Common.{◌≡◌, ℕ, zero, suc, List, [], ◌∷◌, Some, Bool, true, false, map, option_map, filter, refl}
 use Rattle.std.specs.List.{slice_get, find}
 

@@ -10,7 +10,7 @@ use Rattle.net_graph.specs.Views.{pure_arc, pure_origin}
 use Rattle.net_graph.specs.declared.parts.Arc.{Arc}
 use Rattle.net_graph.specs.declared.parts.Origin.{Origin}
 use Rattle.net_graph.specs.ArcLaws.{any_find, find-filter, found_between}
-use Rattle.stable_check.proofs.Lists.{IsPlaced, find_placed, filter_placed, find-map}
+use Rattle.stable_check.specs.Lists.{IsPlaced, find_placed, filter_placed, find-map}
 
 -- an arc of the node is the one to its head
 pub record IsOut (net : PureNet) (i : ℕ) (a : PureArc) : Type 0 where

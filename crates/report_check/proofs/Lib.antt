@@ -1,0 +1,12 @@
+pub mod Hopping
+pub mod RowSearch
+pub mod TableFindings
+pub mod Runs
+pub mod Refuting
+pub mod Equals
+pub mod NextHops
+pub mod Homeward
+pub mod Reading
+pub mod Solid
+pub mod PrintedLines
+pub mod PrintedRows

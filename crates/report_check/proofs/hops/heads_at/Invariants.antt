@@ -1,0 +1,10 @@
+use Rattle.std.proofs.Common.{◌≡◌, map, take, filter}
+use Rattle.meta_base.specs.NodePaths.{numbers}
+use Rattle.net_graph.specs.Nets.{PureArc, arcs_from}
+use Rattle.net_graph.specs.Views.{rows_of}
+use Rattle.report_check.specs.Hops.{is_hop}
+use Rattle.report_check.proofs.hops.heads_at.Given as goal
+
+-- the heads of the arcs so far
+abbrev pub invariant-loop-arc : goal.invariant-loop-arc
+invariant-loop-arc l = numbers l.heads ≡ map (λ (a : PureArc). a.head) (filter (is_hop l.net (rows_of l.table)) (take l.arc-index (arcs_from l.net l.fn.node.0)))

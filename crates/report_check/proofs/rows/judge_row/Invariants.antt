@@ -1,0 +1,19 @@
+use Rattle.std.proofs.Common.{◌≡◌, true}
+use Rattle.std.specs.Option.{MatchOption}
+use Rattle.meta_base.specs.NodePaths.{numbers}
+use Rattle.net_graph.specs.Views.{pure_route, rows_of}
+use Rattle.report_check.specs.Judged.{IsBeatenBy, IsBetterOffer}
+use Rattle.report_check.proofs.RowSearch.{MadeSoFar, NotBeatenYet, NotOutdoneYet}
+use Rattle.report_check.proofs.rows.judge_row.Given as goal
+
+-- what the origin and the arcs so far show
+abbrev pub invariant-loop-arc : goal.invariant-loop-arc
+invariant-loop-arc l = record {
+  beating : l.wanted.optimal ≡ true → MatchOption l.found.beating
+      (NotBeatenYet l.net l.table.dest.0 (rows_of l.table) l.fn.node.0 l.arc-index)
+      (λ walk. IsBeatenBy l.net l.table.dest.0 (rows_of l.table) l.fn.node.0 (numbers walk));
+  made : l.wanted.stable ≡ true → MadeSoFar l.net l.table.dest.0 (rows_of l.table) l.fn.node.0 l.arc-index l.found.offers.is_made;
+  better : l.wanted.stable ≡ true → MatchOption l.found.offers.better
+      (NotOutdoneYet l.net l.table.dest.0 (rows_of l.table) l.fn.node.0 l.arc-index)
+      (λ s. IsBetterOffer l.net l.table.dest.0 (rows_of l.table) l.fn.node.0 (pure_route s));
+}
