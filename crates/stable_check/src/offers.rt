@@ -89,11 +89,11 @@ pub(crate) fn arc_offer(
     alloc: Global,
     net: &Net,
     table: &DestTable,
-    arc: &Arc,
+    arc: &Arc<'_>,
 ) -> Result<Option<Route>, NoMemory>
     requires net { IsNet net.now }
     requires table { TableOf net.now table.now.dest.0 (rows_of table.now) }
-    requires arc { label_between net.now arc.now.tail.0 arc.now.head.0 ≡ Some (pure_label arc.now.label) }
+    requires arc { label_between net.now arc.now.tail.0 arc.now.head.0 ≡ Some (pure_label arc.now.label.now) }
     ensures { IfOk result (λ offer. option_map pure_route offer ≡
         offer_by net.now (route_at (rows_of table.now)) arc.now.tail.0 arc.now.head.0) }
 {
