@@ -50,7 +50,7 @@ pub pair_more : (pairs new : List (ℕ × ℕ)) (arcs : List PureArc) (i : ℕ) 
 pair_more pairs new arcs i a e p m = rw (p, take_got arcs i a e, map-append arc_pair (take i arcs) (a ∷ []), m) refl
 
 -- a place within a list has its item, whatever stands for those past the end
-get_or_any : {X : Type 0} (xs : List X) (i : ℕ) (a b : X) → i < length xs → get_or xs i a ≡ get_or xs i b
+pub get_or_any : {X : Type 0} (xs : List X) (i : ℕ) (a b : X) → i < length xs → get_or xs i a ≡ get_or xs i b
 get_or_any [] i a b h = absurd (omega arith)
 get_or_any (x ∷ xs) zero a b h = refl
 get_or_any (x ∷ xs) (suc i) a b h = get_or_any xs i a b (omega arith)

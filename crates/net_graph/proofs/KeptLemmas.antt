@@ -17,6 +17,10 @@ use Rattle.net_graph.specs.declared.arcs.KeptArc.{KeptArc}
 use Rattle.net_graph.specs.declared.arcs.LabelId.{LabelId}
 use Rattle.net_graph.proofs.NetLemmas.{any_mapped, filter_mapped, all_got}
 
+-- what stands for an arc past the end of a list
+abbrev pub no_arc : KeptArc
+no_arc = record { id = record { 0 = 0 }; tail = record { 0 = 0 }; head = record { 0 = 0 }; label = record { 0 = 0 } }
+
 -- an arc goes between the same nodes, whatever its label
 pub any_kept : (labels : List PureLabel) (tail head : ℕ) (arcs : List KeptArc) → list_any (is_arc_between tail head) (map (kept_arc labels) arcs) ≡ list_any (is_kept_between tail head) arcs
 any_kept labels tail head arcs = any_mapped (kept_arc labels) (is_arc_between tail head) arcs
@@ -115,7 +119,7 @@ one_kept tail head m made new arcs i d h other p n e =
     let left = filter others (take i arcs) in
     let count : m ≡ length left = n ∙ ap length e ∙ length-kept_from 0 left in
     let passed : filter others (take i arcs ++ a ∷ []) ≡ left ++ a ∷ [] = filter-append others (take i arcs) (a ∷ []) ∙ ap (λ b. left ++ cond (not b) (a ∷ []) []) other in
-    rw (p, take_more arcs i d h, passed, numbered_more 0 m left a count, e) refl
+    rw (p, take_more arcs i d h, passed, numbered_more 0 m left a (omega (arith, count)), e) refl
 
 pub one_left_out : (tail head : ℕ) (made arcs : List KeptArc) (i : ℕ) (d : KeptArc) → i < length arcs → is_kept_between tail head (get_or arcs i d) ≡ true
     → made ≡ kept_without tail head (take i arcs) → made ≡ kept_without tail head (take (i + 1) arcs)

@@ -16,8 +16,8 @@ index-requires c =
     let within = rw (← c.self.view_is) at c.requires in
     omega (arith, count, within, c.self.inside.arc_spots.ok.0)
 
-pub item-requires : goal.item-requires
-item-requires c =
+pub item-arc-requires : goal.item-arc-requires
+item-arc-requires c =
     let count = arcs_counted (map pure_label c.self.inside.labels.items) c.self.inside.out c.self.inside.arc_spots.items c.self.invariant.filed.arc_spots in
     let within = rw (← c.self.view_is, ← count) at c.requires in
     let at = item_at-stand c.self.inside.out c.self.inside.arc_spots.items (items_at c.self.inside.out c.self.inside.arc_spots.items) c.args.id.0 c.index.result.now c.self.invariant.filed.arc_spots within c.index.ensures in
@@ -26,13 +26,13 @@ item-requires c =
 pub with_label-requires : goal.with_label-requires
 with_label-requires c =
     let within = label_read (length (map pure_label c.self.inside.labels.items)) c.self.inside.out c.index.result.now c.item-arc.result.now c.self.invariant.filed.labelled c.item-arc.ensures in
-    rw (length-map c.self.inside.labels.items pure_label) at within
+    rw c.deref.ensures.value (rw (length-map c.self.inside.labels.items pure_label) at within)
 
 pub returns-clause-arc : goal.returns-clause-arc
 returns-clause-arc c =
     let count = arcs_counted (map pure_label c.self.inside.labels.items) c.self.inside.out c.self.inside.arc_spots.items c.self.invariant.filed.arc_spots in
     let within = rw (← c.self.view_is, ← count) at c.requires in
-    rw (← c.self.view_is, c.with_label.ensures) (arc_read (map pure_label c.self.inside.labels.items) c.self.inside.out c.self.inside.arc_spots.items c.args.id.0 c.index.result.now c.item-arc.result.now c.self.invariant.filed.arc_spots within c.index.ensures c.item-arc.ensures)
+    rw (← c.self.view_is, c.with_label.ensures, c.deref.ensures.value) (arc_read (map pure_label c.self.inside.labels.items) c.self.inside.out c.self.inside.arc_spots.items c.args.id.0 c.index.result.now c.item-arc.result.now c.self.invariant.filed.arc_spots within c.index.ensures c.item-arc.ensures)
 
 pub returns-clause-within : goal.returns-clause-within
 returns-clause-within c =
@@ -40,4 +40,4 @@ returns-clause-within c =
     let count = arcs_counted (map pure_label c.self.inside.labels.items) c.self.inside.out c.self.inside.arc_spots.items c.self.invariant.filed.arc_spots in
     let within = rw (← c.self.view_is, ← count) at c.requires in
     let read = arc_read (map pure_label c.self.inside.labels.items) c.self.inside.out c.self.inside.arc_spots.items c.args.id.0 c.index.result.now c.item-arc.result.now c.self.invariant.filed.arc_spots within c.index.ensures c.item-arc.ensures in
-    rw (← c.self.view_is) (all_got (IsArcOf net.alg (length net.nodes)) net.arcs c.args.id.0 (pure_arc c.with_label.result) c.self.invariant.known.is_net.arcs_in (rw c.with_label.ensures read))
+    rw (← c.self.view_is) (all_got (IsArcOf net.alg (length net.nodes)) net.arcs c.args.id.0 (pure_arc c.with_label.result) c.self.invariant.known.is_net.arcs_in (rw (c.with_label.ensures, c.deref.ensures.value) read))
