@@ -1,7 +1,7 @@
 ghost use Rattle.std.specs.Prelude.{◌≡◌, ◌<◌, ◌≤◌, Some, true, map, find, length, position, slice_get, option_map, IfOk, IfSome};
 ghost use Rattle.std.specs.List.{AllByRecursion};
 ghost use Rattle.net_graph.specs.declared.limits.TheConstants.{MOST_NODES, MOST_DESTS};
-ghost use Rattle.net_graph.specs.Nets.{IsNet, IsArcOf, IsOriginOf, is_name, number_of, has_arc, has_origin, is_arc_between, is_origin_at, arcs_from, arcs_to, origins_of};
+ghost use Rattle.net_graph.specs.Nets.{CanBeNumbered, IsNet, IsArcOf, IsOriginOf, is_name, number_of, has_arc, has_origin, is_arc_between, is_origin_at, arcs_from, arcs_to, origins_of};
 
 use crate::arcs::{Arc, Arcs, KeptArc, copy_labels};
 use crate::change::Change;
@@ -220,7 +220,8 @@ impl Net {
 
     // Equal arcs, in file order.
     fn copy_arcs(&self, alloc: Global) -> Result<Arcs, NoMemory>
-        ensures { IfOk result (λ arcs. arcs ≡ self.now.arcs) }
+        ensures arcs { IfOk result (λ arcs. arcs ≡ self.now.arcs) }
+        ensures few { IfOk result (λ arcs. CanBeNumbered (length arcs)) }
     {
         let labels = copy_labels(alloc, &self.labels)?;
         let mut arcs = Vec::with_capacity(alloc, self.arc_spots.len())?;

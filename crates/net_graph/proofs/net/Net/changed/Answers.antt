@@ -10,26 +10,26 @@ use Rattle.net_graph.proofs.net.Net.changed.Goals as goal
 
 pub copy_with-requires : goal.copy_with-requires
 copy_with-requires c =
-    let arcs = rw (c.in_ok-copy_arcs.ensures, ← c.self.view_is) at c.in_ok-arcs.ensures in
+    let arcs = rw (c.in_ok-copy_arcs.ensures.arcs, ← c.self.view_is) at c.in_ok-arcs.ensures in
     let may = rw (← c.self.view_is) at c.requires in
-    rw (c.deref.ensures.value, arcs) (changed_is_net (net_of c.self.inside) (pure_change c.args.change.now) c.self.invariant.known.is_net may).arc_apart
+    rw arcs (changed_is_net (net_of c.self.inside) (pure_change c.args.change.now) c.self.invariant.known.is_net may).arc_apart
 
 pub from_parts-requires : goal.from_parts-requires
 from_parts-requires c =
     let inside = c.self.inside in
-    let arcs = rw (c.in_ok-copy_arcs.ensures, ← c.self.view_is) at c.in_ok-arcs.ensures in
+    let arcs = rw (c.in_ok-copy_arcs.ensures.arcs, ← c.self.view_is) at c.in_ok-arcs.ensures in
     let origins = rw (← c.self.view_is) at c.in_ok-origins.ensures in
     let may = rw (← c.self.view_is) at c.requires in
-    let known = rw c.deref.ensures.value at c.in_ok-known.ensures in
+    let known = c.in_ok-known.ensures in
     changed_draft inside.known c.in_ok-known.known (arcs_of inside.labels.items (items_at inside.out inside.arc_spots.items)) c.in_ok-arcs.arcs (items_at inside.homes inside.origin_spots.items) c.in_ok-origins.origins.items
     (pure_change c.args.change.now) c.self.invariant.known may arcs origins known
 
 pub returns : goal.returns
 returns c =
     let inside = c.self.inside in
-    let arcs = rw (c.in_ok-copy_arcs.ensures, ← c.self.view_is) at c.in_ok-arcs.ensures in
+    let arcs = rw (c.in_ok-copy_arcs.ensures.arcs, ← c.self.view_is) at c.in_ok-arcs.ensures in
     let origins = rw (← c.self.view_is) at c.in_ok-origins.ensures in
-    let known = rw c.deref.ensures.value at c.in_ok-known.ensures in
+    let known = c.in_ok-known.ensures in
     let parts = changed_parts inside.known c.in_ok-known.known (arcs_of inside.labels.items (items_at inside.out inside.arc_spots.items)) c.in_ok-arcs.arcs (items_at inside.homes inside.origin_spots.items) c.in_ok-origins.origins.items
     (pure_change c.args.change.now) arcs origins known in
     let whole = c.from_parts.ensures ∙ parts ∙ ap (λ net. changed net (pure_change c.args.change.now)) c.self.view_is in
