@@ -4,7 +4,6 @@ use Rattle.std.proofs.lemmas.List.{map-append, take_more}
 use Rattle.std.proofs.lemmas.Option.{slice_get_within, get_or_from_slice_get}
 use Rattle.std.specs.List.{list_any, AllZip}
 use Rattle.std.specs.declared.vec.Vec.{Vec}
-use Rattle.alg_model.specs.Expressions.{PureLabel}
 use Rattle.net_graph.specs.Nets.{PureArc, IsNet, AreDistinct, joins_same}
 use Rattle.net_graph.specs.Changes.{PureChange, changed_arcs, changed, MayChange}
 use Rattle.net_graph.specs.ChangeLaws.{changed_is_net}

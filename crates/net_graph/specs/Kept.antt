@@ -1,5 +1,5 @@
 -- Arcs as a network keeps them, with the list of its labels.
-use Rattle.std.specs.Prelude.{◌<◌, ◌+◌, ℕ, List, [], ◌∷◌, Bool, ◌==◌, ◌&&◌, not, map, filter, length, slice_index_or, if◌then◌else◌}
+use Rattle.std.specs.Prelude.{◌<◌, ◌+◌, ℕ, List, [], ◌∷◌, Bool, ◌==◌, ◌&&◌, not, map, filter, slice_index_or, if◌then◌else◌}
 use Rattle.std.specs.List.{AllByRecursion}
 use Rattle.alg_model.specs.Expressions.{PureLabel, keep}
 use Rattle.alg_model.specs.Views.{pure_label}

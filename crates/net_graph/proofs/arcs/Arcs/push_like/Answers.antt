@@ -1,4 +1,4 @@
-use Rattle.std.proofs.Common.{◌≡◌, ◌<◌, ◌∙◌, length, map, refl}
+use Rattle.std.proofs.Common.{◌<◌, ◌∙◌, length, map, refl}
 use Rattle.std.proofs.lemmas.List.{length-map}
 use Rattle.alg_model.specs.Views.{pure_label}
 use Rattle.net_graph.specs.Kept.{kept_arc}

@@ -1,10 +1,6 @@
-use Rattle.std.proofs.Common.{◌∙◌, ap, sym, length, map, List}
+use Rattle.std.proofs.Common.{◌∙◌, length, map}
 use Rattle.std.proofs.lemmas.List.{length-map}
 use Rattle.alg_model.specs.Views.{pure_label}
-use Rattle.net_graph.specs.Drafts.{net_with}
-use Rattle.net_graph.specs.Kept.{HaveLabels, arcs_of}
-use Rattle.net_graph.specs.Nets.{PureArc}
-use Rattle.net_graph.specs.Parts.{IsKnown}
 use Rattle.net_graph.proofs.GroupLemmas.{items_at-stand}
 use Rattle.net_graph.proofs.FiledLemmas.{heads_in, tails_in, dests_in, filed_known, filed_net}
 use Rattle.net_graph.proofs.draft.NetDraft.finish.Goals as goal

@@ -1,4 +1,4 @@
-use Rattle.std.proofs.Common.{◌∙◌, ap, refl, sym, arith, length, map, Some}
+use Rattle.std.proofs.Common.{refl, arith, length, map}
 use Rattle.std.proofs.lemmas.List.{length-map}
 use Rattle.alg_model.specs.Views.{pure_label}
 use Rattle.net_graph.specs.Nets.{IsArcOf}

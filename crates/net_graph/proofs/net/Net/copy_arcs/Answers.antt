@@ -1,10 +1,9 @@
-use Rattle.std.proofs.Common.{◌≡◌, ◌∙◌, List, ap, arith, length, map, refl, sym, take}
+use Rattle.std.proofs.Common.{◌≡◌, ◌∙◌, List, ap, arith, length, map, refl, sym}
 use Rattle.std.proofs.lemmas.List.{length-map, take_all}
 use Rattle.alg_model.specs.Expressions.{PureLabel}
 use Rattle.alg_model.specs.Views.{pure_label}
 use Rattle.net_graph.specs.Groups.{items_at}
-use Rattle.net_graph.specs.Kept.{HaveLabels, kept_arc}
-use Rattle.net_graph.specs.declared.arcs.KeptArc.{KeptArc}
+use Rattle.net_graph.specs.Kept.{kept_arc}
 use Rattle.net_graph.proofs.CopyLemmas.{item_stands, take_got}
 use Rattle.net_graph.proofs.FiledLemmas.{have_at}
 use Rattle.net_graph.proofs.GroupLemmas.{length-stand}

@@ -1,4 +1,4 @@
-use Rattle.std.proofs.Common.{◌≡◌, List, ◌∙◌, ap, map}
+use Rattle.std.proofs.Common.{List, ◌∙◌, ap, map}
 use Rattle.std.proofs.lemmas.List.{length-map}
 use Rattle.alg_model.specs.Views.{pure_label}
 use Rattle.alg_model.specs.declared.tree.Label.{Label}
