@@ -112,6 +112,9 @@ command_of_below words kind.Run parts some below =
 command_of_below words kind.Trace parts some below =
     or_fault _ (HasItsWords words) BadNumber (with_good_numbers (Trace (slice_index (places parts) 0) (slice_index (places parts) 1)) (HasItsWords words) parts
     (λ workers turns h i. (below_at (length words) (places parts) 0 some below, below_at (length words) (places parts) 1 some below, h, i)))
+command_of_below words kind.Verify parts some below =
+    (below_at (length words) (places parts) 0 some below, below_at (length words) (places parts) 1 some below, below_at (length words) (places parts) 2 some below)
+command_of_below words kind.Hops parts some below = (below_at (length words) (places parts) 0 some below, below_at (length words) (places parts) 1 some below)
 command_of_below words kind.Gadget parts some below = below_at (length words) (places parts) 0 some below
 command_of_below words kind.Demo parts some below =
     by (argument_number 0 greatest_seed 0 parts) (argument_number min_demo_nodes max_demo_nodes 1 parts) (nodes_bounded parts)

@@ -53,6 +53,18 @@ pub enum Command {
         workers: u32,
         turns: u64,
     },
+    /// `verify FILE NET REPORT` asks for a judgement of the table of routes in a report file: whether no walk beats its
+    /// routes, and whether each is its node's choice.
+    Verify {
+        file: usize,
+        net: usize,
+        report: usize,
+    },
+    /// `hops FILE NET` asks for all equally good next hops of each row of `route`.
+    Hops {
+        file: usize,
+        net: usize,
+    },
     /// `gadget FILE` asks for a network of two routers on which the policy of an expression file, if it isn't
     /// monotone, has two stable states.
     Gadget {

@@ -140,6 +140,15 @@ fn command_of(kind: Kind, rest: &[Text]) -> Result<Command, WordsFault>
         }),
         Kind::Run => run_of(file, given_argument(rest, 1), rest),
         Kind::Trace => trace_of(file, given_argument(rest, 1), rest),
+        Kind::Verify => Ok(Command::Verify {
+            file,
+            net: given_argument(rest, 1),
+            report: given_argument(rest, 2),
+        }),
+        Kind::Hops => Ok(Command::Hops {
+            file,
+            net: given_argument(rest, 1),
+        }),
         Kind::Gadget => Ok(Command::Gadget { file }),
         Kind::Demo => demo_of(rest),
     }

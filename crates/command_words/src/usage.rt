@@ -12,6 +12,8 @@ pub enum Kind {
     Stable,
     Run,
     Trace,
+    Verify,
+    Hops,
     Gadget,
     Demo,
 }
@@ -52,7 +54,7 @@ impl Kind {
     ghost use Rattle.command_words.specs.Usages.{has_word, kinds, pure_usage, usage_of};
 
     // All commands.
-    const ALL: [Kind; 9] = [
+    const ALL: [Kind; 11] = [
         Kind::Check,
         Kind::Code,
         Kind::Route,
@@ -60,6 +62,8 @@ impl Kind {
         Kind::Stable,
         Kind::Run,
         Kind::Trace,
+        Kind::Verify,
+        Kind::Hops,
         Kind::Gadget,
         Kind::Demo,
     ];
@@ -76,6 +80,8 @@ impl Kind {
             Kind::Stable => Usage::of("stable", 2, 2, &[]),
             Kind::Run => Usage::of("run", 2, 2, &RUN_FLAGS),
             Kind::Trace => Usage::of("trace", 2, 2, &RUN_FLAGS),
+            Kind::Verify => Usage::of("verify", 3, 3, &[]),
+            Kind::Hops => Usage::of("hops", 2, 2, &[]),
             Kind::Gadget => Usage::of("gadget", 1, 1, &[]),
             Kind::Demo => Usage::of("demo", 2, 2, &[]),
         }

@@ -32,4 +32,6 @@ pub enum Which {
     Expr,
     /// The file of the network.
     Network,
+    /// The file of a report of routes.
+    Report,
 }

@@ -2,10 +2,10 @@
 use Rattle.std.specs.Prelude.{ℕ}
 use Rattle.alg_model.specs.Properties.{PureProperty}
 use Rattle.alg_classes.specs.Instances.{pure_instance, pure_property}
-use Rattle.report_text.specs.Refusals.{PureRefusal, words, expr, network, misses, read, long, memory}
+use Rattle.report_text.specs.Refusals.{PureRefusal, words, expr, network, report, misses, read, long, memory}
 use Rattle.command_words.specs.Words.{words_fault_number}
 use Rattle.metacli.specs.declared.ended.Answer.{Answer}
-use Rattle.metacli.specs.declared.ended.Answer.TheVariants.{Done, Spent, Unmet, BadWords, BadExpr, BadNet, Misses, ReadFault, WriteFault, NoMemory, TooLong}
+use Rattle.metacli.specs.declared.ended.Answer.TheVariants.{Done, Spent, Unmet, BadWords, BadExpr, BadNet, BadReport, Misses, ReadFault, WriteFault, NoMemory, TooLong}
 use Rattle.metacli.specs.declared.outcome.Stop.{Stop}
 use Rattle.metacli.specs.declared.outcome.Stop.TheVariants as stop
 
@@ -28,6 +28,7 @@ pure_answer (Unmet p) = unmet (pure_property p)
 pure_answer (BadWords f) = refused (words (words_fault_number f))
 pure_answer (BadExpr f) = refused (expr f)
 pure_answer (BadNet f) = refused (network f)
+pure_answer (BadReport f) = refused (report f)
 pure_answer (Misses arc x) = refused (misses arc.0 (pure_instance x))
 pure_answer (ReadFault w) = refused (read w)
 pure_answer WriteFault = write_fault
@@ -38,6 +39,7 @@ abbrev pub pure_stop : Stop → PureRefusal
 pure_stop (stop.Words f) = words (words_fault_number f)
 pure_stop (stop.Expr f) = expr f
 pure_stop (stop.Network f) = network f
+pure_stop (stop.Report f) = report f
 pure_stop (stop.Read w) = read w
 pure_stop (stop.Long w) = long w
 pure_stop stop.Memory = memory
@@ -47,6 +49,7 @@ status_of Done = 0
 status_of (BadWords f) = 1
 status_of (BadExpr f) = 2
 status_of (BadNet f) = 2
+status_of (BadReport f) = 2
 status_of (Misses arc x) = 3
 status_of (Unmet p) = 3
 status_of Spent = 4

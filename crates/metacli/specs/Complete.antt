@@ -11,13 +11,18 @@ use Rattle.raml_syntax.specs.declared.faults.ExprFault.{ExprFault}
 use Rattle.net_graph.specs.Nets.{PureNet}
 use Rattle.topology_file.specs.NetText.{PureNetFile, NetText, IsNetFault, changed_net}
 use Rattle.topology_file.specs.declared.faults.NetFault.{NetFault}
-use Rattle.report_text.specs.Refusals.{expr, network, memory}
+use Rattle.net_graph.specs.Tables.{PureRow}
+use Rattle.report_check.specs.Numbers.{max_report_bytes}
+use Rattle.report_check.specs.ReportText.{ReportText, IsReportFault}
+use Rattle.report_check.specs.declared.faults.ReportFault.{ReportFault}
+use Rattle.report_text.specs.Refusals.{expr, network, report, memory}
 use Rattle.metacli.specs.Answers.{PureAnswer, done, refused, spent, unmet}
 use Rattle.command_words.specs.Words.{Words}
 use Rattle.metacli.specs.Outcome.{PureOutcome, answer_in, IsFit, word_at}
 use Rattle.command_words.specs.declared.command.Command.{Command}
 use Rattle.command_words.specs.declared.command.WordsFault.{WordsFault}
 use Rattle.metacli.specs.Tasks.{task_of}
+use Rattle.metacli.specs.declared.routing.Solution.TheVariants.{Unbeaten}
 use Rattle.metacli.specs.declared.task.AlgebraTask.{AlgebraTask}
 use Rattle.metacli.specs.declared.task.AlgebraTask.TheVariants as alone
 use Rattle.metacli.specs.declared.task.NetworkTask.{NetworkTask}
@@ -45,6 +50,17 @@ pub record IsNetJudged (bytes : List ℕ) (Fits : PureNet → Type 0) (Carries :
   pub bad : (f : NetFault) → IsNetFault bytes a f → IsUnlessMemory o (refused (network f))
   pub good : (f : PureNetFile) → NetText bytes a f → Fits (changed_net f) → Carries o
 
+-- a network of the file is judged by a report: bytes that mean no tables on it are refused with their fault, and tables
+-- are judged
+pub record IsReportJudged (bytes : List ℕ) (o : PureOutcome) (net : PureNet) : Type 0 where
+  pub bad : (f : ReportFault) → IsReportFault net bytes f → IsUnlessMemory o (refused (report f))
+  pub good : (tables : List (List PureRow)) → ReportText net bytes tables → IsUnlessMemory o done
+
+-- bytes that mean no network over the algebra are refused with their fault; on a network, this follows
+pub record IsNetRead (bytes : List ℕ) (Follows : PureNet → Type 0) (o : PureOutcome) (a : PureAlg) : Type 0 where
+  pub bad : (f : NetFault) → IsNetFault bytes a f → IsUnlessMemory o (refused (network f))
+  pub good : (f : PureNetFile) → NetText bytes a f → Follows (changed_net f)
+
 -- any network is fit for its labels to be decided on
 abbrev pub IsAny : PureNet → Type 0
 IsAny net = Unit {0}
@@ -70,11 +86,13 @@ IsAnsweredAlone alone.Gadget = IsDone
 -- which networks a task is carried out on, and what it is answered by there
 abbrev pub IsFitFor : NetworkTask → PureNet → Type 0
 IsFitFor (joint.Route solution workers) = IsFit solution
+IsFitFor joint.Hops = IsFit Unbeaten
 IsFitFor _ = IsAny
 
 abbrev pub IsAnsweredOn : NetworkTask → PureOutcome → Type 0
 IsAnsweredOn (joint.Check r) = IsDecided
 IsAnsweredOn joint.Code = IsDone
+IsAnsweredOn joint.Hops = IsDone
 IsAnsweredOn (joint.Route solution workers) = IsDone
 IsAnsweredOn (joint.Run workers turns traced) = IsRunOut
 
@@ -83,6 +101,8 @@ abbrev pub IsCompleteOf : List (List ℕ) → Moment → Moment → PureOutcome 
 IsCompleteOf words old new o (task.Demo seed nodes) = IsDone o
 IsCompleteOf words old new o (task.Alone file asked) = (bytes : List ℕ) → IsReported old (word_at words file) bytes
     → ¬ HasRisen old.faults new.faults → IsJudged bytes (λ a. IsAnsweredAlone asked o) o
+IsCompleteOf words old new o (task.Judge file net named) = (bytes net_bytes report_bytes : List ℕ) → IsReported old (word_at words file) bytes → IsReported old (word_at words net) net_bytes
+    → IsReported old (word_at words named) report_bytes → ¬ HasRisen old.faults new.faults → IsJudged bytes (IsNetRead net_bytes (IsReportJudged report_bytes o) o) o
 IsCompleteOf words old new o (task.On file net asked) = (bytes net_bytes : List ℕ) → IsReported old (word_at words file) bytes → IsReported old (word_at words net) net_bytes
     → ¬ HasRisen old.faults new.faults → IsJudged bytes (IsNetJudged net_bytes (IsFitFor asked) (IsAnsweredOn asked) o) o
 

@@ -1,5 +1,5 @@
 -- What a run comes to, by its words, and the end that shows it.
-use Rattle.std.specs.Prelude.{◌≡◌, ◌≤◌, ◌↔◌, ℕ, Bool, true, false, ◌&&◌, find, if◌then◌else◌, List, [], ◌∷◌, map, Option, Some, None, option_map, Result, Ok, Err, slice_index_or}
+use Rattle.std.specs.Prelude.{◌≡◌, ◌≤◌, ◌↔◌, ℕ, ◌+◌, Bool, true, false, ◌&&◌, find, if◌then◌else◌, List, [], ◌∷◌, ◌++◌, length, map, Option, Some, None, option_map, Result, Ok, Err, slice_index_or}
 use Rattle.std.specs.List.{Contains}
 use Rattle.meta_base.specs.Shelf.{Moment}
 use Rattle.meta_base.specs.declared.ids.Delivery.{Delivery}
@@ -14,9 +14,12 @@ use Rattle.property_infer.specs.Views.{pure_verdict, pure_verdicts}
 use Rattle.code_gen.specs.declared.listing.Listing.{Listing}
 use Rattle.code_gen.specs.Listings.{IsListing}
 use Rattle.net_graph.specs.Nets.{PureNet, PureArc}
-use Rattle.net_graph.specs.Tables.{PureRow, BestFirst, NetHas, Optimal, AreRowsOfTables, AreSettledRows}
+use Rattle.net_graph.specs.Tables.{PureRow, BestFirst, NetHas, OnTablesFrom, Optimal, AreRowsOfTables, AreSettledRows}
+use Rattle.report_check.specs.Hops.{PureHops, hops_of}
+use Rattle.report_check.specs.Judged.{Judged, PureJudgement}
 use Rattle.net_graph.specs.Changes.{PureChange}
-use Rattle.net_graph.specs.Views.{pure_change, pure_row}
+use Rattle.net_graph.specs.Views.{pure_change, pure_row, rows_of}
+use Rattle.report_check.specs.Views.{pure_hops, pure_judgement}
 use Rattle.topology_file.specs.NetText.{PureNetFile, NetText, changed_net}
 use Rattle.net_gen.specs.Generated.{Generated}
 use Rattle.net_gen.specs.Networks.{demo_alg}
@@ -28,7 +31,7 @@ use Rattle.net_facts.specs.Misses.{IsFirstMissing, NetHasAll}
 use Rattle.report_text.specs.Refusals.{PureRefusal, misses, memory}
 use Rattle.metacli.specs.Answers.{PureAnswer, done, refused, spent, unmet, pure_answer}
 use Rattle.metacli.specs.After.{nets_after}
-use Rattle.metacli.specs.Reading.{ReadsExpression, ReadsNetwork}
+use Rattle.metacli.specs.Reading.{ReadsExpression, ReadsNetwork, ReadsReport}
 use Rattle.command_words.specs.Words.{Words, words_fault_number}
 use Rattle.command_words.specs.declared.command.Command.{Command}
 use Rattle.command_words.specs.declared.command.Required.{Required}
@@ -57,6 +60,10 @@ pub data PureOutcome : Type 0 where
   coded : PureAlg → Option PureNetFile → Listing → PureOutcome
   -- the routes of a network over an algebra that were asked for
   routed : Solution → PureAlg → PureNetFile → List PureRow → PureOutcome
+  -- all equally good next hops on a network over an algebra
+  hopped : PureAlg → PureNetFile → List PureHops → PureOutcome
+  -- the tables that a report means on it, and what they are judged to be
+  judged : PureAlg → PureNetFile → List (List PureRow) → PureJudgement → PureOutcome
   -- the verdict on monotone of an algebra, with the network that shows it
   wedged : PureAlg → PureVerdict → PureOutcome
   -- the phases before the last, the last, and whether it is quiet; deliveries are printed or not
@@ -69,6 +76,8 @@ algebra_in (stopped a f r) = a
 algebra_in (checked a f v u) = Some a
 algebra_in (coded a f listing) = Some a
 algebra_in (routed s a f rows) = Some a
+algebra_in (hopped a f many) = Some a
+algebra_in (judged a f tables j) = Some a
 algebra_in (wedged a v) = Some a
 algebra_in (ran a f traced past last quiet) = Some a
 algebra_in (shown a f last) = Some a
@@ -78,6 +87,8 @@ file_in (stopped a f r) = f
 file_in (checked a f v u) = f
 file_in (coded a f listing) = f
 file_in (routed s a f rows) = Some f
+file_in (hopped a f many) = Some f
+file_in (judged a f tables j) = Some f
 file_in (wedged a v) = None
 file_in (ran a f traced past last quiet) = Some f
 file_in (shown a f last) = Some f
@@ -95,6 +106,19 @@ listing_in _ = None
 abbrev pub gadget_in : PureOutcome → Option PureVerdict
 gadget_in (wedged a v) = Some v
 gadget_in _ = None
+
+-- the tables of a report, and their judgement
+abbrev pub report_in : PureOutcome → Option (List (List PureRow))
+report_in (judged a f tables j) = Some tables
+report_in _ = None
+
+abbrev pub judgement_in : PureOutcome → Option PureJudgement
+judgement_in (judged a f tables j) = Some j
+judgement_in _ = None
+
+abbrev pub many_in : PureOutcome → List PureHops
+many_in (hopped a f many) = many
+many_in _ = []
 
 abbrev pub rows_in : PureOutcome → List PureRow
 rows_in (routed s a f rows) = rows
@@ -121,6 +145,8 @@ answer_in (stopped a f r) = refused r
 answer_in (checked a f v u) = met_or u
 answer_in (coded a f listing) = done
 answer_in (routed s a f rows) = done
+answer_in (hopped a f many) = done
+answer_in (judged a f tables j) = done
 answer_in (wedged a v) = done
 answer_in (ran a f traced past last quiet) = if quiet then done else spent
 answer_in (shown a f last) = done
@@ -139,6 +165,9 @@ pub record Shows (e : Ended) (asked : Option Command) (o : PureOutcome) : Type 0
   pub verdicts : option_map pure_verdicts e.verdicts ≡ verdicts_in o
   pub listing : e.listing ≡ listing_in o
   pub gadget : option_map pure_verdict e.gadget ≡ gadget_in o
+  pub report : option_map (map rows_of) e.report ≡ report_in o
+  pub judgement : option_map pure_judgement e.judgement ≡ judgement_in o
+  pub many : map pure_hops e.many ≡ many_in o
   pub rows : map pure_row e.rows ≡ rows_in o
   pub journal : e.journal ≡ journal_in o
   pub past : map pure_phase e.past ≡ past_in o
@@ -233,6 +262,32 @@ IsRoutedAs solution a file (stopped b f (misses arc x)) = (b ≡ Some a) × (f �
 IsRoutedAs solution a file (stopped b f memory) = (b ≡ Some a) × (f ≡ Some file)
 IsRoutedAs solution a file _ = ⊥
 
+-- the next hops of the tables from that destination on
+abbrev pub all_hops : PureNet → ℕ → List (List PureRow) → List PureHops
+all_hops net dest [] = []
+all_hops net dest (table ∷ tables) = hops_of net dest table ++ all_hops net (dest + 1) tables
+
+-- these are those of the tables of all destinations in order, each of which is made best first and is beaten by no walk
+pub record AreHopsOn (net : PureNet) (many : List PureHops) : Type 0 where
+  pub tables : List (List PureRow)
+  pub hold : OnTablesFrom (λ dest table. BestFirst net dest table × Optimal net dest table) 0 tables
+  pub count : length tables ≡ length net.dests
+  pub hops : many ≡ all_hops net 0 tables
+
+-- What hops comes to where all was read, as route does.
+abbrev pub IsHoppedAs : PureAlg → PureNetFile → PureOutcome → Type 0
+IsHoppedAs a file (hopped b f many) = (b ≡ a) × (f ≡ file) × IsFit Unbeaten (changed_net file) × AreHopsOn (changed_net file) many
+IsHoppedAs a file (stopped b f (misses arc x)) = (b ≡ Some a) × (f ≡ Some file) × IsFirstMissing (asked_of Unbeaten) (changed_net file) arc x
+IsHoppedAs a file (stopped b f memory) = (b ≡ Some a) × (f ≡ Some file)
+IsHoppedAs a file _ = ⊥
+
+-- What verify comes to where the report was read: what its tables are judged to be on the network after its changes,
+-- unless memory is refused.
+abbrev pub IsJudgedAs : PureAlg → PureNetFile → List (List PureRow) → PureOutcome → Type 0
+IsJudgedAs a file tables (judged b f t j) = (b ≡ a) × (f ≡ file) × (t ≡ tables) × Judged (changed_net file) tables j
+IsJudgedAs a file tables (stopped b f memory) = (b ≡ Some a) × (f ≡ Some file)
+IsJudgedAs a file tables _ = ⊥
+
 -- Where all labels of the networks of a run are monotone, it made no more deliveries than were left at the starts of its
 -- phases, and with as many turns it is quiet.
 pub record ComesToRest (net : PureNet) (nets : List PureNet) (turns : ℕ) (past : List PurePhase) (last : PurePhase) (quiet : Bool) : Type 0 where
@@ -268,6 +323,7 @@ IsMadeAlone alone.Gadget a o = IsWedgedAs a o
 abbrev pub IsMadeOn : NetworkTask → PureAlg → PureNetFile → PureOutcome → Type 0
 IsMadeOn (joint.Check r) a f o = IsCheckedAs r a (Some f) (IsOnArc (changed_net f)) o
 IsMadeOn joint.Code a f o = IsCodedAs a (Some f) (labels_on (changed_net f)) o
+IsMadeOn joint.Hops a f o = IsHoppedAs a f o
 IsMadeOn (joint.Route solution workers) a f o = IsRoutedAs solution a f o
 IsMadeOn (joint.Run workers turns traced) a f o = IsRunAs traced turns a f o
 
@@ -285,14 +341,25 @@ pub record WithAlgebra (name : List ℕ) (Then : PureAlg → Moment → Moment �
   pub goes_on : GoesOnFrom Then between new o expression
 
 -- the same of a network file over the algebra
-abbrev pub GoesOnOver : PureAlg → (PureNetFile → PureOutcome → Type 0) → PureOutcome → Result PureNetFile PureRefusal → Type 0
-GoesOnOver a Then o (Ok f) = Then f o
-GoesOnOver a Then o (Err r) = o ≡ stopped (Some a) None r
+abbrev pub GoesOnOver : PureAlg → (PureNetFile → Moment → Moment → PureOutcome → Type 0) → Moment → Moment → PureOutcome → Result PureNetFile PureRefusal → Type 0
+GoesOnOver a Then between new o (Ok f) = Then f between new o
+GoesOnOver a Then between new o (Err r) = (new ≡ between) × (o ≡ stopped (Some a) None r)
 
-pub record WithNetwork (a : PureAlg) (name : List ℕ) (Then : PureNetFile → PureOutcome → Type 0) (old new : Moment) (o : PureOutcome) : Type 0 where
+pub record WithNetwork (a : PureAlg) (name : List ℕ) (Then : PureNetFile → Moment → Moment → PureOutcome → Type 0) (old new : Moment) (o : PureOutcome) : Type 0 where
+  pub between : Moment
   pub network : Result PureNetFile PureRefusal
-  pub reads : ReadsNetwork a name old network new
-  pub goes_on : GoesOnOver a Then o network
+  pub reads : ReadsNetwork a name old network between
+  pub goes_on : GoesOnOver a Then between new o network
+
+-- the same of a report on the network
+abbrev pub GoesOnWith : PureAlg → PureNetFile → PureOutcome → Result (List (List PureRow)) PureRefusal → Type 0
+GoesOnWith a f o (Ok tables) = IsJudgedAs a f tables o
+GoesOnWith a f o (Err r) = o ≡ stopped (Some a) (Some f) r
+
+pub record WithReport (a : PureAlg) (f : PureNetFile) (name : List ℕ) (old new : Moment) (o : PureOutcome) : Type 0 where
+  pub report : Result (List (List PureRow)) PureRefusal
+  pub reads : ReadsReport (changed_net f) name old report new
+  pub goes_on : GoesOnWith a f o report
 
 -- the word at a place
 abbrev pub word_at : List (List ℕ) → ℕ → List ℕ
@@ -302,7 +369,8 @@ word_at words place = slice_index_or words place []
 abbrev pub ComesOf : List (List ℕ) → Task → Moment → Moment → PureOutcome → Type 0
 ComesOf words (task.Demo seed nodes) old new o = (new ≡ old) × IsShownAs seed nodes o
 ComesOf words (task.Alone file asked) old new o = WithAlgebra (word_at words file) (λ a old new o. (new ≡ old) × IsMadeAlone asked a o) old new o
-ComesOf words (task.On file net asked) old new o = WithAlgebra (word_at words file) (λ a. WithNetwork a (word_at words net) (IsMadeOn asked a)) old new o
+ComesOf words (task.Judge file net report) old new o = WithAlgebra (word_at words file) (λ a. WithNetwork a (word_at words net) (λ f. WithReport a f (word_at words report))) old new o
+ComesOf words (task.On file net asked) old new o = WithAlgebra (word_at words file) (λ a. WithNetwork a (word_at words net) (λ f old new o. (new ≡ old) × IsMadeOn asked a f o)) old new o
 
 -- what the words come to: what their command asks for, or the fault that they have, where nothing is read
 abbrev pub ComesBy : List (List ℕ) → Result Command WordsFault → Moment → Moment → PureOutcome → Type 0

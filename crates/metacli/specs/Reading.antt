@@ -3,12 +3,15 @@ use Rattle.std.specs.Prelude.{◌≡◌, ◌≢◌, ℕ, ◌<◌, ◌≤◌, ◌
 use Rattle.meta_base.specs.Count.{HasRisen, raised}
 use Rattle.meta_base.specs.Shelf.{Moment, Keeps, IsAbsent}
 use Rattle.meta_base.specs.declared.ids.Which.{Which}
-use Rattle.meta_base.specs.declared.ids.Which.TheVariants.{Expr, Network}
+use Rattle.meta_base.specs.declared.ids.Which.TheVariants.{Expr, Network, Report}
 use Rattle.meta_base.specs.Numbers.{max_file_bytes}
 use Rattle.alg_model.specs.Expressions.{PureAlg}
 use Rattle.raml_syntax.specs.ExprText.{ExprText, IsExprFault}
 use Rattle.topology_file.specs.NetText.{PureNetFile, NetText, IsNetFault}
-use Rattle.report_text.specs.Refusals.{PureRefusal, expr, network, read, long, memory}
+use Rattle.net_graph.specs.Nets.{PureNet}
+use Rattle.net_graph.specs.Tables.{PureRow}
+use Rattle.report_check.specs.ReportText.{ReportText, IsReportFault}
+use Rattle.report_text.specs.Refusals.{PureRefusal, expr, network, report, read, long, memory}
 
 -- these bytes were taken, to the end of the file, and aren't too many; where the shelf tells its files,
 -- they are those of the file of that name
@@ -62,6 +65,10 @@ abbrev pub IsNetRefusal : PureAlg → List ℕ → PureRefusal → Type 0
 IsNetRefusal a text (network f) = IsNetFault text a f
 IsNetRefusal a text _ = ⊥
 
+abbrev pub IsReportRefusal : PureNet → List ℕ → PureRefusal → Type 0
+IsReportRefusal net text (report f) = IsReportFault net text f
+IsReportRefusal net text _ = ⊥
+
 -- taking the bytes of a file
 abbrev pub Takes : Which → List ℕ → Moment → Result (List ℕ) PureRefusal → Moment → Type 0
 Takes which name = Reads which name AreBytes HasNoFault
@@ -73,3 +80,7 @@ ReadsExpression name = Reads Expr name ExprText IsExprRefusal
 -- reading the network of the network file of that name, with its changes, over the algebra
 abbrev pub ReadsNetwork : PureAlg → List ℕ → Moment → Result PureNetFile PureRefusal → Moment → Type 0
 ReadsNetwork a name = Reads Network name (λ text. NetText text a) (IsNetRefusal a)
+
+-- reading the tables of the report of that name on the network
+abbrev pub ReadsReport : PureNet → List ℕ → Moment → Result (List (List PureRow)) PureRefusal → Moment → Type 0
+ReadsReport net name = Reads Report name (ReportText net) (IsReportRefusal net)

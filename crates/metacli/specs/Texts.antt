@@ -7,6 +7,8 @@ use Rattle.net_graph.specs.Nets.{PureNet}
 use Rattle.net_graph.specs.Tables.{PureRow}
 use Rattle.net_graph.specs.RowTexts.{IsRowOf, row_text}
 use Rattle.topology_file.specs.NetText.{PureNetFile, changed_net}
+use Rattle.report_check.specs.Hops.{PureHops}
+use Rattle.report_text.specs.JudgedTexts.{CanPrintHops, CanPrintJudgement, hops_text, judgement_text}
 use Rattle.report_text.specs.TableTexts.{stable_text, table_text}
 use Rattle.report_text.specs.VerdictTexts.{required_text, verdicts_text, CanPrintVerdicts}
 use Rattle.wedge_nets.specs.Gadgets.{HasGadget}
@@ -21,7 +23,7 @@ use Rattle.metacli.specs.Answers.{PureAnswer, done, refused, spent, unmet, write
 use Rattle.metacli.specs.After.{nets_after}
 use Rattle.metacli.specs.declared.putting.Cut.{Cut}
 use Rattle.metacli.specs.declared.putting.Cut.TheVariants.{Sink, Memory}
-use Rattle.metacli.specs.Outcome.{PureOutcome, stopped, checked, coded, routed, wedged, ran, shown}
+use Rattle.metacli.specs.Outcome.{PureOutcome, stopped, checked, coded, routed, hopped, judged, wedged, ran, shown}
 use Rattle.metacli.specs.declared.routing.Solution.{Solution}
 use Rattle.metacli.specs.declared.routing.Solution.TheVariants.{Unbeaten, Settled, AllStable}
 
@@ -42,6 +44,10 @@ abbrev pub routes_text : Solution → PureNet → List PureRow → List ℕ
 routes_text Unbeaten net rows = rows_text net rows
 routes_text Settled net rows = rows_text net rows
 routes_text AllStable net rows = tables_text net (range_with_len 0 (length net.dests)) rows
+
+-- the lines of rows with all their next hops
+abbrev pub many_text : PureNet → List PureHops → List ℕ
+many_text net many = concat (map (hops_text net) many)
 
 -- the line of a required property that fails, if one does
 abbrev pub unmet_text : Option PureProperty → List ℕ
@@ -80,6 +86,8 @@ TextOf (stopped a f r) = refusal_text r (last_net f)
 TextOf (checked a f v u) = verdicts_text a.expression v ++ unmet_text u
 TextOf (coded a f listing) = code_text a.expression (last_net f) listing
 TextOf (routed s a f rows) = routes_text s f.net rows
+TextOf (hopped a f many) = many_text f.net many
+TextOf (judged a f tables j) = judgement_text (changed_net f) j
 TextOf (wedged a v) = gadget_text a v
 TextOf (ran a f traced past last quiet) = run_text traced f.net (nets_after f.net f.changes) 0 past last quiet
 TextOf (shown a f last) = summary_text f.net last.rows
@@ -90,6 +98,8 @@ IsPrintable (stopped a f r) = CanRefuse r (last_net f)
 IsPrintable (checked a f v u) = CanPrintVerdicts a.expression v
 IsPrintable (coded a f listing) = CanList a (last_net f) listing
 IsPrintable (routed s a f rows) = AllByRecursion (IsRowOf f.net) rows
+IsPrintable (hopped a f many) = AllByRecursion (CanPrintHops f.net) many
+IsPrintable (judged a f tables j) = CanPrintJudgement (changed_net f) j
 IsPrintable (wedged a v) = HasGadget a v
 IsPrintable (ran a f traced past last quiet) = AreOfNetworks f.net (nets_after f.net f.changes) past last
 IsPrintable (shown a f last) = AreSummed last.rows

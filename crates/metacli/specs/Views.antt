@@ -1,6 +1,7 @@
 -- What outcomes and results of the program stand for.
 use Rattle.std.specs.Prelude.{◌≡◌, map, Option, Some, None, option_map, Result, Ok, Err}
-use Rattle.net_graph.specs.Views.{pure_row}
+use Rattle.net_graph.specs.Views.{pure_row, rows_of}
+use Rattle.report_check.specs.Views.{pure_hops, pure_judgement}
 use Rattle.net_graph.specs.Nets.{PureNet}
 use Rattle.topology_file.specs.declared.network.NetFile.{NetFile}
 use Rattle.topology_file.specs.Views.{pure_file}
@@ -12,7 +13,7 @@ use Rattle.report_text.specs.Refusals.{PureRefusal, misses}
 use Rattle.vector_runs.specs.Runs.{pure_phase}
 use Rattle.metacli.specs.Answers.{pure_answer, pure_stop}
 use Rattle.metacli.specs.Texts.{IsPrintable}
-use Rattle.metacli.specs.Outcome.{PureOutcome, stopped, checked, coded, routed, wedged, ran, shown, algebra_in, answer_in, file_in, gadget_in, journal_in, listing_in, past_in, rows_in, verdicts_in}
+use Rattle.metacli.specs.Outcome.{PureOutcome, stopped, checked, coded, routed, hopped, judged, wedged, ran, shown, algebra_in, answer_in, file_in, gadget_in, journal_in, judgement_in, listing_in, many_in, past_in, report_in, rows_in, verdicts_in}
 use Rattle.metacli.specs.declared.outcome.Stop.{Stop}
 use Rattle.metacli.specs.declared.outcome.Made.{Made}
 use Rattle.metacli.specs.declared.outcome.Parts.{Parts}
@@ -25,6 +26,8 @@ pure_outcome (outcome.Unfit it) = stopped (Some it.alg) (Some (pure_file it.file
 pure_outcome (outcome.Checked it) = checked it.alg (option_map pure_file it.file) (pure_verdicts it.verdicts) (option_map pure_property it.unmet)
 pure_outcome (outcome.Coded it) = coded it.alg (option_map pure_file it.file) it.listing
 pure_outcome (outcome.Routed it) = routed it.solution it.alg (pure_file it.file) (map pure_row it.rows)
+pure_outcome (outcome.Hopped it) = hopped it.alg (pure_file it.file) (map pure_hops it.many)
+pure_outcome (outcome.Judged it) = judged it.alg (pure_file it.file) (map rows_of it.tables) (pure_judgement it.judgement)
 pure_outcome (outcome.Wedged it) = wedged it.alg (pure_verdict it.verdict)
 pure_outcome (outcome.Ran it) = ran it.alg (pure_file it.file) it.is_traced (map pure_phase it.run.past) (pure_phase it.run.last) it.run.is_quiet
 pure_outcome (outcome.Shown it) = shown it.alg (pure_file it.file) (pure_phase it.last)
@@ -34,6 +37,9 @@ pub record IsMadeIn (made : Made) (o : PureOutcome) : Type 0 where
   pub verdicts : option_map pure_verdicts made.verdicts ≡ verdicts_in o
   pub listing : made.listing ≡ listing_in o
   pub gadget : option_map pure_verdict made.gadget ≡ gadget_in o
+  pub report : option_map (map rows_of) made.report ≡ report_in o
+  pub judgement : option_map pure_judgement made.judgement ≡ judgement_in o
+  pub many : map pure_hops made.many ≡ many_in o
   pub rows : map pure_row made.rows ≡ rows_in o
   pub journal : made.journal ≡ journal_in o
   pub past : map pure_phase made.past ≡ past_in o
@@ -54,6 +60,7 @@ IsListedOn (Some f) after = last_of after f.net ≡ changed_net (pure_file f)
 -- the first are those after the first change, the first two, and so on
 abbrev pub IsAfter : Outcome → Type 0
 IsAfter (outcome.Unfit it) = last_of it.after it.file.net ≡ changed_net (pure_file it.file)
+IsAfter (outcome.Judged it) = last_of it.after it.file.net ≡ changed_net (pure_file it.file)
 IsAfter (outcome.Coded it) = IsListedOn it.file it.after
 IsAfter (outcome.Ran it) = it.changed ≡ nets_after it.file.net (pure_file it.file).changes
 IsAfter _ = Unit {0}

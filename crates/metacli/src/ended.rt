@@ -6,9 +6,10 @@ use alg_classes::{Instance, Property};
 use alg_model::Alg;
 use code_gen::Listing;
 use meta_base::{ArcId, Delivery, List, Which};
-use net_graph::{Change, Net, RouteRow};
+use net_graph::{Change, DestTable, Net, RouteRow};
 use property_infer::{Verdict, Verdicts};
 use raml_syntax::ExprFault;
+use report_check::{Judgement, ManyHops, ReportFault};
 use topology_file::NetFault;
 use vector_runs::Phase;
 
@@ -27,6 +28,8 @@ pub enum Answer {
     BadExpr(ExprFault),
     /// The bytes of the network file mean no network over the algebra.
     BadNet(NetFault),
+    /// The bytes of the report mean no tables on the network after its changes.
+    BadReport(ReportFault),
     /// The label of this arc, which is one of the network after its changes, doesn't have a property that the command
     /// needs of all labels; it is the first such arc, and the instance shows it.
     Misses { arc: ArcId, instance: Instance },
@@ -59,6 +62,13 @@ pub struct Ended {
     /// The verdict on monotone, where `gadget` was carried out: no number of its instance is above those of a network
     /// file.
     pub gadget: Option<Verdict>,
+    /// The tables of the report, where `verify` was carried out.
+    pub report: Option<List<DestTable>>,
+    /// What these are judged to be, on the network after all changes.
+    pub judgement: Option<Judgement>,
+    /// The rows with all their next hops, where `hops` was carried out, on the network after all changes: for each
+    /// destination in order, each node in order.
+    pub many: List<ManyHops>,
     /// The routes, where `route`, `settle` or `stable` was carried out, on the network after all changes; those of the
     /// last phase, where `run` or `trace` was: for each destination in order, each node in order.
     pub rows: List<RouteRow>,
@@ -72,7 +82,7 @@ pub struct Ended {
     pub answer: Answer,
 }
 
-/// The status that the program ends with: 0 done, 1 bad words, 2 a bad expression or network, 3 a property that a label
+/// The status that the program ends with: 0 done, 1 bad words, 2 a bad expression, network or report, 3 a property that a label
 /// doesn't have or that was required and fails, 4 turns that were used up, 5 a read fault, 6 a write fault, 7 out of
 /// memory, 8 a file that is too long.
 pub fn status(answer: &Answer) -> u8
@@ -81,7 +91,7 @@ pub fn status(answer: &Answer) -> u8
     match answer {
         Answer::Done => 0,
         Answer::BadWords(_) => 1,
-        Answer::BadExpr(_) | Answer::BadNet(_) => 2,
+        Answer::BadExpr(_) | Answer::BadNet(_) | Answer::BadReport(_) => 2,
         Answer::Misses { .. } | Answer::Unmet(_) => 3,
         Answer::Spent => 4,
         Answer::ReadFault(_) => 5,

@@ -7,6 +7,8 @@ mod checking;
 mod coding;
 mod ended;
 mod generating;
+mod hopping;
+mod judging;
 mod laws;
 mod outcome;
 mod phases;

@@ -16,9 +16,10 @@ use alg_model::Alg;
 use code_gen::Listing;
 use meta_base::{Delivery, List, NoMemory, Which};
 use net_facts::Missing;
-use net_graph::{Net, RouteRow};
+use net_graph::{DestTable, Net, RouteRow};
 use property_infer::{Verdict, Verdicts};
 use raml_syntax::ExprFault;
+use report_check::{Judgement, ManyHops, ReportFault};
 use report_text::Refusal;
 use std::alloc::Global;
 use topology_file::{NetFault, NetFile};
@@ -30,6 +31,7 @@ pub enum Stop {
     Words(WordsFault),
     Expr(ExprFault),
     Network(NetFault),
+    Report(ReportFault),
     Read(Which),
     Long(Which),
     Memory,
@@ -52,6 +54,7 @@ impl Stop {
             Stop::Words(fault) => Answer::BadWords(fault),
             Stop::Expr(fault) => Answer::BadExpr(fault),
             Stop::Network(fault) => Answer::BadNet(fault),
+            Stop::Report(fault) => Answer::BadReport(fault),
             Stop::Read(which) => Answer::ReadFault(which),
             Stop::Long(which) => Answer::TooLong(which),
             Stop::Memory => Answer::NoMemory,
@@ -66,6 +69,7 @@ impl Stop {
             Stop::Words(fault) => Refusal::Words(fault.number()),
             Stop::Expr(fault) => Refusal::Expr(fault),
             Stop::Network(fault) => Refusal::Network(fault),
+            Stop::Report(fault) => Refusal::Report(fault),
             Stop::Read(which) => Refusal::Read(which),
             Stop::Long(which) => Refusal::Long(which),
             Stop::Memory => Refusal::Memory,
@@ -86,6 +90,8 @@ pub enum Outcome {
     Checked(Checked),
     Coded(Coded),
     Routed(Routed),
+    Hopped(Hopped),
+    Judged(Judged),
     Wedged(Wedged),
     Ran(Ran),
     Shown(Shown),
@@ -126,6 +132,24 @@ pub struct Routed {
     pub alg: Alg,
     pub file: NetFile,
     pub rows: List<RouteRow>,
+}
+
+/// All equally good next hops on a network over an algebra, after its changes.
+#[derive(Debug, Drop)]
+pub struct Hopped {
+    pub alg: Alg,
+    pub file: NetFile,
+    pub many: List<ManyHops>,
+}
+
+/// The tables of a report on the network after its changes, which is `None` where there are none, and their judgement.
+#[derive(Debug, Drop)]
+pub struct Judged {
+    pub alg: Alg,
+    pub file: NetFile,
+    pub after: Option<Net>,
+    pub tables: List<DestTable>,
+    pub judgement: Judgement,
 }
 
 /// The verdict on monotone of an algebra, with an instance that a network file can hold.
@@ -191,6 +215,9 @@ impl Outcome {
             verdicts: made.verdicts,
             listing: made.listing,
             gadget: made.gadget,
+            report: made.report,
+            judgement: made.judgement,
+            many: made.many,
             rows: made.rows,
             journal: made.journal,
             past: made.past,
@@ -209,6 +236,8 @@ impl Outcome {
             Outcome::Checked(it) => it.parts(alloc),
             Outcome::Coded(it) => it.parts(alloc),
             Outcome::Routed(it) => it.parts(alloc),
+            Outcome::Hopped(it) => it.parts(alloc),
+            Outcome::Judged(it) => it.parts(alloc),
             Outcome::Wedged(it) => it.parts(alloc),
             Outcome::Ran(it) => it.parts(alloc),
             Outcome::Shown(it) => it.parts(alloc),
@@ -294,6 +323,38 @@ impl Routed {
     }
 }
 
+impl Hopped {
+    fn parts(self, alloc: Global) -> Parts
+        ensures { AreParts result (pure_outcome (Outcome.Hopped self)) }
+    {
+        let mut made = Made::nothing(alloc);
+        made.many = self.many;
+        Parts {
+            alg: Some(self.alg),
+            file: Some(self.file),
+            made,
+            decided: Answer::Done,
+        }
+    }
+}
+
+impl Judged {
+    fn parts(self, alloc: Global) -> Parts
+        ensures { AreParts result (pure_outcome (Outcome.Judged self)) }
+    {
+        drop(self.after);
+        let mut made = Made::nothing(alloc);
+        made.report = Some(self.tables);
+        made.judgement = Some(self.judgement);
+        Parts {
+            alg: Some(self.alg),
+            file: Some(self.file),
+            made,
+            decided: Answer::Done,
+        }
+    }
+}
+
 impl Wedged {
     fn parts(self, alloc: Global) -> Parts
         ensures { AreParts result (pure_outcome (Outcome.Wedged self)) }
@@ -321,7 +382,7 @@ impl Ran {
         Parts {
             alg: Some(self.alg),
             file: Some(self.file),
-            made: Made::of_phases(past, last),
+            made: Made::of_phases(alloc, past, last),
             decided: end_answer(is_quiet),
         }
     }
@@ -334,7 +395,7 @@ impl Shown {
         Parts {
             alg: Some(self.alg),
             file: Some(self.file),
-            made: Made::of_phases(List::new(alloc), self.last),
+            made: Made::of_phases(alloc, List::new(alloc), self.last),
             decided: Answer::Done,
         }
     }
@@ -346,6 +407,9 @@ pub struct Made {
     verdicts: Option<Verdicts>,
     listing: Option<Listing>,
     gadget: Option<Verdict>,
+    report: Option<List<DestTable>>,
+    judgement: Option<Judgement>,
+    many: List<ManyHops>,
     rows: List<RouteRow>,
     journal: List<Delivery>,
     past: List<Phase>,
@@ -360,6 +424,9 @@ impl Made {
           verdicts = None;
           listing = None;
           gadget = None;
+          report = None;
+          judgement = None;
+          many = [];
           rows = [];
           journal = [];
           past = [];
@@ -369,6 +436,9 @@ impl Made {
             verdicts: None,
             listing: None,
             gadget: None,
+            report: None,
+            judgement: None,
+            many: List::new(alloc),
             rows: List::new(alloc),
             journal: List::new(alloc),
             past: List::new(alloc),
@@ -376,11 +446,14 @@ impl Made {
     }
 
     // The phases of a run.
-    fn of_phases(past: List<Phase>, last: Phase) -> Made
+    fn of_phases(alloc: Global, past: List<Phase>, last: Phase) -> Made
         ensures { result ≡ record {
           verdicts = None;
           listing = None;
           gadget = None;
+          report = None;
+          judgement = None;
+          many = [];
           rows = last.rows;
           journal = last.journal;
           past = past;
@@ -390,6 +463,9 @@ impl Made {
             verdicts: None,
             listing: None,
             gadget: None,
+            report: None,
+            judgement: None,
+            many: List::new(alloc),
             rows: last.rows,
             journal: last.journal,
             past,

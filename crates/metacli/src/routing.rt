@@ -46,7 +46,7 @@ pub enum Solution {
 
 impl Solution {
     // What all labels must have, in the order in which it is looked for.
-    fn properties(self) -> &'static [Property]
+    pub(crate) fn properties(self) -> &'static [Property]
         ensures { map pure_property result.now ≡ asked_of self }
     {
         match self {
@@ -177,7 +177,7 @@ fn all_routes<R: AllocGlobal + Threads + Sync>(
 }
 
 // The tables of all destinations, over rows that are as narrow as the algebra allows.
-fn tables_of<R: AllocGlobal + Threads + Sync>(
+pub(crate) fn tables_of<R: AllocGlobal + Threads + Sync>(
     rt: &R,
     net: &Net,
     workers: u32,

@@ -24,6 +24,12 @@ pub enum Task {
         file: usize,
         task: AlgebraTask,
     },
+    /// The judgement of a report of routes on the network of a network file over it.
+    Judge {
+        file: usize,
+        net: usize,
+        report: usize,
+    },
     /// Something about the network of a network file over it.
     On {
         file: usize,
@@ -50,6 +56,8 @@ pub enum NetworkTask {
     Check(Required),
     /// The code of its labels.
     Code,
+    /// All equally good next hops of the routes that no walk beats.
+    Hops,
     /// Its routes, found by so many workers.
     Route {
         solution: Solution,
@@ -85,6 +93,12 @@ pub fn task_of(command: Command) -> Task
             workers,
             turns,
         } => run_task(file, net, workers, turns, true),
+        Command::Verify { file, net, report } => Task::Judge { file, net, report },
+        Command::Hops { file, net } => Task::On {
+            file,
+            net,
+            task: NetworkTask::Hops,
+        },
         Command::Gadget { file } => Task::Alone {
             file,
             task: AlgebraTask::Gadget,

@@ -1,6 +1,6 @@
 ghost use Rattle.std.specs.Prelude.{◌≡◌, ◌<◌, length, map};
 ghost use Rattle.std.specs.Result.{result_ok};
-ghost use Rattle.metacli.specs.Outcome.{ComesOf, ComesTo, IsMadeAlone, IsMadeOn, WithAlgebra, WithNetwork, word_at};
+ghost use Rattle.metacli.specs.Outcome.{ComesOf, ComesTo, IsMadeAlone, IsMadeOn, WithAlgebra, WithNetwork, WithReport, word_at};
 ghost use Rattle.net_graph.specs.Changes.{AreChanges};
 ghost use Rattle.net_graph.specs.Views.{pure_change};
 ghost use Rattle.topology_file.specs.Views.{pure_file};
@@ -12,6 +12,8 @@ ghost use Rattle.metacli.specs.Views.{CanBeWritten, pure_outcome};
 use crate::checking::{check, check_network};
 use crate::coding::{code, code_network};
 use crate::generating::demo;
+use crate::hopping::hops;
+use crate::judging::verify;
 use crate::outcome::{Outcome, Stop};
 use crate::reading::{read_expression, read_network};
 use crate::routing::route;
@@ -84,6 +86,11 @@ fn carry_out<R: AllocGlobal + Threads + Wait + Sync, S: Shelf, G: Gate>(
     match task {
         Task::Demo { seed, nodes } => demo(rt, seed, nodes, gate),
         Task::Alone { file, task } => with_algebra(rt.alloc(), shelf, name_at(words, file), task),
+        Task::Judge { file, net, report } => {
+            let file = name_at(words, file);
+            let net = name_at(words, net);
+            with_report(rt.alloc(), shelf, file, net, name_at(words, report))
+        }
         Task::On { file, net, task } => {
             let file = name_at(words, file);
             let net = name_at(words, net);
@@ -134,7 +141,8 @@ fn with_network<R: AllocGlobal + Threads + Wait + Sync, S: Shelf, G: Gate>(
     gate: &G,
 ) -> Outcome
     requires { HasItsNumbers task }
-    ensures comes_to { WithAlgebra file.now (λ a. WithNetwork a net.now (IsMadeOn task a))
+    ensures comes_to { WithAlgebra file.now
+        (λ a. WithNetwork a net.now (λ f old new o. (new ≡ old) × IsMadeOn task a f o))
         (S.now_is shelf.old) (S.now_is shelf.new) (pure_outcome result) }
     ensures printable { CanBeWritten result }
 {
@@ -145,6 +153,32 @@ fn with_network<R: AllocGlobal + Threads + Wait + Sync, S: Shelf, G: Gate>(
     };
     match read_network(alloc, shelf, &alg, net) {
         Ok(file) => on_network(rt, alg, file, task, gate),
+        Err(stop) => Outcome::Stopped {
+            alg: Some(alg),
+            file: None,
+            stop,
+        },
+    }
+}
+
+// What `verify` comes to with the files of these names.
+fn with_report<S: Shelf>(
+    alloc: Global,
+    shelf: &mut S,
+    file: &str,
+    net: &str,
+    report: &str,
+) -> Outcome
+    ensures comes_to { WithAlgebra file.now (λ a. WithNetwork a net.now (λ f. WithReport a f report.now))
+        (S.now_is shelf.old) (S.now_is shelf.new) (pure_outcome result) }
+    ensures printable { CanBeWritten result }
+{
+    let alg = match read_expression(alloc, shelf, file) {
+        Ok(alg) => alg,
+        Err(stop) => return Outcome::refused(stop),
+    };
+    match read_network(alloc, shelf, &alg, net) {
+        Ok(file) => verify(alloc, shelf, alg, file, report),
         Err(stop) => Outcome::Stopped {
             alg: Some(alg),
             file: None,
@@ -170,6 +204,7 @@ fn on_network<R: AllocGlobal + Threads + Wait + Sync, G: Gate>(
     match task {
         NetworkTask::Check(require) => check_network(rt.alloc(), alg, file, require),
         NetworkTask::Code => code_network(rt.alloc(), alg, file),
+        NetworkTask::Hops => hops(rt, alg, file),
         NetworkTask::Route { solution, workers } => route(rt, alg, file, solution, workers),
         NetworkTask::Run {
             workers,

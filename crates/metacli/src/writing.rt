@@ -8,22 +8,27 @@ ghost use Rattle.net_graph.specs.Views.{pure_row};
 ghost use Rattle.net_graph.specs.RowTexts.{IsRowOf};
 ghost use Rattle.property_infer.specs.Views.{pure_verdict, pure_verdicts};
 ghost use Rattle.topology_file.specs.Views.{pure_file};
+ghost use Rattle.topology_file.specs.NetText.{changed_net};
+ghost use Rattle.report_check.specs.Views.{pure_hops, pure_judgement};
 ghost use Rattle.report_text.specs.CodeTexts.{CanList, code_text};
+ghost use Rattle.report_text.specs.JudgedTexts.{CanPrintHops, CanPrintJudgement, judgement_text};
 ghost use Rattle.report_text.specs.VerdictTexts.{CanPrintVerdicts, lines_on, verdicts_text};
 ghost use Rattle.report_text.specs.Refusals.{CanMiss, misses, misses_text, refusal_text};
 ghost use Rattle.report_text.specs.SummaryTexts.{AreSummed, summary_text};
 ghost use Rattle.vector_runs.specs.Runs.{AreOfNetworks, pure_phase};
 ghost use Rattle.wedge_nets.specs.GadgetTexts.{gadget_text};
 ghost use Rattle.wedge_nets.specs.Gadgets.{HasGadget};
+ghost use Rattle.metacli.specs.After.{last_of};
 ghost use Rattle.metacli.specs.Answers.{pure_answer, pure_stop, refused, write_fault};
 ghost use Rattle.metacli.specs.Outcome.{answer_in};
-ghost use Rattle.metacli.specs.Texts.{PutsText, TextOf, Written, last_net, routes_text, rows_text, run_text, unmet_text};
+ghost use Rattle.metacli.specs.Texts.{PutsText, TextOf, Written, last_net, many_text, routes_text, rows_text, run_text, unmet_text};
 ghost use Rattle.metacli.specs.Views.{CanBeWritten, IsListedOn, pure_outcome};
 
 use crate::Answer;
 use crate::after::last_of;
 use crate::outcome::{
-    Checked, Coded, Outcome, Ran, Routed, Shown, Stop, Wedged, checked_answer, end_answer,
+    Checked, Coded, Hopped, Judged, Outcome, Ran, Routed, Shown, Stop, Wedged, checked_answer,
+    end_answer,
 };
 use crate::phases::put_phases;
 use crate::putting::{Cut, answered, put_line, put_room, room_for_lines};
@@ -37,7 +42,8 @@ use net_facts::Missing;
 use net_graph::{Net, RouteRow};
 use property_infer::Verdicts;
 use report_text::{
-    code_lines, misses_line, push_row_line, refusal_line, required_line, verdict_line,
+    code_lines, hops_line, judgement_lines, misses_line, push_row_line, refusal_line,
+    required_line, verdict_line,
 };
 use std::alloc::Global;
 use topology_file::NetFile;
@@ -60,6 +66,8 @@ pub fn write<K: Sink>(alloc: Global, out: &mut K, outcome: &Outcome) -> Answer
         Outcome::Checked(it) => answered(put_checked(alloc, out, it), checked_answer(it.unmet)),
         Outcome::Coded(it) => answered(put_code(alloc, out, it), Answer::Done),
         Outcome::Routed(it) => answered(put_routes(alloc, out, it), Answer::Done),
+        Outcome::Hopped(it) => answered(put_hops(alloc, out, it), Answer::Done),
+        Outcome::Judged(it) => answered(put_judged(alloc, out, it), Answer::Done),
         Outcome::Wedged(it) => answered(put_gadget(alloc, out, it), Answer::Done),
         Outcome::Ran(it) => answered(put_run(alloc, out, it), end_answer(it.run.is_quiet)),
         Outcome::Shown(it) => answered(put_shown(alloc, out, it), Answer::Done),
@@ -76,6 +84,31 @@ fn put_code<K: Sink>(alloc: Global, out: &mut K, coded: &Coded) -> Result<(), Cu
 {
     let net = listed_net(&coded.file, &coded.after);
     put_line(out, code_lines(alloc, &coded.alg, net, &coded.listing))
+}
+
+// Puts the lines of rows with all their next hops.
+fn put_hops<K: Sink>(alloc: Global, out: &mut K, hopped: &Hopped) -> Result<(), Cut>
+    requires { AllByRecursion (CanPrintHops hopped.now.file.net) (map pure_hops hopped.now.many) }
+    ensures { PutsText (K.holds out.old) (many_text hopped.now.file.net (map pure_hops hopped.now.many))
+        result (K.holds out.new) }
+{
+    for hops in hopped.many.as_slice() {
+        put_line(out, hops_line(alloc, &hopped.file.net, hops))?;
+    }
+    Ok(())
+}
+
+// Puts the lines of a judgement, by the network after the file's changes.
+fn put_judged<K: Sink>(alloc: Global, out: &mut K, judged: &Judged) -> Result<(), Cut>
+    requires after { last_of judged.now.after judged.now.file.net ≡ changed_net (pure_file judged.now.file) }
+    requires printable { CanPrintJudgement (changed_net (pure_file judged.now.file))
+        (pure_judgement judged.now.judgement) }
+    ensures { PutsText (K.holds out.old)
+        (judgement_text (changed_net (pure_file judged.now.file)) (pure_judgement judged.now.judgement))
+        result (K.holds out.new) }
+{
+    let net = last_of(&judged.after, &judged.file.net);
+    put_line(out, judgement_lines(alloc, net, &judged.judgement))
 }
 
 // Puts the line of a verdict on monotone, and the network that shows it.

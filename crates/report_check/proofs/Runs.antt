@@ -34,7 +34,7 @@ one_spelling sp net s is text = by (s text) (is text)
     by (Ok v) h = sym ((sp max_row_number net.alg.expression text).spells v h)
     by (Err fault) h = sym ((sp max_row_number net.alg.expression text).refuses fault h)
 
--- what a line makes hangs on the spelling of its value alone
+-- what a line makes depends on the spelling of its value alone
 said_same : (s t : RowSpelling) (net : PureNet) (p : PureProgress) → ((text : List ℕ) → s text ≡ t text) → (said : PureSaid) → after_said s net p said ≡ after_said t net p said
 said_same s t net p e silent = refl
 said_same s t net p e (no_route node dest) = refl

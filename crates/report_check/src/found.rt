@@ -75,7 +75,8 @@ pub fn weighed(net: &Net, offer: Option<Route>, row: Option<&Route>) -> OfferFin
         (option_map pure_route offer) (option_map (λ r. pure_route r.now) row.entry)) }
     ensures better { let reported = option_map (λ r. pure_route r.now) row.entry in MatchOption result.better
         (¬ Outdoes (carrier net.now) (option_map pure_route offer) reported)
-        (λ s. (option_map pure_route offer ≡ Some (pure_route s)) × Outdoes (carrier net.now) (Some (pure_route s)) reported) }
+        (λ s. (option_map pure_route offer ≡ Some (pure_route s))
+        × Outdoes (carrier net.now) (Some (pure_route s)) reported) }
 {
     let is_made = makes(offer.as_ref(), row);
     if outdoes(net, offer.as_ref(), row) {

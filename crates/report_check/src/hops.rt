@@ -25,7 +25,8 @@ pub struct ManyHops {
     pub value: Option<Value>,
     /// The node has an origin of the destination whose value is equivalent to the row's.
     pub here: bool,
-    /// The heads of the node's arcs, in file order, whose label makes of the head's row a value equivalent to this row's.
+    /// The heads of the node's arcs, in file order, whose label makes of the head's row a value equivalent to this
+    /// row's.
     pub heads: List<NodeId>,
 }
 

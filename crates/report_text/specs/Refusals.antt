@@ -9,8 +9,10 @@ use Rattle.net_graph.specs.Nets.{PureArc, PureNet}
 use Rattle.net_graph.specs.RowTexts.{node_text}
 use Rattle.topology_file.specs.declared.faults.NetFault.{NetFault}
 use Rattle.topology_file.specs.Faults.{net_kind_number}
+use Rattle.report_check.specs.declared.faults.ReportFault.{ReportFault}
+use Rattle.report_check.specs.Faults.{report_kind_number}
 use Rattle.report_text.specs.declared.refusals.Refusal.{Refusal}
-use Rattle.report_text.specs.declared.refusals.Refusal.TheVariants.{Words, Expr, Network, Read, Long, Memory}
+use Rattle.report_text.specs.declared.refusals.Refusal.TheVariants.{Words, Expr, Network, Report, Read, Long, Memory}
 use Rattle.report_text.specs.VerdictTexts.{CanPrint, instance_text, property_word}
 
 -- why nothing was done, by pure values: an arc by its number
@@ -18,6 +20,7 @@ pub data PureRefusal : Type 0 where
   words : ℕ → PureRefusal
   expr : ExprFault → PureRefusal
   network : NetFault → PureRefusal
+  report : ReportFault → PureRefusal
   misses : ℕ → PureInstance → PureRefusal
   read : Which → PureRefusal
   long : Which → PureRefusal
@@ -27,6 +30,7 @@ abbrev pub pure_refusal : Refusal → PureRefusal
 pure_refusal (Words number) = words number
 pure_refusal (Expr fault) = expr fault
 pure_refusal (Network fault) = network fault
+pure_refusal (Report fault) = report fault
 pure_refusal (Read file) = read file
 pure_refusal (Long file) = long file
 pure_refusal Memory = memory
@@ -34,6 +38,7 @@ pure_refusal Memory = memory
 abbrev pub which_text : Which → List ℕ
 which_text which.Expr = codes "expression"
 which_text which.Network = codes "network"
+which_text which.Report = codes "report"
 
 -- LISTENER SPEAKER: the names of the arc's tail and head
 abbrev pub ends_text : PureNet → Option PureArc → List ℕ
@@ -59,6 +64,9 @@ refusal_text (expr f) net =
     ++ decimal f.place.line ++ codes ":" ++ decimal f.place.column ++ codes "\n"
 refusal_text (network f) net =
     codes "network refused: N" ++ decimal (net_kind_number f.kind) ++ codes " at line "
+    ++ decimal f.line ++ codes "\n"
+refusal_text (report f) net =
+    codes "report refused: V" ++ decimal (report_kind_number f.kind) ++ codes " at line "
     ++ decimal f.line ++ codes "\n"
 refusal_text (misses n x) net = misses_text n x net
 refusal_text (read w) net = codes "read fault on the " ++ which_text w ++ codes "\n"

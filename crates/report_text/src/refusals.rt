@@ -4,7 +4,7 @@ ghost use Rattle.meta_base.specs.Appending.{Gains};
 ghost use Rattle.alg_classes.specs.Instances.{pure_instance};
 ghost use Rattle.net_graph.specs.Views.{pure_arc};
 ghost use Rattle.report_text.specs.VerdictTexts.{CanPrint};
-ghost use Rattle.report_text.specs.Refusals.{words, expr, network, misses, read, long, memory, pure_refusal, which_text, arc_text, ends_text, refusal_text};
+ghost use Rattle.report_text.specs.Refusals.{words, expr, network, report, misses, read, long, memory, pure_refusal, which_text, arc_text, ends_text, misses_text, refusal_text};
 ghost use Rattle.net_graph.specs.Nets.{PureNet};
 
 use crate::rows::push_node;
@@ -13,6 +13,7 @@ use alg_classes::Instance;
 use meta_base::{ArcId, NoMemory, Text, Which, push_number};
 use net_graph::{Arc, Net};
 use raml_syntax::ExprFault;
+use report_check::ReportFault;
 use std::alloc::Global;
 use topology_file::NetFault;
 
@@ -26,6 +27,8 @@ pub enum Refusal {
     Expr(ExprFault),
     /// The network file means no network; its kind is printed after an N.
     Network(NetFault),
+    /// The report means no tables; its kind is printed after a V.
+    Report(ReportFault),
     /// That file can't be read.
     Read(Which),
     /// That file has more bytes than [`meta_base::MAX_FILE_BYTES`].
@@ -70,6 +73,18 @@ fn network_line(alloc: Global, fault: NetFault) -> Result<Text, NoMemory>
     Ok(Text::from_string(out))
 }
 
+fn report_line(alloc: Global, fault: ReportFault) -> Result<Text, NoMemory>
+    ensures { IfOk result (λ text. text ≡ refusal_text (report fault) None) }
+{
+    let mut out = String::new(alloc);
+    out.push_str("report refused: V")?;
+    push_number(&mut out, u128::from(fault.kind.number()))?;
+    out.push_str(" at line ")?;
+    push_number(&mut out, u128::from(fault.line))?;
+    out.push_str("\n")?;
+    Ok(Text::from_string(out))
+}
+
 // The names of the arc's listener and of its speaker.
 pub(crate) fn push_arc(out: &mut String, net: &Net, arc: ArcId) -> Result<(), NoMemory>
     requires { arc.0 < length net.now.arcs }
@@ -102,13 +117,28 @@ pub fn misses_line(
     ensures { IfOk result (λ text. text ≡ refusal_text (misses arc.0 (pure_instance instance.now)) (Some net.now)) }
 {
     let mut out = String::new(alloc);
+    push_misses_line(alloc, &mut out, net, arc, instance)?;
+    Ok(Text::from_string(out))
+}
+
+// That line, after what stands there.
+pub(crate) fn push_misses_line(
+    alloc: Global,
+    out: &mut String,
+    net: &Net,
+    arc: ArcId,
+    instance: &Instance,
+) -> Result<(), NoMemory>
+    requires arc { arc.0 < length net.now.arcs }
+    requires instance { CanPrint net.now.alg.expression (pure_instance instance.now) }
+    ensures { OnOk result (Gains out.old (misses_text arc.0 (pure_instance instance.now) (Some net.now)) out.new) }
+{
     out.push_str(word_of(instance.property))?;
     out.push_str(" fails on ")?;
-    push_arc(&mut out, net, arc)?;
+    push_arc(out, net, arc)?;
     out.push_str(": ")?;
-    push_instance(alloc, &mut out, net.alg(), instance)?;
-    out.push_str("\n")?;
-    Ok(Text::from_string(out))
+    push_instance(alloc, out, net.alg(), instance)?;
+    Ok(out.push_str("\n")?)
 }
 
 fn which_word(which: Which) -> &'static str
@@ -117,6 +147,7 @@ fn which_word(which: Which) -> &'static str
     match which {
         Which::Expr => "expression",
         Which::Network => "network",
+        Which::Report => "report",
     }
 }
 
@@ -148,6 +179,7 @@ pub fn refusal_line(alloc: Global, refusal: Refusal) -> Result<Text, NoMemory>
         Refusal::Words(number) => words_line(alloc, number),
         Refusal::Expr(fault) => expr_line(alloc, fault),
         Refusal::Network(fault) => network_line(alloc, fault),
+        Refusal::Report(fault) => report_line(alloc, fault),
         Refusal::Read(which) => read_line(alloc, which),
         Refusal::Long(which) => long_line(alloc, which),
         Refusal::Memory => Ok(Text::copy(alloc, "out of memory\n")?),

@@ -1,11 +1,11 @@
 // The lines of rows.
-ghost use Rattle.std.specs.Prelude.{◌≡◌, map, ◌<◌, length, OnOk, IfOk};
+ghost use Rattle.std.specs.Prelude.{◌≡◌, map, ◌<◌, length, option_map, OnOk, IfOk, IfSome};
 ghost use Rattle.meta_base.specs.Appending.{Gains};
-ghost use Rattle.net_graph.specs.Views.{pure_row};
-ghost use Rattle.net_graph.specs.RowTexts.{AreNodesOf, IsRowOf, node_text, dest_text, path_text, route_text, row_text};
+ghost use Rattle.net_graph.specs.Views.{pure_route, pure_row};
+ghost use Rattle.net_graph.specs.RowTexts.{AreNodesOf, IsRouteIn, IsRowOf, node_text, dest_text, path_text, route_text, row_text};
 
 use meta_base::{DestId, NoMemory, NodeId, Text};
-use net_graph::{Net, RouteRow};
+use net_graph::{Net, Route, RouteRow};
 use sig_text::push_value;
 use std::alloc::Global;
 
@@ -24,7 +24,7 @@ pub(crate) fn push_dest(out: &mut String, net: &Net, dest: DestId) -> Result<(),
 }
 
 // The names of the nodes of a path, each after a space.
-fn push_path(out: &mut String, net: &Net, path: &[NodeId]) -> Result<(), NoMemory>
+pub(crate) fn push_path(out: &mut String, net: &Net, path: &[NodeId]) -> Result<(), NoMemory>
     requires { AreNodesOf net.now (map (λ node. node.0) path.now) }
     ensures { OnOk result (Gains out.old (path_text net.now (map (λ node. node.0) path.now)) out.new) }
 {
@@ -38,12 +38,12 @@ fn push_path(out: &mut String, net: &Net, path: &[NodeId]) -> Result<(), NoMemor
     }
 }
 
-// The value and the path of a row, or the word none.
-fn push_route(out: &mut String, net: &Net, row: &RouteRow) -> Result<(), NoMemory>
-    requires { IsRowOf net.now (pure_row row.now) }
-    ensures { OnOk result (Gains out.old (route_text net.now (pure_row row.now).route) out.new) }
+// The value and the path of a route, or the word none.
+pub(crate) fn push_route(out: &mut String, net: &Net, route: Option<&Route>) -> Result<(), NoMemory>
+    requires { IfSome (option_map (λ r. pure_route r.now) route) (IsRouteIn net.now) }
+    ensures { OnOk result (Gains out.old (route_text net.now (option_map (λ r. pure_route r.now) route.entry)) out.new) }
 {
-    match &row.route {
+    match route {
         None => Ok(out.push_str("none")?),
         Some(route) => {
             push_value(out, net.alg(), &route.value)?;
@@ -62,7 +62,7 @@ pub fn push_row_line(out: &mut String, net: &Net, row: &RouteRow) -> Result<(), 
     out.push(' ')?;
     push_dest(out, net, row.dest)?;
     out.push(' ')?;
-    push_route(out, net, row)?;
+    push_route(out, net, row.route.as_ref())?;
     Ok(out.push('\n')?)
 }
 

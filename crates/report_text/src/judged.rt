@@ -1,0 +1,118 @@
+// The lines of judgements and of next hops.
+ghost use Rattle.std.specs.Prelude.{◌≡◌, IfOk, OnOk};
+ghost use Rattle.meta_base.specs.Appending.{Gains};
+ghost use Rattle.report_check.specs.Views.{pure_hops, pure_judgement, pure_optimal, pure_stable};
+ghost use Rattle.report_text.specs.JudgedTexts.{CanPrintHops, CanPrintJudgement, CanPrintOptimal, CanPrintStable, IsRowName, hops_text, judgement_text, optimal_text, row_names, stability_text, ways_text};
+
+use crate::refusals::push_misses_line;
+use crate::rows::{push_dest, push_node, push_path, push_route};
+use meta_base::{DestId, NoMemory, NodeId, Text};
+use net_graph::Net;
+use report_check::{Judgement, ManyHops, OptimalFinding, StableFinding};
+use sig_text::push_value;
+use std::alloc::Global;
+
+// The names of a row's node and destination.
+fn push_names(out: &mut String, net: &Net, node: NodeId, dest: DestId) -> Result<(), NoMemory>
+    requires { IsRowName net.now node.0 dest.0 }
+    ensures { OnOk result (Gains out.old (row_names net.now node.0 dest.0) out.new) }
+{
+    push_node(out, net, node)?;
+    out.push(' ')?;
+    push_dest(out, net, dest)
+}
+
+// The line on how good the routes are.
+fn push_optimal(
+    alloc: Global,
+    out: &mut String,
+    net: &Net,
+    finding: &OptimalFinding,
+) -> Result<(), NoMemory>
+    requires { CanPrintOptimal net.now (pure_optimal finding.now) }
+    ensures { OnOk result (Gains out.old (optimal_text net.now (pure_optimal finding.now)) out.new) }
+{
+    match finding {
+        OptimalFinding::Yes => Ok(out.push_str("optimal yes\n")?),
+        OptimalFinding::NoWalk { node, dest } => {
+            out.push_str("optimal no: ")?;
+            push_names(out, net, *node, *dest)?;
+            Ok(out.push_str(" isn't a walk of that value\n")?)
+        }
+        OptimalFinding::Beaten { node, dest, walk } => {
+            out.push_str("optimal no: ")?;
+            push_names(out, net, *node, *dest)?;
+            out.push_str(" is beaten by")?;
+            push_path(out, net, walk.as_slice())?;
+            Ok(out.push('\n')?)
+        }
+        OptimalFinding::Unsettled { arc, instance } => {
+            out.push_str("optimal open: ")?;
+            push_misses_line(alloc, out, net, *arc, instance)
+        }
+    }
+}
+
+// The line on whether they are stable.
+fn push_stability(out: &mut String, net: &Net, finding: &StableFinding) -> Result<(), NoMemory>
+    requires { CanPrintStable net.now (pure_stable finding.now) }
+    ensures { OnOk result (Gains out.old (stability_text net.now (pure_stable finding.now)) out.new) }
+{
+    match finding {
+        StableFinding::Yes => Ok(out.push_str("stable yes\n")?),
+        StableFinding::NotOffered { node, dest } => {
+            out.push_str("stable no: ")?;
+            push_names(out, net, *node, *dest)?;
+            Ok(out.push_str(" isn't offered\n")?)
+        }
+        StableFinding::Better { node, dest, offer } => {
+            out.push_str("stable no: ")?;
+            push_names(out, net, *node, *dest)?;
+            out.push_str(" has the better offer ")?;
+            push_route(out, net, Some(offer))?;
+            Ok(out.push('\n')?)
+        }
+    }
+}
+
+/// The two lines of a judgement: whether no walk beats the routes that were judged, and whether they are stable. All
+/// that they name is the network's. It is refused for want of memory alone.
+pub fn judgement_lines(alloc: Global, net: &Net, judgement: &Judgement) -> Result<Text, NoMemory>
+    requires { CanPrintJudgement net.now (pure_judgement judgement.now) }
+    ensures { IfOk result (λ text. text ≡ judgement_text net.now (pure_judgement judgement.now)) }
+{
+    let mut out = String::new(alloc);
+    push_optimal(alloc, &mut out, net, &judgement.optimal)?;
+    push_stability(&mut out, net, &judgement.stable)?;
+    Ok(Text::from_string(out))
+}
+
+/// The line of a row with all next hops that are equally good: `NODE DEST VALUE`, then `here` where an origin of the
+/// node is as good, then the names of the next hops; or `NODE DEST none`. It is refused for want of memory alone.
+pub fn hops_line(alloc: Global, net: &Net, hops: &ManyHops) -> Result<Text, NoMemory>
+    requires { CanPrintHops net.now (pure_hops hops.now) }
+    ensures { IfOk result (λ text. text ≡ hops_text net.now (pure_hops hops.now)) }
+{
+    let mut out = String::new(alloc);
+    push_names(&mut out, net, hops.node, hops.dest)?;
+    out.push(' ')?;
+    push_ways(&mut out, net, hops)?;
+    out.push('\n')?;
+    Ok(Text::from_string(out))
+}
+
+// The value and the next hops of a row, or the word none.
+fn push_ways(out: &mut String, net: &Net, hops: &ManyHops) -> Result<(), NoMemory>
+    requires { CanPrintHops net.now (pure_hops hops.now) }
+    ensures { OnOk result (Gains out.old
+        (ways_text net.now (pure_hops hops.now) (pure_hops hops.now).value) out.new) }
+{
+    let Some(value) = &hops.value else {
+        return Ok(out.push_str("none")?);
+    };
+    push_value(out, net.alg(), value)?;
+    if hops.here {
+        out.push_str(" here")?;
+    }
+    push_path(out, net, hops.heads.as_slice())
+}
