@@ -49,6 +49,17 @@ abbrev pub Puts : {A : Type 0} → Held → List ℕ → Result A Failed → Hel
 Puts old piece (Ok _) new = Appended old piece new
 Puts old piece (Err _) new = AppendedPart old piece new
 
+-- what was taken before could not be handed on: the count rose, and what is shown of the bytes stays
+pub record FlushFailed (old new : Held) : Type 0 where
+  pub risen : HasRisen old.faults new.faults
+  pub faults : old.faults ≤ new.faults
+  pub reports : new.reports ≡ old.reports
+  pub bytes : IsTrue old.reports → new.bytes ≡ old.bytes
+
+abbrev pub HasFlushed : {A : Type 0} → Held → Result A Failed → Held → Type 0
+HasFlushed old (Ok _) new = new ≡ old
+HasFlushed old (Err _) new = FlushFailed old new
+
 -- the first n bytes of the piece have been appended, and no write failed
 pub record HasFront (old : Held) (piece : List ℕ) (n : ℕ) (new : Held) : Type 0 where
   pub within : n ≤ length piece

@@ -1,6 +1,6 @@
-ghost use Rattle.std.specs.Prelude.{◌≡◌, ◌==◌, ◌||◌, ◌&&◌, ◌-◌, ◌<◌, ◌≤◌, [], IfOk, is_ok, length, min, not, vec_len, if◌then◌else◌};
+ghost use Rattle.std.specs.Prelude.{◌≡◌, ◌==◌, ◌||◌, true, ◌&&◌, ◌-◌, ◌<◌, ◌≤◌, [], IfOk, is_ok, length, min, not, vec_len, if◌then◌else◌};
 ghost use Rattle.meta_base.specs.Count.{raised};
-ghost use Rattle.meta_base.specs.Sink.{HasWritten};
+ghost use Rattle.meta_base.specs.Sink.{HasFlushed, HasWritten};
 
 use crate::calls::Calls;
 use crate::{Failed, List, NoMemory, Sink};
@@ -89,5 +89,14 @@ impl Sink for MemSink {
         self.buffer[self.len..self.len + n].copy_from_slice(&piece[..n]);
         self.len += n;
         Ok(n)
+    }
+
+    // What it took stays in its buffer.
+    fn flush(&mut self) -> Result<(), Failed>
+        ensures flushed { HasFlushed (held_by self.old) result (held_by self.new) }
+        ensures answer { is_ok result ≡ true }
+        ensures same { self.new ≡ self.old }
+    {
+        Ok(())
     }
 }

@@ -1,4 +1,4 @@
-ghost use Rattle.meta_base.specs.Sink.{Held, HasWritten};
+ghost use Rattle.meta_base.specs.Sink.{Held, HasFlushed, HasWritten};
 
 use crate::Failed;
 
@@ -17,4 +17,11 @@ pub trait Sink {
     /// nothing. A call that doesn't fail leaves the count, and one with an empty piece changes nothing.
     fn write(&mut self, piece: &[u8]) -> Result<usize, Failed>
         ensures { HasWritten (holds self.old) piece.now result (holds self.new) };
+
+    /// Hands on what it took and still keeps, where it gathers pieces. Whoever wrote the last piece calls it.
+    ///
+    /// It fails only where the count of faults rises. What is shown of the bytes stays as it is, and a call
+    /// that doesn't fail leaves the count too.
+    fn flush(&mut self) -> Result<(), Failed>
+        ensures { HasFlushed (holds self.old) result (holds self.new) };
 }
