@@ -95,8 +95,10 @@ fn run<R: AllocGlobal + Threads + Wait + Sync, S: Shelf, K: Sink>(
 // The same with the words, the files and the standard output of the system.
 fn run_on_system<R: AllocGlobal + Env + Files + Print + Threads + Wait + Sync>(rt: &R) -> u8 {
     let mut shelf = FileShelf::new(rt);
-    let mut out = OutSink::new(rt);
-    run(rt, read_args(rt), &mut shelf, &mut out)
+    match OutSink::new(rt.alloc(), rt) {
+        Ok(mut out) => run(rt, read_args(rt), &mut shelf, &mut out),
+        Err(NoMemory) => 7,
+    }
 }
 
 fn main(rt: HostRuntime) -> ExitCode {
