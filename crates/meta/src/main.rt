@@ -65,10 +65,8 @@ fn carry_out<R: AllocGlobal + Threads + Wait + Sync, S: Shelf, K: Sink>(
 fn refuse_words<K: Sink>(out: &mut K) -> u8
     ensures { IsRefusedUnread (K.holds out.old) (K.holds out.new) result }
 {
-    match put_all(out, b"words refused: C2\n") {
-        Ok(()) => 1,
-        Err(_) => 6,
-    }
+    let is_written = put_all(out, b"words refused: C2\n").is_ok() && out.flush().is_ok();
+    if is_written { 1 } else { 6 }
 }
 
 // What the program does with these words, and the status that it ends with.
