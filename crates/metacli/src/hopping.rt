@@ -114,15 +114,20 @@ fn best_hops_on<R: AllocGlobal + Threads + Sync>(
 {
     best_first_is_optimal();
     let tables = tables_of(rt, net, ONE_WORKER)?;
-    hops_of(rt.alloc(), net, tables.as_slice())
+    let room = net.node_count().saturating_mul(net.dest_count());
+    hops_of(rt.alloc(), net, tables.as_slice(), room)
 }
 
-// The next hops of the tables, one table after another.
-fn hops_of(alloc: Global, net: &Net, tables: &[DestTable]) -> Result<List<ManyHops>, NoMemory>
+// The next hops of the tables, one table after another, in a list that has room for so many at once.
+fn hops_of(
+    alloc: Global,
+    net: &Net,
+    tables: &[DestTable],
+    room: usize,
+) -> Result<List<ManyHops>, NoMemory>
     requires { AreTablesOf net.now tables.now }
     ensures { IfOk result (λ many. map pure_hops many ≡ all_hops net.now 0 (map rows_of tables.now)) }
 {
-    let room = net.node_count().saturating_mul(net.dest_count());
     let mut many = Vec::with_capacity(alloc, room)?;
     for table in tables {
         append_hops(&mut many, best_hops(alloc, net, table)?)?;
