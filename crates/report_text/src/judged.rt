@@ -44,7 +44,7 @@ fn push_optimal(
             push_names(out, net, *node, *dest)?;
             out.push_str(" is beaten by")?;
             push_path(out, net, walk.as_slice())?;
-            Ok(out.push('\n')?)
+            Ok(out.push_str("\n")?)
         }
         OptimalFinding::Unsettled { arc, instance } => {
             out.push_str("optimal open: ")?;
@@ -70,7 +70,7 @@ fn push_stability(out: &mut String, net: &Net, finding: &StableFinding) -> Resul
             push_names(out, net, *node, *dest)?;
             out.push_str(" has the better offer ")?;
             push_route(out, net, Some(offer))?;
-            Ok(out.push('\n')?)
+            Ok(out.push_str("\n")?)
         }
     }
 }
