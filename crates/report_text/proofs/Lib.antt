@@ -1,3 +1,2 @@
 pub mod Summaries
 pub mod CodeLines
-mod Appended
