@@ -1,5 +1,5 @@
 // The lines of judgements and of next hops.
-ghost use Rattle.std.specs.Prelude.{◌≡◌, Some, map, IfOk, OnOk};
+ghost use Rattle.std.specs.Prelude.{◌≡◌, ◌++◌, Some, map, IfOk, OnOk};
 ghost use Rattle.alg_classes.specs.Instances.{pure_instance};
 ghost use Rattle.meta_base.specs.Appending.{Gains};
 ghost use Rattle.net_graph.specs.RowTexts.{AreNodesOf, IsRouteIn};
@@ -28,14 +28,30 @@ fn push_names(out: &mut String, net: &Net, node: NodeId, dest: DestId) -> Result
     push_dest(out, net, dest)
 }
 
+// The names of the row that a finding is about, between these words.
+fn push_about(
+    out: &mut String,
+    net: &Net,
+    node: NodeId,
+    dest: DestId,
+    before: &str,
+    after: &str,
+) -> Result<(), NoMemory>
+    requires { IsRowName net.now node.0 dest.0 }
+    ensures { OnOk result (Gains out.old (before.now ++ row_names net.now node.0 dest.0 ++ after.now) out.new) }
+{
+    out.push_str(before)?;
+    push_names(out, net, node, dest)?;
+    Ok(out.push_str(after)?)
+}
+
 // The line on a row whose path is no walk of its value.
 fn push_no_walk(out: &mut String, net: &Net, node: NodeId, dest: DestId) -> Result<(), NoMemory>
     requires { IsRowName net.now node.0 dest.0 }
     ensures { OnOk result (Gains out.old (optimal_text net.now (no_walk node.0 dest.0)) out.new) }
 {
-    out.push_str("optimal no: ")?;
-    push_names(out, net, node, dest)?;
-    Ok(out.push_str(" isn't a walk of that value\n")?)
+    let after = " isn't a walk of that value\n";
+    push_about(out, net, node, dest, "optimal no: ", after)
 }
 
 // The line on a row that a walk beats.
@@ -51,9 +67,7 @@ fn push_beaten(
     ensures { OnOk result (Gains out.old
         (optimal_text net.now (beaten node.0 dest.0 (map (λ node. node.0) walk.now))) out.new) }
 {
-    out.push_str("optimal no: ")?;
-    push_names(out, net, node, dest)?;
-    out.push_str(" is beaten by")?;
+    push_about(out, net, node, dest, "optimal no: ", " is beaten by")?;
     push_path(out, net, walk)?;
     Ok(out.push_str("\n")?)
 }
@@ -101,9 +115,7 @@ fn push_not_offered(out: &mut String, net: &Net, node: NodeId, dest: DestId) -> 
     requires { IsRowName net.now node.0 dest.0 }
     ensures { OnOk result (Gains out.old (stability_text net.now (not_offered node.0 dest.0)) out.new) }
 {
-    out.push_str("stable no: ")?;
-    push_names(out, net, node, dest)?;
-    Ok(out.push_str(" isn't offered\n")?)
+    push_about(out, net, node, dest, "stable no: ", " isn't offered\n")
 }
 
 // The line on a row that has a better offer.
@@ -119,9 +131,8 @@ fn push_better(
     ensures { OnOk result (Gains out.old
         (stability_text net.now (better node.0 dest.0 (pure_route offer.now))) out.new) }
 {
-    out.push_str("stable no: ")?;
-    push_names(out, net, node, dest)?;
-    out.push_str(" has the better offer ")?;
+    let after = " has the better offer ";
+    push_about(out, net, node, dest, "stable no: ", after)?;
     push_route(out, net, Some(offer))?;
     Ok(out.push_str("\n")?)
 }
