@@ -65,10 +65,8 @@ fn carry_out<R: AllocGlobal + Threads + Wait + Sync, S: Shelf, K: Sink>(
 fn refuse_words<K: Sink>(out: &mut K) -> u8
     ensures { IsRefusedUnread (K.holds out.old) (K.holds out.new) result }
 {
-    match put_all(out, b"words refused: C2\n") {
-        Ok(()) => 1,
-        Err(_) => 6,
-    }
+    let is_written = put_all(out, b"words refused: C2\n").is_ok() && out.flush().is_ok();
+    if is_written { 1 } else { 6 }
 }
 
 // What the program does with these words, and the status that it ends with.
@@ -95,8 +93,10 @@ fn run<R: AllocGlobal + Threads + Wait + Sync, S: Shelf, K: Sink>(
 // The same with the words, the files and the standard output of the system.
 fn run_on_system<R: AllocGlobal + Env + Files + Print + Threads + Wait + Sync>(rt: &R) -> u8 {
     let mut shelf = FileShelf::new(rt);
-    let mut out = OutSink::new(rt);
-    run(rt, read_args(rt), &mut shelf, &mut out)
+    match OutSink::new(rt.alloc(), rt) {
+        Ok(mut out) => run(rt, read_args(rt), &mut shelf, &mut out),
+        Err(NoMemory) => 7,
+    }
 }
 
 fn main(rt: HostRuntime) -> ExitCode {

@@ -1,6 +1,7 @@
 -- The printed text of what was decided, and what of it was written.
-use Rattle.std.specs.Prelude.{◌≡◌, ℕ, ◌+◌, Bool, true, List, [], ◌∷◌, ◌++◌, length, map, nat_eq, Option, Some, None, Result, Ok, Err, take, drop, option_map, if◌then◌else◌}
+use Rattle.std.specs.Prelude.{◌≡◌, ◌≤◌, ℕ, ◌+◌, Bool, true, IsTrue, List, [], ◌∷◌, ◌++◌, length, map, nat_eq, Option, Some, None, Result, Ok, Err, take, drop, option_map, if◌then◌else◌}
 use Rattle.std.specs.List.{concat, range_with_len, AllByRecursion}
+use Rattle.meta_base.specs.Count.{HasRisen}
 use Rattle.meta_base.specs.Sink.{Held, Appended, AppendedPart}
 use Rattle.meta_base.specs.declared.ids.Delivery.{Delivery}
 use Rattle.net_graph.specs.Nets.{PureNet}
@@ -116,10 +117,18 @@ PutsText old text (Ok _) new = Appended old text new
 PutsText old text (Err Sink) new = AppendedPart old text new
 PutsText old text (Err Memory) new = (rest : List ℕ) × HasLines old text rest new
 
--- What was written of the text, by the answer in the end: a proper front of it after a write fault; a
--- front of it where memory was refused, and all of it where that was decided before; else all of it.
+-- a front of the text was appended, and the count rose: the sink failed before the end of the text, or where it was to
+-- hand on what it had gathered
+pub record CutShort (old : Held) (text : List ℕ) (new : Held) : Type 0 where
+  pub risen : HasRisen old.faults new.faults
+  pub faults : old.faults ≤ new.faults
+  pub reports : new.reports ≡ old.reports
+  pub bytes : IsTrue old.reports → (n : ℕ) × (n ≤ length text) × (new.bytes ≡ old.bytes ++ take n text)
+
+-- What was written of the text, by the answer in the end: a front of it after a write fault; a front of it
+-- where memory was refused, and all of it where that was decided before; else all of it.
 abbrev pub Written : Held → List ℕ → Held → PureAnswer → PureAnswer → Type 0
-Written old text new decided write_fault = AppendedPart old text new
+Written old text new decided write_fault = CutShort old text new
 Written old text new decided (refused memory) = (decided ≡ refused memory → Appended old text new) × ((n : ℕ) × Appended old (take n text) new)
 Written old text new decided (refused r) = (refused r ≡ decided) × Appended old text new
 Written old text new decided done = (done ≡ decided) × Appended old text new

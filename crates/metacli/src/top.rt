@@ -20,7 +20,7 @@ use crate::routing::route;
 use crate::running::run;
 use crate::task::{AlgebraTask, NetworkTask, Task, task_of};
 use crate::wedging::gadget;
-use crate::writing::write;
+use crate::writing::{hand_on, write};
 use crate::{Command, Ended, read_words};
 use alg_model::Alg;
 use meta_base::{Gate, Shelf, Sink, Text};
@@ -46,7 +46,8 @@ pub fn run_meta<R: AllocGlobal + Threads + Wait + Sync, S: Shelf, K: Sink, G: Ga
 {
     let alloc = rt.alloc();
     let (command, outcome) = decide(rt, words, shelf, gate);
-    let answer = write(alloc, out, &outcome);
+    let written = write(alloc, out, &outcome);
+    let answer = hand_on(out, written);
     outcome.ended(alloc, command, answer)
 }
 

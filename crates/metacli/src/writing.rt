@@ -1,8 +1,9 @@
 // Writing the text of what a run came to, a line at a time.
-ghost use Rattle.std.specs.Prelude.{◌≡◌, ◌≢◌, ◌++◌, Option, Some, map, option_map, IfOk};
+ghost use Rattle.std.specs.Prelude.{◌≡◌, ◌≢◌, ◌++◌, ℕ, List, Option, Some, map, option_map, IfOk};
 ghost use Rattle.std.specs.List.{AllByRecursion};
 ghost use Rattle.alg_classes.specs.Instances.{pure_instance, pure_property};
 ghost use Rattle.alg_model.specs.Views.{pure_value};
+ghost use Rattle.meta_base.specs.Sink.{Held};
 ghost use Rattle.net_graph.specs.Nets.{PureNet};
 ghost use Rattle.net_graph.specs.Views.{pure_row};
 ghost use Rattle.net_graph.specs.RowTexts.{IsRowOf};
@@ -19,7 +20,7 @@ ghost use Rattle.vector_runs.specs.Runs.{AreOfNetworks, pure_phase};
 ghost use Rattle.wedge_nets.specs.GadgetTexts.{gadget_text};
 ghost use Rattle.wedge_nets.specs.Gadgets.{HasGadget};
 ghost use Rattle.metacli.specs.After.{last_of};
-ghost use Rattle.metacli.specs.Answers.{pure_answer, pure_stop, refused, write_fault};
+ghost use Rattle.metacli.specs.Answers.{PureAnswer, pure_answer, pure_stop, refused, write_fault};
 ghost use Rattle.metacli.specs.Outcome.{answer_in};
 ghost use Rattle.metacli.specs.Texts.{PutsText, TextOf, Written, last_net, many_text, routes_text, rows_text, run_text, unmet_text};
 ghost use Rattle.metacli.specs.Views.{CanBeWritten, IsListedOn, pure_outcome};
@@ -71,6 +72,21 @@ pub fn write<K: Sink>(alloc: Global, out: &mut K, outcome: &Outcome) -> Answer
         Outcome::Wedged(it) => answered(put_gadget(alloc, out, it), Answer::Done),
         Outcome::Ran(it) => answered(put_run(alloc, out, it), end_answer(it.run.is_quiet)),
         Outcome::Shown(it) => answered(put_shown(alloc, out, it), Answer::Done),
+    }
+}
+
+/// Hands on what the sink gathered, after this was answered, and answers how that went.
+pub fn hand_on<K: Sink>(out: &mut K, answer: Answer) -> Answer
+    ensures { (old : Held) (text : List ℕ) (decided : PureAnswer) →
+        Written old text (K.holds out.old) decided (pure_answer answer) →
+        Written old text (K.holds out.new) decided (pure_answer result) }
+{
+    match out.flush() {
+        Ok(()) => answer,
+        Err(Failed) => {
+            drop(answer);
+            Answer::WriteFault
+        }
     }
 }
 
@@ -304,7 +320,7 @@ pub(crate) fn put_rows<K: Sink>(
 }
 
 // Writes a line, and answers what was decided, or that the sink failed.
-#[tactic(auto, using(crate::proofs::Written::all_written))]
+#[tactic(auto, using(crate::proofs::Written::all_written, crate::proofs::Written::cut_short))]
 fn write_line<K: Sink>(out: &mut K, line: &[u8], decided: Answer) -> Answer
     requires { pure_answer decided ≢ write_fault }
     ensures { Written (K.holds out.old) line.now (K.holds out.new) (pure_answer decided) (pure_answer result) }

@@ -40,15 +40,32 @@ impl Print for OneLine {
 }
 
 #[test]
-fn pieces_reach_the_output(rt: HostRuntime) {
-    let mut out = OutSink::new(&OneLine);
-    assert_eq!(rt; out.write(LINE), Ok(7));
-    assert_eq!(rt; out.write(b"a "), Err(Failed));
+fn pieces_reach_the_output(rt: HostRuntime) -> Result<(), Fail> {
+    let mut out = OutSink::new(rt.alloc(), &OneLine)?;
+    assert_eq!(rt; out.write(b"a li"), Ok(4));
+    assert_eq!(rt; out.write(b"ne\n"), Ok(3));
+    assert_eq!(rt; out.flush(), Ok(()));
+    assert_eq!(rt; out.flush(), Ok(()));
+    assert_eq!(rt; out.write(b"a "), Ok(2));
+    assert_eq!(rt; out.flush(), Err(Failed));
+    Ok(())
+}
+
+// A piece that is longer than what the sink gathers is taken in two, and the second call hands on the first part.
+#[test]
+fn long_pieces_are_handed_on(rt: HostRuntime) -> Result<(), Fail> {
+    let mut out = OutSink::new(rt.alloc(), &OneLine)?;
+    let piece = vec![in rt.alloc(); b'-'; 65_537]?;
+    assert_eq!(rt; out.write(&piece), Ok(65_536));
+    assert_eq!(rt; out.write(&piece[65_536..]), Err(Failed));
+    Ok(())
 }
 
 #[test]
-fn pieces_are_printed(rt: HostRuntime) {
-    let mut out = OutSink::new(&rt);
+fn pieces_are_printed(rt: HostRuntime) -> Result<(), Fail> {
+    let mut out = OutSink::new(rt.alloc(), &rt)?;
     assert_eq!(rt; put_all(&mut out, b"a line\n"), Ok(()));
     assert_eq!(rt; out.write(b""), Ok(0));
+    assert_eq!(rt; out.flush(), Ok(()));
+    Ok(())
 }
