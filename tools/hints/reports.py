@@ -112,15 +112,12 @@ def unknown_name(words, text, network):
             continue
         if not is_name(word):
             return column, name_fault(word)
+        if words[0][0] in network.dests and words[1][0] in network.nodes:
+            return column, f'NET has no {what} `{word}`: the node comes first, and then the destination'
         if what == 'destination' and word in network.nodes:
             return column, f'no destination is called `{word}`: a row is {ROW}'
         return column, f'NET has no {what} `{word}`{meant(word, known)}'
     return 1, f'a name isn\'t NET\'s: a row is {ROW}'
-
-
-def wrong_row(network, number):
-    """Advice for a row that isn't the next one."""
-    return due_text(network, number) + '; rows stand by destination, and in each by node, both in the order of NET'
 
 
 def bad_value(words, policy):
@@ -143,7 +140,8 @@ def report_place(kind, words, text, network, before, policy):
     if kind == 'V4':
         return bad_value(words, policy)
     if kind == 'V3':
-        return words[0][1], wrong_row(network, number), []
+        order = 'rows stand by destination, and in each by node, both in the order of NET'
+        return words[0][1], f'{due_text(network, number)}; {order}', []
     if kind == 'V2':
         return (*unknown_name(words, text, network), [])
     return (*bad_line(words, text, network, before, number), [])

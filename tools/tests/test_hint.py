@@ -171,7 +171,7 @@ REPORTS = [
     ('a x none\nspent 123456789012345678901\n', 'V1', '2:7', '1 to 20 digits'),
     ('c x none\n', 'V2', '1:1', 'NET has no node `c`'),
     ('a z none\n', 'V2', '1:3', 'NET has no destination `z`'),
-    ('x a none\n', 'V2', '1:1', 'NET has no node `x`'),
+    ('x a none\n', 'V2', '1:1', 'the node comes first'),
     ('a b none\n', 'V2', '1:3', 'no destination is called `b`'),
     ('a x 3 a c\n', 'V2', '1:9', 'NET has no node `c`'),
     ('A x 3 a b\n', 'V2', '1:1', 'is `a` meant'),
