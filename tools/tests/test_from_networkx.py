@@ -76,6 +76,7 @@ class Reports(Folder):
                             ({'a': ['c', 'b']}, 'starts with c'), ({'a': ['a']}, 'ends at a, which has no origin of x'),
                             ({'b': ['b', 'a', 'b']}, 'from b to a, and there is no such arc'), ({'a': 3}, 'a list of'),
                             ({'a': {'value': 3}}, 'a list of'), ({'x': None}, 'NET has no node x'), ([], 'an object is'),
+                            ('{"a": null, "a": null}', 'a key twice'),
                             ('{"a"', ':1: no JSON'), ('{"a":\n', ':2: no JSON'), ('', 'no JSON')):
             self.assert_refused(net, paths, says)
 
