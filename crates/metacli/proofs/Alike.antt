@@ -9,14 +9,14 @@ use Rattle.net_graph.specs.Changes.{PureChange, after_all, changed}
 use Rattle.net_graph.specs.Nets.{PureNet}
 use Rattle.net_graph.specs.Tables.{PureRow, NetHas, AreSettledRows}
 use Rattle.path_vector.specs.Node.{PvState, carried}
-use Rattle.report_text.specs.Refusals.{words, expr, network, misses, read, long, memory}
+use Rattle.report_text.specs.Refusals.{words, expr, network, report, misses, read, long, memory}
 use Rattle.topology_file.specs.NetText.{PureNetFile, HasOneOutcome, NetText, changed_net}
 use Rattle.vector_runs.specs.Runs.{AreStable, IsRun, PurePhase, RunsFrom, new_nodes}
 use Rattle.vector_runs.specs.Turns.{AreMonotone}
 use Rattle.metacli.specs.Alike.{still, undelivered}
 use Rattle.metacli.specs.Answers.{done, refused, spent}
 use Rattle.metacli.specs.After.{nets_after}
-use Rattle.metacli.specs.Outcome.{PureOutcome, stopped, checked, coded, routed, wedged, ran, shown, AreRoutesOn, IsRoutedAs, IsRunAs, IsShownAs, answer_in, rows_in}
+use Rattle.metacli.specs.Outcome.{PureOutcome, stopped, checked, coded, routed, hopped, judged, wedged, ran, shown, AreRoutesOn, IsRoutedAs, IsRunAs, IsShownAs, answer_in, rows_in}
 use Rattle.metacli.specs.Texts.{TextOf}
 use Rattle.metacli.specs.declared.routing.Solution.TheVariants.{AllStable}
 
@@ -56,12 +56,15 @@ quiet traced turns a f (stopped b g memory) h e = let no : refused memory ≡ do
 quiet traced turns a f (stopped b g (words n)) h e = absurd h
 quiet traced turns a f (stopped b g (expr x)) h e = absurd h
 quiet traced turns a f (stopped b g (network x)) h e = absurd h
+quiet traced turns a f (stopped b g (report x)) h e = absurd h
 quiet traced turns a f (stopped b g (misses arc x)) h e = absurd h
 quiet traced turns a f (stopped b g (read w)) h e = absurd h
 quiet traced turns a f (stopped b g (long w)) h e = absurd h
 quiet traced turns a f (checked b g v u) h e = absurd h
 quiet traced turns a f (coded b g listing) h e = absurd h
 quiet traced turns a f (routed s b g rows) h e = absurd h
+quiet traced turns a f (hopped b g many) h e = absurd h
+quiet traced turns a f (judged b g tables j) h e = absurd h
 quiet traced turns a f (wedged b v) h e = absurd h
 quiet traced turns a f (shown b g last) h e = absurd h
 
@@ -95,10 +98,13 @@ stable_alike traced turns a f o (stopped b g memory) h i d e = let no : refused 
 stable_alike traced turns a f o (stopped b g (words n)) h i d e = absurd i
 stable_alike traced turns a f o (stopped b g (expr x)) h i d e = absurd i
 stable_alike traced turns a f o (stopped b g (network x)) h i d e = absurd i
+stable_alike traced turns a f o (stopped b g (report x)) h i d e = absurd i
 stable_alike traced turns a f o (stopped b g (read w)) h i d e = absurd i
 stable_alike traced turns a f o (stopped b g (long w)) h i d e = absurd i
 stable_alike traced turns a f o (checked b g v u) h i d e = absurd i
 stable_alike traced turns a f o (coded b g listing) h i d e = absurd i
+stable_alike traced turns a f o (hopped b g many) h i d e = absurd i
+stable_alike traced turns a f o (judged b g tables j) h i d e = absurd i
 stable_alike traced turns a f o (wedged b v) h i d e = absurd i
 stable_alike traced turns a f o (ran b g t past last q) h i d e = absurd i
 stable_alike traced turns a f o (shown b g last) h i d e = absurd i
@@ -118,6 +124,7 @@ summed seed nodes (stopped None None memory) h e = let no : refused memory ≡ d
 summed seed nodes (stopped None None (words n)) h e = absurd h
 summed seed nodes (stopped None None (expr g)) h e = absurd h
 summed seed nodes (stopped None None (network g)) h e = absurd h
+summed seed nodes (stopped None None (report g)) h e = absurd h
 summed seed nodes (stopped None None (misses arc x)) h e = absurd h
 summed seed nodes (stopped None None (read w)) h e = absurd h
 summed seed nodes (stopped None None (long w)) h e = absurd h
@@ -126,6 +133,8 @@ summed seed nodes (stopped None (Some f) r) h e = absurd h
 summed seed nodes (checked b f v u) h e = absurd h
 summed seed nodes (coded b f listing) h e = absurd h
 summed seed nodes (routed s b f rows) h e = absurd h
+summed seed nodes (hopped b f many) h e = absurd h
+summed seed nodes (judged b f tables j) h e = absurd h
 summed seed nodes (wedged b v) h e = absurd h
 summed seed nodes (ran b f t past last q) h e = absurd h
 

@@ -3,23 +3,27 @@ use Rattle.std.proofs.Common.{◌≡◌, ℕ, ◌≤◌, Bool, true, false, List
 use Rattle.meta_base.specs.Count.{HasRisen}
 use Rattle.meta_base.specs.Shelf.{Moment, Keeps}
 use Rattle.meta_base.specs.declared.ids.Which.{Which}
-use Rattle.meta_base.specs.declared.ids.Which.TheVariants.{Expr, Network}
+use Rattle.meta_base.specs.declared.ids.Which.TheVariants.{Expr, Network, Report}
 use Rattle.alg_model.specs.Expressions.{PureAlg, PureLabel}
 use Rattle.alg_model.specs.Application.{IsLabel}
 use Rattle.raml_syntax.specs.declared.faults.ExprFault.{ExprFault}
 use Rattle.raml_syntax.specs.ExprText.{ExprText, IsExprFault}
 use Rattle.net_facts.specs.MissingLaws.{first_refutes}
 use Rattle.net_graph.specs.Nets.{PureNet}
+use Rattle.net_graph.specs.Tables.{PureRow}
+use Rattle.report_check.specs.ReportText.{HasOneMeaning, ReportText}
 use Rattle.topology_file.specs.NetText.{PureNetFile, NetText, HasOneOutcome, changed_net}
-use Rattle.report_text.specs.Refusals.{PureRefusal, words, expr, network, misses, read, long, memory}
+use Rattle.report_text.specs.Refusals.{PureRefusal, words, expr, network, report, misses, read, long, memory}
 use Rattle.metacli.specs.Answers.{done, refused}
-use Rattle.metacli.specs.Reading.{Holds, IsUntaken, IsReadAs, IsExprRefusal, IsNetRefusal}
-use Rattle.metacli.specs.Outcome.{PureOutcome, stopped, checked, coded, routed, wedged, ran, shown, answer_in, ComesBy, ComesOf, GoesOnFrom, GoesOnOver, IsCheckedAs, IsCodedAs, IsFit, IsMadeAlone, IsMadeOn, IsOnArc, IsRoutedAs, IsRunAs, IsShownAs, IsWedgedAs, WithNetwork, asked_of, labels_on, word_at}
-use Rattle.metacli.specs.Complete.{CompleteBy, IsAnsweredAlone, IsAnsweredOn, IsCompleteOf, IsDecided, IsDone, IsFitFor, IsJudged, IsNetJudged, IsRunOut, IsReported, IsUnlessMemory}
+use Rattle.metacli.specs.Reading.{Holds, IsUntaken, IsReadAs, IsExprRefusal, IsNetRefusal, IsReportRefusal}
+use Rattle.metacli.specs.Outcome as outcome
+use Rattle.metacli.specs.Outcome.{PureOutcome, stopped, checked, coded, routed, hopped, wedged, ran, shown, answer_in, ComesBy, ComesOf, GoesOnFrom, GoesOnOver, GoesOnWith, IsCheckedAs, IsCodedAs, IsFit, IsHoppedAs, IsJudgedAs, IsMadeAlone, IsMadeOn, IsOnArc, IsRoutedAs, IsRunAs, IsShownAs, IsWedgedAs, WithNetwork, WithReport, asked_of, labels_on, word_at}
+use Rattle.metacli.specs.Complete.{CompleteBy, IsAnsweredAlone, IsAnsweredOn, IsCompleteOf, IsDecided, IsDone, IsFitFor, IsJudged, IsNetJudged, IsReportJudged, IsRunOut, IsReported, IsUnlessMemory}
 use Rattle.command_words.specs.declared.command.Command.{Command}
 use Rattle.command_words.specs.declared.command.Required.{Required}
 use Rattle.command_words.specs.declared.command.WordsFault.{WordsFault}
 use Rattle.metacli.specs.declared.routing.Solution.{Solution}
+use Rattle.metacli.specs.declared.routing.Solution.TheVariants.{Unbeaten}
 use Rattle.metacli.specs.Tasks.{task_of}
 use Rattle.metacli.specs.declared.task.AlgebraTask.{AlgebraTask}
 use Rattle.metacli.specs.declared.task.AlgebraTask.TheVariants as alone
@@ -34,6 +38,7 @@ pub record Laws : Type 0 where
   pub fault : (text : List ℕ) (f g : ExprFault) → IsExprFault text f → IsExprFault text g → f ≡ g
   pub apart : (text : List ℕ) (a : PureAlg) (f : ExprFault) → ExprText text a → IsExprFault text f → ⊥
   pub network : (text : List ℕ) (a : PureAlg) → HasOneOutcome text a
+  pub report : (net : PureNet) (text : List ℕ) → HasOneMeaning net text
 
 -- what the shelf tells holds of the bytes that it tells
 reported : (m new : Moment) (name bytes : List ℕ) (P : List ℕ → Type 0) → Holds m name P new → IsReported m name bytes → P bytes
@@ -55,6 +60,7 @@ untaken which name bytes old new memory h t quiet = refl
 untaken which name bytes old new (words n) h t quiet = absurd h
 untaken which name bytes old new (expr f) h t quiet = absurd h
 untaken which name bytes old new (network f) h t quiet = absurd h
+untaken which name bytes old new (report f) h t quiet = absurd h
 untaken which name bytes old new (misses arc x) h t quiet = absurd h
 
 -- where nothing rose before, nothing rose in all
@@ -64,6 +70,9 @@ risen_later a b c h r = ⊎_elim (λ e. inl (omega (arith, e))) inr r
 -- what is shown stays shown
 reported_later : (old between : Moment) (name bytes : List ℕ) → Keeps old between → IsReported old name bytes → IsReported between name bytes
 reported_later old between name bytes k t = record { reports = rw k.reports t.reports; file = k.file name ∙ t.file; short = t.short }
+
+keeps_more : (old between new : Moment) → Keeps old between → Keeps between new → Keeps old new
+keeps_more old between new k l = record { reports = l.reports ∙ k.reports; file = λ name. l.file name ∙ k.file name; faults = omega (arith, k.faults, l.faults); begun = omega (arith, k.begun, l.begun) }
 
 -- Expression files.
 
@@ -80,6 +89,7 @@ judged_bad laws bytes (expr g) Follows o x e = record {
 }
 judged_bad laws bytes (words n) Follows o x e = absurd x
 judged_bad laws bytes (network f) Follows o x e = absurd x
+judged_bad laws bytes (report f) Follows o x e = absurd x
 judged_bad laws bytes (misses arc i) Follows o x e = absurd x
 judged_bad laws bytes (read w) Follows o x e = absurd x
 judged_bad laws bytes (long w) Follows o x e = absurd x
@@ -103,45 +113,110 @@ judged laws name bytes Then Follows old between new o (Err r) h on t quiet over 
 
 -- Network files.
 
-net_judged_good : Laws → (bytes : List ℕ) (Fits : PureNet → Type 0) (Carries : PureOutcome → Type 0) (a : PureAlg) (f : PureNetFile) (o : PureOutcome) → NetText bytes a f
-    → (Fits (changed_net f) → Carries o) → IsNetJudged bytes Fits Carries o a
-net_judged_good laws bytes Fits Carries a f o means d = record {
+net_judged_good : Laws → (bytes : List ℕ) (Follows : PureNet → Type 0) (a : PureAlg) (f : PureNetFile) (o : PureOutcome) → NetText bytes a f → Follows (changed_net f) → IsNetJudged bytes Follows o a
+net_judged_good laws bytes Follows a f o means follows = record {
   bad = λ g x. absurd ((laws.network bytes a).not_both f g means x);
-  good = λ g x fits. d (subst (λ (h : PureNetFile). Fits (changed_net h)) ((laws.network bytes a).one_network g f x means) fits);
+  good = λ g x. subst (λ (h : PureNetFile). Follows (changed_net h)) ((laws.network bytes a).one_network f g means x) follows;
 }
 
-net_judged_bad : Laws → (bytes : List ℕ) (Fits : PureNet → Type 0) (Carries : PureOutcome → Type 0) (a : PureAlg) (r : PureRefusal) (o : PureOutcome) → IsNetRefusal a bytes r → answer_in o ≡ refused r → IsNetJudged bytes Fits Carries o a
-net_judged_bad laws bytes Fits Carries a (network g) o x e = record {
+net_judged_bad : Laws → (bytes : List ℕ) (Follows : PureNet → Type 0) (a : PureAlg) (r : PureRefusal) (o : PureOutcome) → IsNetRefusal a bytes r → answer_in o ≡ refused r → IsNetJudged bytes Follows o a
+net_judged_bad laws bytes Follows a (network g) o x e = record {
   bad = λ f y. inl (e ∙ ap (λ f. refused (network f)) ((laws.network bytes a).one_fault g f x y));
-  good = λ f y fits. absurd ((laws.network bytes a).not_both f g y x);
+  good = λ f y. absurd ((laws.network bytes a).not_both f g y x);
 }
-net_judged_bad laws bytes Fits Carries a (words n) o x e = absurd x
-net_judged_bad laws bytes Fits Carries a (expr f) o x e = absurd x
-net_judged_bad laws bytes Fits Carries a (misses arc i) o x e = absurd x
-net_judged_bad laws bytes Fits Carries a (read w) o x e = absurd x
-net_judged_bad laws bytes Fits Carries a (long w) o x e = absurd x
-net_judged_bad laws bytes Fits Carries a memory o x e = absurd x
+net_judged_bad laws bytes Follows a (words n) o x e = absurd x
+net_judged_bad laws bytes Follows a (expr f) o x e = absurd x
+net_judged_bad laws bytes Follows a (report f) o x e = absurd x
+net_judged_bad laws bytes Follows a (misses arc i) o x e = absurd x
+net_judged_bad laws bytes Follows a (read w) o x e = absurd x
+net_judged_bad laws bytes Follows a (long w) o x e = absurd x
+net_judged_bad laws bytes Follows a memory o x e = absurd x
 
-net_judged_memory : (bytes : List ℕ) (Fits : PureNet → Type 0) (Carries : PureOutcome → Type 0) (o : PureOutcome) (a : PureAlg) → answer_in o ≡ refused memory → (IsUnlessMemory o done → Carries o) → IsNetJudged bytes Fits Carries o a
-net_judged_memory bytes Fits Carries o a e of = record { bad = λ f x. inr e; good = λ f x fits. of (inr e) }
+net_judged_memory : (bytes : List ℕ) (Follows : PureNet → Type 0) (o : PureOutcome) (a : PureAlg) → answer_in o ≡ refused memory → ((net : PureNet) → Follows net) → IsNetJudged bytes Follows o a
+net_judged_memory bytes Follows o a e all = record { bad = λ f x. inr e; good = λ f x. all (changed_net f) }
 
--- what comes of the network file is judged, if its network is carried out
-net_judged : Laws → (a : PureAlg) (name bytes : List ℕ) (Fits : PureNet → Type 0) (Carries : PureOutcome → Type 0) (Then : PureNetFile → PureOutcome → Type 0) (old new : Moment) (o : PureOutcome) (r : Result PureNetFile PureRefusal)
-    → IsReadAs Network name (λ text. NetText text a) (IsNetRefusal a) old r new → GoesOnOver a Then o r → IsReported old name bytes → ¬ HasRisen old.faults new.faults
-    → (IsUnlessMemory o done → Carries o) → ((f : PureNetFile) → Then f o → Fits (changed_net f) → Carries o) → IsNetJudged bytes Fits Carries o a
-net_judged laws a name bytes Fits Carries Then old new o (Ok f) h on t quiet of ends =
-    net_judged_good laws bytes Fits Carries a f o (reported old new name bytes (λ b. NetText b a f) h t) (ends f on)
-net_judged laws a name bytes Fits Carries Then old new o (Err r) h on t quiet of ends = ⊎_elim
-    (λ u. net_judged_memory bytes Fits Carries o a (ap answer_in on ∙ ap refused (untaken Network name bytes old new r u t quiet)) of)
-    (λ f. net_judged_bad laws bytes Fits Carries a r o (reported old new name bytes (λ b. IsNetRefusal a b r) f t) (ap answer_in on))
+-- what comes of the network file is judged, if what comes of its network follows
+net_judged : Laws → (a : PureAlg) (name bytes : List ℕ) (Then : PureNetFile → Moment → Moment → PureOutcome → Type 0) (Follows : PureNet → Type 0) (old between new : Moment) (o : PureOutcome)
+    (r : Result PureNetFile PureRefusal) → IsReadAs Network name (λ text. NetText text a) (IsNetRefusal a) old r between → GoesOnOver a Then between new o r → IsReported old name bytes
+    → ¬ HasRisen old.faults new.faults → ((f : PureNetFile) → Then f between new o → Follows (changed_net f)) → (answer_in o ≡ refused memory → (net : PureNet) → Follows net)
+    → IsNetJudged bytes Follows o a
+net_judged laws a name bytes Then Follows old between new o (Ok f) h on t quiet over without =
+    net_judged_good laws bytes Follows a f o (reported old between name bytes (λ b. NetText b a f) h t) (over f on)
+net_judged laws a name bytes Then Follows old between new o (Err r) h on t quiet over without = ⊎_elim
+    (λ u.
+    let e : answer_in o ≡ refused memory = ap answer_in on.1 ∙ ap refused (untaken Network name bytes old between r u t (subst (λ (m : Moment). ¬ HasRisen old.faults m.faults) on.0 quiet)) in
+    net_judged_memory bytes Follows o a e (without e))
+    (λ f. net_judged_bad laws bytes Follows a r o (reported old between name bytes (λ b. IsNetRefusal a b r) f t) (ap answer_in on.1))
     h
 
-over_network : Laws → (a : PureAlg) (name bytes : List ℕ) (Fits : PureNet → Type 0) (Carries : PureOutcome → Type 0) (Then : PureNetFile → PureOutcome → Type 0) (old between new : Moment) (o : PureOutcome)
+-- the same where another file was read before
+over_network : Laws → (a : PureAlg) (name bytes : List ℕ) (Then : PureNetFile → Moment → Moment → PureOutcome → Type 0) (Follows : PureNet → Type 0) (old between new : Moment) (o : PureOutcome)
     → Keeps old between → WithNetwork a name Then between new o → IsReported old name bytes → ¬ HasRisen old.faults new.faults
-    → (IsUnlessMemory o done → Carries o) → ((f : PureNetFile) → Then f o → Fits (changed_net f) → Carries o) → IsNetJudged bytes Fits Carries o a
-over_network laws a name bytes Fits Carries Then old between new o k w t quiet of ends =
-    net_judged laws a name bytes Fits Carries Then between new o w.network w.reads.as_read w.goes_on (reported_later old between name bytes k t)
-    (λ r. quiet (risen_later old.faults between.faults new.faults k.faults r)) of ends
+    → ((f : PureNetFile) (later : Moment) → Keeps between later → Then f later new o → Follows (changed_net f)) → (answer_in o ≡ refused memory → (net : PureNet) → Follows net)
+    → IsNetJudged bytes Follows o a
+over_network laws a name bytes Then Follows old between new o k w t quiet over without =
+    net_judged laws a name bytes Then Follows between w.between new o w.network w.reads.as_read w.goes_on (reported_later old between name bytes k t)
+    (λ r. quiet (risen_later old.faults between.faults new.faults k.faults r)) (λ f x. over f w.between w.reads.keeps x) without
+
+-- Reports.
+
+report_judged_good : Laws → (bytes : List ℕ) (net : PureNet) (tables : List (List PureRow)) (o : PureOutcome) → ReportText net bytes tables → IsUnlessMemory o done → IsReportJudged bytes o net
+report_judged_good laws bytes net tables o means d = record {
+  bad = λ f x. absurd ((laws.report net bytes).not_both tables f means x);
+  good = λ others x. d;
+}
+
+report_judged_bad : Laws → (bytes : List ℕ) (net : PureNet) (r : PureRefusal) (o : PureOutcome) → IsReportRefusal net bytes r → answer_in o ≡ refused r → IsReportJudged bytes o net
+report_judged_bad laws bytes net (report g) o x e = record {
+  bad = λ f y. inl (e ∙ ap (λ f. refused (report f)) ((laws.report net bytes).one_fault g f x y));
+  good = λ tables y. absurd ((laws.report net bytes).not_both tables g y x);
+}
+report_judged_bad laws bytes net (words n) o x e = absurd x
+report_judged_bad laws bytes net (expr f) o x e = absurd x
+report_judged_bad laws bytes net (network f) o x e = absurd x
+report_judged_bad laws bytes net (misses arc i) o x e = absurd x
+report_judged_bad laws bytes net (read w) o x e = absurd x
+report_judged_bad laws bytes net (long w) o x e = absurd x
+report_judged_bad laws bytes net memory o x e = absurd x
+
+report_judged_memory : (bytes : List ℕ) (o : PureOutcome) (net : PureNet) → answer_in o ≡ refused memory → IsReportJudged bytes o net
+report_judged_memory bytes o net e = record { bad = λ f x. inr e; good = λ tables x. inr e }
+
+-- tables that were judged are done with
+judged_done : (a : PureAlg) (file : PureNetFile) (tables : List (List PureRow)) (o : PureOutcome) → IsJudgedAs a file tables o → IsUnlessMemory o done
+judged_done a file tables (outcome.judged b f t j) h = inl refl
+judged_done a file tables (stopped b f memory) h = inr refl
+judged_done a file tables (stopped b f (words n)) h = absurd h
+judged_done a file tables (stopped b f (expr g)) h = absurd h
+judged_done a file tables (stopped b f (network g)) h = absurd h
+judged_done a file tables (stopped b f (report g)) h = absurd h
+judged_done a file tables (stopped b f (misses arc x)) h = absurd h
+judged_done a file tables (stopped b f (read w)) h = absurd h
+judged_done a file tables (stopped b f (long w)) h = absurd h
+judged_done a file tables (checked b f v u) h = absurd h
+judged_done a file tables (coded b f listing) h = absurd h
+judged_done a file tables (routed s b f rows) h = absurd h
+judged_done a file tables (hopped b f many) h = absurd h
+judged_done a file tables (wedged b v) h = absurd h
+judged_done a file tables (ran b f t past last quiet) h = absurd h
+judged_done a file tables (shown b f last) h = absurd h
+
+report_judged : Laws → (a : PureAlg) (file : PureNetFile) (name bytes : List ℕ) (old new : Moment) (o : PureOutcome) (r : Result (List (List PureRow)) PureRefusal)
+    → IsReadAs Report name (ReportText (changed_net file)) (IsReportRefusal (changed_net file)) old r new → GoesOnWith a file o r → IsReported old name bytes
+    → ¬ HasRisen old.faults new.faults → IsReportJudged bytes o (changed_net file)
+report_judged laws a file name bytes old new o (Ok tables) h on t quiet =
+    report_judged_good laws bytes (changed_net file) tables o (reported old new name bytes (λ b. ReportText (changed_net file) b tables) h t) (judged_done a file tables o on)
+report_judged laws a file name bytes old new o (Err r) h on t quiet = ⊎_elim
+    (λ u. report_judged_memory bytes o (changed_net file) (ap answer_in on ∙ ap refused (untaken Report name bytes old new r u t quiet)))
+    (λ f. report_judged_bad laws bytes (changed_net file) r o (reported old new name bytes (λ b. IsReportRefusal (changed_net file) b r) f t) (ap answer_in on))
+    h
+
+-- the same where other files were read before
+with_report : Laws → (a : PureAlg) (file : PureNetFile) (name bytes : List ℕ) (old between new : Moment) (o : PureOutcome) → Keeps old between → WithReport a file name between new o → IsReported old name bytes
+    → ¬ HasRisen old.faults new.faults → IsReportJudged bytes o (changed_net file)
+with_report laws a file name bytes old between new o k w t quiet =
+    report_judged laws a file name bytes between new o w.report w.reads.as_read w.goes_on (reported_later old between name bytes k t)
+    (λ r. quiet (risen_later old.faults between.faults new.faults k.faults r))
 
 -- What was read is carried out.
 
@@ -152,11 +227,14 @@ checked_done r a file S (stopped b f memory) h = inl (inr refl)
 checked_done r a file S (stopped b f (words n)) h = absurd h
 checked_done r a file S (stopped b f (expr g)) h = absurd h
 checked_done r a file S (stopped b f (network g)) h = absurd h
+checked_done r a file S (stopped b f (report g)) h = absurd h
 checked_done r a file S (stopped b f (misses arc x)) h = absurd h
 checked_done r a file S (stopped b f (read w)) h = absurd h
 checked_done r a file S (stopped b f (long w)) h = absurd h
 checked_done r a file S (coded b f listing) h = absurd h
 checked_done r a file S (routed s b f rows) h = absurd h
+checked_done r a file S (hopped b f many) h = absurd h
+checked_done r a file S (outcome.judged b f tables j) h = absurd h
 checked_done r a file S (wedged b v) h = absurd h
 checked_done r a file S (ran b f t past last quiet) h = absurd h
 checked_done r a file S (shown b f last) h = absurd h
@@ -167,6 +245,7 @@ wedged_done a (stopped b None memory) h = inr refl
 wedged_done a (stopped b None (words n)) h = absurd h
 wedged_done a (stopped b None (expr g)) h = absurd h
 wedged_done a (stopped b None (network g)) h = absurd h
+wedged_done a (stopped b None (report g)) h = absurd h
 wedged_done a (stopped b None (misses arc x)) h = absurd h
 wedged_done a (stopped b None (read w)) h = absurd h
 wedged_done a (stopped b None (long w)) h = absurd h
@@ -174,6 +253,8 @@ wedged_done a (stopped b (Some f) r) h = absurd h
 wedged_done a (checked b f v u) h = absurd h
 wedged_done a (coded b f listing) h = absurd h
 wedged_done a (routed s b f rows) h = absurd h
+wedged_done a (hopped b f many) h = absurd h
+wedged_done a (outcome.judged b f tables j) h = absurd h
 wedged_done a (ran b f t past last quiet) h = absurd h
 wedged_done a (shown b f last) h = absurd h
 
@@ -183,11 +264,14 @@ coded_done a file labels (stopped b f memory) h = inr refl
 coded_done a file labels (stopped b f (words n)) h = absurd h
 coded_done a file labels (stopped b f (expr g)) h = absurd h
 coded_done a file labels (stopped b f (network g)) h = absurd h
+coded_done a file labels (stopped b f (report g)) h = absurd h
 coded_done a file labels (stopped b f (misses arc x)) h = absurd h
 coded_done a file labels (stopped b f (read w)) h = absurd h
 coded_done a file labels (stopped b f (long w)) h = absurd h
 coded_done a file labels (checked b f v u) h = absurd h
 coded_done a file labels (routed s b f rows) h = absurd h
+coded_done a file labels (hopped b f many) h = absurd h
+coded_done a file labels (outcome.judged b f tables j) h = absurd h
 coded_done a file labels (wedged b v) h = absurd h
 coded_done a file labels (ran b f t past last quiet) h = absurd h
 coded_done a file labels (shown b f last) h = absurd h
@@ -200,13 +284,34 @@ routed_done solution a file (stopped b f memory) h fit = inr refl
 routed_done solution a file (stopped b f (words n)) h fit = absurd h
 routed_done solution a file (stopped b f (expr g)) h fit = absurd h
 routed_done solution a file (stopped b f (network g)) h fit = absurd h
+routed_done solution a file (stopped b f (report g)) h fit = absurd h
 routed_done solution a file (stopped b f (read w)) h fit = absurd h
 routed_done solution a file (stopped b f (long w)) h fit = absurd h
 routed_done solution a file (checked b f v u) h fit = absurd h
 routed_done solution a file (coded b f listing) h fit = absurd h
+routed_done solution a file (hopped b f many) h fit = absurd h
+routed_done solution a file (outcome.judged b f tables j) h fit = absurd h
 routed_done solution a file (wedged b v) h fit = absurd h
 routed_done solution a file (ran b f t past last quiet) h fit = absurd h
 routed_done solution a file (shown b f last) h fit = absurd h
+
+hopped_done : (a : PureAlg) (file : PureNetFile) (o : PureOutcome) → IsHoppedAs a file o → IsFit Unbeaten (changed_net file) → IsUnlessMemory o done
+hopped_done a file (hopped b f many) h fit = inl refl
+hopped_done a file (stopped b f (misses arc x)) h fit = absurd (first_refutes (asked_of Unbeaten) (changed_net file) arc x.property h.2.first fit)
+hopped_done a file (stopped b f memory) h fit = inr refl
+hopped_done a file (stopped b f (words n)) h fit = absurd h
+hopped_done a file (stopped b f (expr g)) h fit = absurd h
+hopped_done a file (stopped b f (network g)) h fit = absurd h
+hopped_done a file (stopped b f (report g)) h fit = absurd h
+hopped_done a file (stopped b f (read w)) h fit = absurd h
+hopped_done a file (stopped b f (long w)) h fit = absurd h
+hopped_done a file (checked b f v u) h fit = absurd h
+hopped_done a file (coded b f listing) h fit = absurd h
+hopped_done a file (routed s b f rows) h fit = absurd h
+hopped_done a file (outcome.judged b f tables j) h fit = absurd h
+hopped_done a file (wedged b v) h fit = absurd h
+hopped_done a file (ran b f t past last quiet) h fit = absurd h
+hopped_done a file (shown b f last) h fit = absurd h
 
 run_out : (traced : Bool) (turns : ℕ) (a : PureAlg) (file : PureNetFile) (o : PureOutcome) → IsRunAs traced turns a file o → IsRunOut o
 run_out traced turns a file (ran b f t past last true) h = inl (inl refl)
@@ -215,12 +320,15 @@ run_out traced turns a file (stopped b f memory) h = inl (inr refl)
 run_out traced turns a file (stopped b f (words n)) h = absurd h
 run_out traced turns a file (stopped b f (expr g)) h = absurd h
 run_out traced turns a file (stopped b f (network g)) h = absurd h
+run_out traced turns a file (stopped b f (report g)) h = absurd h
 run_out traced turns a file (stopped b f (misses arc x)) h = absurd h
 run_out traced turns a file (stopped b f (read w)) h = absurd h
 run_out traced turns a file (stopped b f (long w)) h = absurd h
 run_out traced turns a file (checked b f v u) h = absurd h
 run_out traced turns a file (coded b f listing) h = absurd h
 run_out traced turns a file (routed s b f rows) h = absurd h
+run_out traced turns a file (hopped b f many) h = absurd h
+run_out traced turns a file (outcome.judged b f tables j) h = absurd h
 run_out traced turns a file (wedged b v) h = absurd h
 run_out traced turns a file (shown b f last) h = absurd h
 
@@ -230,6 +338,7 @@ shown_out seed nodes (stopped None None memory) h = inr refl
 shown_out seed nodes (stopped None None (words n)) h = absurd h
 shown_out seed nodes (stopped None None (expr g)) h = absurd h
 shown_out seed nodes (stopped None None (network g)) h = absurd h
+shown_out seed nodes (stopped None None (report g)) h = absurd h
 shown_out seed nodes (stopped None None (misses arc x)) h = absurd h
 shown_out seed nodes (stopped None None (read w)) h = absurd h
 shown_out seed nodes (stopped None None (long w)) h = absurd h
@@ -238,6 +347,8 @@ shown_out seed nodes (stopped None (Some f) r) h = absurd h
 shown_out seed nodes (checked b f v u) h = absurd h
 shown_out seed nodes (coded b f listing) h = absurd h
 shown_out seed nodes (routed s b f rows) h = absurd h
+shown_out seed nodes (hopped b f many) h = absurd h
+shown_out seed nodes (outcome.judged b f tables j) h = absurd h
 shown_out seed nodes (wedged b v) h = absurd h
 shown_out seed nodes (ran b f t past last quiet) h = absurd h
 
@@ -257,12 +368,14 @@ alone_unless alone.Gadget o e = inr e
 on_answered : (asked : NetworkTask) (a : PureAlg) (f : PureNetFile) (o : PureOutcome) → IsMadeOn asked a f o → IsFitFor asked (changed_net f) → IsAnsweredOn asked o
 on_answered (joint.Check r) a f o h fit = checked_done r a (Some f) (IsOnArc (changed_net f)) o h
 on_answered joint.Code a f o h fit = coded_done a (Some f) (labels_on (changed_net f)) o h
+on_answered joint.Hops a f o h fit = hopped_done a f o h fit
 on_answered (joint.Route solution workers) a f o h fit = routed_done solution a f o h fit
 on_answered (joint.Run workers turns traced) a f o h fit = run_out traced turns a f o h
 
 on_unless : (asked : NetworkTask) (o : PureOutcome) → IsUnlessMemory o done → IsAnsweredOn asked o
 on_unless (joint.Check r) o d = inl d
 on_unless joint.Code o d = d
+on_unless joint.Hops o d = d
 on_unless (joint.Route solution workers) o d = d
 on_unless (joint.Run workers turns traced) o d = inl d
 
@@ -271,12 +384,21 @@ complete_of laws text old new o (task.Demo seed nodes) h = shown_out seed nodes 
 complete_of laws text old new o (task.Alone file asked) h = λ bytes t quiet.
     judged laws (word_at text file) bytes (λ a old new o. (new ≡ old) × IsMadeAlone asked a o) (λ a. IsAnsweredAlone asked o) old h.between new o h.expression h.reads.as_read h.goes_on t quiet
     (λ a x. alone_answered asked a o x.1) (λ e a. alone_unless asked o e)
-complete_of laws text old new o (task.On file net asked) h = λ bytes net_bytes t u quiet.
-    judged laws (word_at text file) bytes (λ a. WithNetwork a (word_at text net) (IsMadeOn asked a)) (IsNetJudged net_bytes (IsFitFor asked) (IsAnsweredOn asked) o)
+complete_of laws text old new o (task.Judge file net named) h = λ bytes net_bytes report_bytes t u v quiet.
+    judged laws (word_at text file) bytes (λ a. WithNetwork a (word_at text net) (λ f. WithReport a f (word_at text named))) (IsNetJudged net_bytes (IsReportJudged report_bytes o) o)
     old h.between new o h.expression h.reads.as_read h.goes_on t quiet
-    (λ a x. over_network laws a (word_at text net) net_bytes (IsFitFor asked) (IsAnsweredOn asked) (IsMadeOn asked a) old h.between new o h.reads.keeps x u quiet (on_unless asked o)
-    (λ f y fit. on_answered asked a f o y fit))
-    (λ e a. net_judged_memory net_bytes (IsFitFor asked) (IsAnsweredOn asked) o a e (on_unless asked o))
+    (λ a x. over_network laws a (word_at text net) net_bytes (λ f. WithReport a f (word_at text named)) (IsReportJudged report_bytes o) old h.between new o h.reads.keeps x u quiet
+    (λ f later k y. with_report laws a f (word_at text named) report_bytes old later new o (keeps_more old h.between later h.reads.keeps k) y v quiet)
+    (λ e net. report_judged_memory report_bytes o net e))
+    (λ e a. net_judged_memory net_bytes (IsReportJudged report_bytes o) o a e (λ net. report_judged_memory report_bytes o net e))
+complete_of laws text old new o (task.On file net asked) h = λ bytes net_bytes t u quiet.
+    let Follows : PureNet → Type 0 = λ n. IsFitFor asked n → IsAnsweredOn asked o in
+    judged laws (word_at text file) bytes (λ a. WithNetwork a (word_at text net) (λ f old new o. (new ≡ old) × IsMadeOn asked a f o)) (IsNetJudged net_bytes Follows o)
+    old h.between new o h.expression h.reads.as_read h.goes_on t quiet
+    (λ a x. over_network laws a (word_at text net) net_bytes (λ f old new o. (new ≡ old) × IsMadeOn asked a f o) Follows old h.between new o h.reads.keeps x u quiet
+    (λ f later k y fit. on_answered asked a f o y.1 fit)
+    (λ e n fit. on_unless asked o (inr e)))
+    (λ e a. net_judged_memory net_bytes Follows o a e (λ n fit. on_unless asked o (inr e)))
 
 pub complete : Laws → (text : List (List ℕ)) (old new : Moment) (o : PureOutcome) (r : Result Command WordsFault) → ComesBy text r old new o → CompleteBy text old new o r
 complete laws text old new o (Ok c) h = complete_of laws text old new o (task_of c) h

@@ -24,7 +24,7 @@ pub record Laws (net : PureNet) : Type 0 where
   pub rows : (dest : ℕ) (t : List PureRow) → dest < length net.dests → BestFirst net dest t → AllByRecursion (IsRowOf net) t
 
 -- what holds of each table that is made best first holds of these
-tables_from : (net : PureNet) (Holds : ℕ → List PureRow → Type 0) → ((dest : ℕ) (t : List PureRow) → BestFirst net dest t → Holds dest t) → (dest : ℕ) (tables : List DestTable) → link.AreTablesFrom net dest tables
+pub tables_from : (net : PureNet) (Holds : ℕ → List PureRow → Type 0) → ((dest : ℕ) (t : List PureRow) → BestFirst net dest t → Holds dest t) → (dest : ℕ) (tables : List DestTable) → link.AreTablesFrom net dest tables
     → OnTablesFrom Holds dest (map rows_of tables)
 tables_from net Holds each dest [] h = tt
 tables_from net Holds each dest (t ∷ ts) h = (each dest (rows_of t) h.0.best_first, tables_from net Holds each (dest + 1) ts h.1)
@@ -49,7 +49,7 @@ routes_on Unbeaten net laws fit tables h = (
 routes_on Settled net laws fit tables h = (rows_are net (BestFirst net) (λ dest t best. best) tables h, settled_on net laws (laws.monotone fit.0) tables h)
 routes_on AllStable net laws fit tables h = (rows_are net (BestFirst net) (λ dest t best. best) tables h, settled_on net laws fit.0 tables h)
 
-all_append : {X : Type 0} (P : X → Type 0) (xs ys : List X) → AllByRecursion P xs → AllByRecursion P ys → AllByRecursion P (xs ++ ys)
+pub all_append : {X : Type 0} (P : X → Type 0) (xs ys : List X) → AllByRecursion P xs → AllByRecursion P ys → AllByRecursion P (xs ++ ys)
 all_append P [] ys h k = k
 all_append P (x ∷ xs) ys h k = (h.0, all_append P xs ys h.1 k)
 

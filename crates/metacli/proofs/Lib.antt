@@ -12,3 +12,7 @@ mod Demos
 mod Tables
 mod Wedges
 mod Tasks
+mod NextHops
+mod ReportRows
+mod Judgements
+mod Reports

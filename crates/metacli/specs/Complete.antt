@@ -12,7 +12,6 @@ use Rattle.net_graph.specs.Nets.{PureNet}
 use Rattle.topology_file.specs.NetText.{PureNetFile, NetText, IsNetFault, changed_net}
 use Rattle.topology_file.specs.declared.faults.NetFault.{NetFault}
 use Rattle.net_graph.specs.Tables.{PureRow}
-use Rattle.report_check.specs.Numbers.{max_report_bytes}
 use Rattle.report_check.specs.ReportText.{ReportText, IsReportFault}
 use Rattle.report_check.specs.declared.faults.ReportFault.{ReportFault}
 use Rattle.report_text.specs.Refusals.{expr, network, report, memory}
@@ -45,21 +44,15 @@ pub record IsJudged (bytes : List ℕ) (Follows : PureAlg → Type 0) (o : PureO
   pub bad : (f : ExprFault) → IsExprFault bytes f → IsUnlessMemory o (refused (expr f))
   pub good : (a : PureAlg) → ExprText bytes a → Follows a
 
--- bytes that mean no network over the algebra are refused with their fault; a network that is fit is carried out
-pub record IsNetJudged (bytes : List ℕ) (Fits : PureNet → Type 0) (Carries : PureOutcome → Type 0) (o : PureOutcome) (a : PureAlg) : Type 0 where
+-- bytes that mean no network over the algebra are refused with their fault; of a network after its changes, this follows
+pub record IsNetJudged (bytes : List ℕ) (Follows : PureNet → Type 0) (o : PureOutcome) (a : PureAlg) : Type 0 where
   pub bad : (f : NetFault) → IsNetFault bytes a f → IsUnlessMemory o (refused (network f))
-  pub good : (f : PureNetFile) → NetText bytes a f → Fits (changed_net f) → Carries o
+  pub good : (f : PureNetFile) → NetText bytes a f → Follows (changed_net f)
 
--- a network of the file is judged by a report: bytes that mean no tables on it are refused with their fault, and tables
--- are judged
+-- bytes that mean no tables on the network are refused with their fault; tables are judged
 pub record IsReportJudged (bytes : List ℕ) (o : PureOutcome) (net : PureNet) : Type 0 where
   pub bad : (f : ReportFault) → IsReportFault net bytes f → IsUnlessMemory o (refused (report f))
   pub good : (tables : List (List PureRow)) → ReportText net bytes tables → IsUnlessMemory o done
-
--- bytes that mean no network over the algebra are refused with their fault; on a network, this follows
-pub record IsNetRead (bytes : List ℕ) (Follows : PureNet → Type 0) (o : PureOutcome) (a : PureAlg) : Type 0 where
-  pub bad : (f : NetFault) → IsNetFault bytes a f → IsUnlessMemory o (refused (network f))
-  pub good : (f : PureNetFile) → NetText bytes a f → Follows (changed_net f)
 
 -- any network is fit for its labels to be decided on
 abbrev pub IsAny : PureNet → Type 0
@@ -102,9 +95,9 @@ IsCompleteOf words old new o (task.Demo seed nodes) = IsDone o
 IsCompleteOf words old new o (task.Alone file asked) = (bytes : List ℕ) → IsReported old (word_at words file) bytes
     → ¬ HasRisen old.faults new.faults → IsJudged bytes (λ a. IsAnsweredAlone asked o) o
 IsCompleteOf words old new o (task.Judge file net named) = (bytes net_bytes report_bytes : List ℕ) → IsReported old (word_at words file) bytes → IsReported old (word_at words net) net_bytes
-    → IsReported old (word_at words named) report_bytes → ¬ HasRisen old.faults new.faults → IsJudged bytes (IsNetRead net_bytes (IsReportJudged report_bytes o) o) o
+    → IsReported old (word_at words named) report_bytes → ¬ HasRisen old.faults new.faults → IsJudged bytes (IsNetJudged net_bytes (IsReportJudged report_bytes o) o) o
 IsCompleteOf words old new o (task.On file net asked) = (bytes net_bytes : List ℕ) → IsReported old (word_at words file) bytes → IsReported old (word_at words net) net_bytes
-    → ¬ HasRisen old.faults new.faults → IsJudged bytes (IsNetJudged net_bytes (IsFitFor asked) (IsAnsweredOn asked) o) o
+    → ¬ HasRisen old.faults new.faults → IsJudged bytes (IsNetJudged net_bytes (λ net. IsFitFor asked net → IsAnsweredOn asked o) o) o
 
 abbrev pub CompleteBy : List (List ℕ) → Moment → Moment → PureOutcome → Result Command WordsFault → Type 0
 CompleteBy words old new o (Ok c) = IsCompleteOf words old new o (task_of c)

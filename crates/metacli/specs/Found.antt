@@ -1,18 +1,46 @@
--- What is found on a network: its routes, or the first arc whose label isn't fit for them.
-use Rattle.std.specs.Prelude.{List, map, Some, Result, Ok, Err}
+-- What is found on a network: its routes or next hops, or the first arc whose label isn't fit for them; and the tables of a
+-- report with their judgement, or why there are none.
+use Rattle.std.specs.Prelude.{ℕ, List, map, Some, Result, Ok, Err}
 use Rattle.std.specs.List.{AllByRecursion}
 use Rattle.alg_classes.specs.Instances.{pure_instance}
+use Rattle.alg_model.specs.Expressions.{PureAlg}
 use Rattle.net_facts.specs.Misses.{IsFirstMissing}
 use Rattle.net_facts.specs.declared.missing.Missing.{Missing}
 use Rattle.net_graph.specs.Nets.{PureNet}
 use Rattle.net_graph.specs.RowTexts.{IsRowOf}
 use Rattle.net_graph.specs.Views.{pure_row}
 use Rattle.net_graph.specs.declared.route.RouteRow.{RouteRow}
-use Rattle.report_text.specs.Refusals.{CanMiss}
-use Rattle.metacli.specs.Outcome.{AreRoutesOn, IsFit, asked_of}
+use Rattle.net_graph.specs.Tables.{PureRow}
+use Rattle.report_check.specs.Judged.{Judged, PureJudgement}
+use Rattle.report_check.specs.ReportText.{ReportText}
+use Rattle.report_check.specs.Views.{pure_hops}
+use Rattle.report_check.specs.declared.hops.ManyHops.{ManyHops}
+use Rattle.report_text.specs.JudgedTexts.{CanPrintHops, CanPrintJudgement}
+use Rattle.report_text.specs.Refusals.{PureRefusal, CanMiss}
+use Rattle.topology_file.specs.NetText.{PureNetFile, changed_net}
+use Rattle.metacli.specs.Reading.{IsReportOf}
+use Rattle.metacli.specs.Outcome.{PureOutcome, AreHopsOn, AreRoutesOn, GoesOnWith, IsFit, asked_of}
 use Rattle.metacli.specs.declared.routing.Solution.{Solution}
+use Rattle.metacli.specs.declared.routing.Solution.TheVariants.{Unbeaten}
 
 -- rows that can be printed, or an instance that can
 abbrev pub IsFoundOn : Solution → PureNet → Result (List RouteRow) Missing → Type 0
 IsFoundOn solution net (Ok rows) = IsFit solution net × AreRoutesOn solution net (map pure_row rows) × AllByRecursion (IsRowOf net) (map pure_row rows)
 IsFoundOn solution net (Err missing) = IsFirstMissing (asked_of solution) net missing.arc.0 (pure_instance missing.instance) × CanMiss missing.arc.0 (pure_instance missing.instance) (Some net)
+
+-- next hops that can be printed, or an instance that can
+abbrev pub AreFoundHops : PureNet → Result (List ManyHops) Missing → Type 0
+AreFoundHops net (Ok many) = IsFit Unbeaten net × AreHopsOn net (map pure_hops many) × AllByRecursion (CanPrintHops net) (map pure_hops many)
+AreFoundHops net (Err missing) = IsFirstMissing (asked_of Unbeaten) net missing.arc.0 (pure_instance missing.instance) × CanMiss missing.arc.0 (pure_instance missing.instance) (Some net)
+
+-- the tables that the report means, and a judgement of them that can be printed
+pub record IsFoundOf (net : PureNet) (source : List ℕ) (tables : List (List PureRow)) (judgement : PureJudgement) : Type 0 where
+  pub means : ReportText net source tables
+  pub judged : Judged net tables judgement
+  pub printable : CanPrintJudgement net judgement
+
+-- what is made of the bytes of a report on the network of the file: its tables are judged, or it is refused
+pub record IsJudgedBy (a : PureAlg) (f : PureNetFile) (source : List ℕ) (o : PureOutcome) : Type 0 where
+  pub report : Result (List (List PureRow)) PureRefusal
+  pub is_report : IsReportOf (changed_net f) source report
+  pub goes_on : GoesOnWith a f o report

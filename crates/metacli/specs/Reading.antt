@@ -81,6 +81,11 @@ ReadsExpression name = Reads Expr name ExprText IsExprRefusal
 abbrev pub ReadsNetwork : PureAlg → List ℕ → Moment → Result PureNetFile PureRefusal → Moment → Type 0
 ReadsNetwork a name = Reads Network name (λ text. NetText text a) (IsNetRefusal a)
 
+-- what the bytes of a report mean on the network, or why they are refused
+abbrev pub IsReportOf : PureNet → List ℕ → Result (List (List PureRow)) PureRefusal → Type 0
+IsReportOf net text (Ok tables) = ReportText net text tables
+IsReportOf net text (Err r) = IsReportRefusal net text r ⊎ (r ≡ memory)
+
 -- reading the tables of the report of that name on the network
 abbrev pub ReadsReport : PureNet → List ℕ → Moment → Result (List (List PureRow)) PureRefusal → Moment → Type 0
 ReadsReport net name = Reads Report name (ReportText net) (IsReportRefusal net)

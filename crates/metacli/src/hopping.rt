@@ -1,14 +1,14 @@
 // What `hops` decides.
-ghost use Rattle.std.specs.Prelude.{◌≡◌, map, IfOk, OnOk, ◌++◌};
-ghost use Rattle.std.specs.List.{AllByRecursion};
+ghost use Rattle.std.specs.Prelude.{◌≡◌, ◌++◌, Ok, map, IfOk, OnOk};
+ghost use Rattle.link_state.specs.Tables.{AreTablesOf};
 ghost use Rattle.net_graph.specs.Changes.{AreChanges};
-ghost use Rattle.net_graph.specs.Views.{pure_change};
+ghost use Rattle.net_graph.specs.Views.{pure_change, rows_of};
 ghost use Rattle.report_check.specs.Views.{pure_hops};
-ghost use Rattle.report_text.specs.JudgedTexts.{CanPrintHops};
 ghost use Rattle.topology_file.specs.NetText.{changed_net};
 ghost use Rattle.topology_file.specs.Views.{pure_file};
 ghost use Rattle.metacli.specs.After.{last_of};
-ghost use Rattle.metacli.specs.Outcome.{AreHopsOn, IsFit, IsHoppedAs};
+ghost use Rattle.metacli.specs.Found.{AreFoundHops};
+ghost use Rattle.metacli.specs.Outcome.{IsFit, IsHoppedAs, all_hops};
 ghost use Rattle.metacli.specs.Views.{CanBeWritten, pure_outcome};
 ghost use Rattle.metacli.specs.declared.routing.Solution.TheVariants.{Unbeaten};
 
@@ -16,12 +16,12 @@ use crate::after::{last_of, net_after};
 use crate::outcome::{Hopped, Outcome, Stop, Unfit};
 use crate::routing::{Solution, tables_of};
 use alg_model::Alg;
-use best_first::{best_first_is_optimal, best_first_rows_are_the_networks};
+use best_first::best_first_is_optimal;
 use meta_base::{List, NoMemory};
 use net_facts::{Missing, first_missing};
-use net_graph::Net;
+use net_graph::{DestTable, Net};
 use report_check::{ManyHops, best_hops};
-use std::alloc::AllocGlobal;
+use std::alloc::{AllocGlobal, Global};
 use std::thread::Threads;
 use topology_file::NetFile;
 
@@ -36,21 +36,39 @@ pub fn hops<R: AllocGlobal + Threads + Sync>(rt: &R, alg: Alg, file: NetFile) ->
     ensures printable { CanBeWritten result }
 {
     match hops_after(rt, &file) {
-        Ok((after, Ok(many))) => {
-            drop(after);
-            Outcome::Hopped(Hopped { alg, file, many })
-        }
-        Ok((after, Err(missing))) => Outcome::Unfit(Unfit {
-            alg,
-            file,
-            after,
-            missing,
-        }),
+        Ok((after, found)) => outcome_of(alg, file, after, found),
         Err(NoMemory) => Outcome::Stopped {
             alg: Some(alg),
             file: Some(file),
             stop: Stop::Memory,
         },
+    }
+}
+
+// The outcome of what was found on the network after the file's changes.
+fn outcome_of(
+    alg: Alg,
+    file: NetFile,
+    after: Option<Net>,
+    found: Result<List<ManyHops>, Missing>,
+) -> Outcome
+    requires over { file.net.alg ≡ alg }
+    requires after { last_of after file.net ≡ changed_net (pure_file file) }
+    requires found { AreFoundHops (changed_net (pure_file file)) found }
+    ensures hopped { IsHoppedAs alg (pure_file file) (pure_outcome result) }
+    ensures printable { CanBeWritten result }
+{
+    match found {
+        Ok(many) => {
+            drop(after);
+            Outcome::Hopped(Hopped { alg, file, many })
+        }
+        Err(missing) => Outcome::Unfit(Unfit {
+            alg,
+            file,
+            after,
+            missing,
+        }),
     }
 }
 
@@ -61,6 +79,7 @@ fn hops_after<R: AllocGlobal + Threads + Sync>(
 ) -> Result<(Option<Net>, Result<List<ManyHops>, Missing>), NoMemory>
     requires changes { AreChanges file.now.net (map pure_change file.now.changes) }
     ensures after { IfOk result (λ found. last_of found.0 file.now.net ≡ changed_net (pure_file file.now)) }
+    ensures found { IfOk result (λ found. AreFoundHops (changed_net (pure_file file.now)) found.1) }
 {
     let after = net_after(rt.alloc(), &file.net, file.changes.as_slice())?;
     match hops_on(rt, last_of(&after, &file.net)) {
@@ -76,28 +95,52 @@ fn hops_after<R: AllocGlobal + Threads + Sync>(
 fn hops_on<R: AllocGlobal + Threads + Sync>(
     rt: &R,
     net: &Net,
-) -> Result<Result<List<ManyHops>, Missing>, NoMemory> {
+) -> Result<Result<List<ManyHops>, Missing>, NoMemory>
+    ensures { IfOk result (AreFoundHops net.now) }
+{
     match first_missing(rt.alloc(), net, Solution::Unbeaten.properties())? {
         Some(missing) => Ok(Err(missing)),
-        None => Ok(Ok(all_hops(rt, net)?)),
+        None => Ok(Ok(best_hops_on(rt, net)?)),
     }
 }
 
-// The next hops of the tables of all destinations.
-fn all_hops<R: AllocGlobal + Threads + Sync>(rt: &R, net: &Net) -> Result<List<ManyHops>, NoMemory>
+// The next hops of the tables of all destinations, which no walk beats where labels are fit.
+fn best_hops_on<R: AllocGlobal + Threads + Sync>(
+    rt: &R,
+    net: &Net,
+) -> Result<List<ManyHops>, NoMemory>
     requires { IsFit Unbeaten net.now }
-    ensures hops { IfOk result (λ many. AreHopsOn net.now (map pure_hops many)) }
-    ensures printable { IfOk result (λ many. AllByRecursion (CanPrintHops net.now) (map pure_hops many)) }
+    ensures { IfOk result (λ many. AreFoundHops net.now (Ok many)) }
 {
     best_first_is_optimal();
-    best_first_rows_are_the_networks();
-    let alloc = rt.alloc();
     let tables = tables_of(rt, net, ONE_WORKER)?;
-    let mut many = Vec::with_capacity(alloc, net.node_count().saturating_mul(net.dest_count()))?;
-    for table in tables.as_slice() {
-        for hops in best_hops(alloc, net, table)?.into_vec() {
-            many.push(hops)?;
-        }
+    let room = net.node_count().saturating_mul(net.dest_count());
+    hops_of(rt.alloc(), net, tables.as_slice(), room)
+}
+
+// The next hops of the tables, one table after another, in a list that has room for so many at once.
+fn hops_of(
+    alloc: Global,
+    net: &Net,
+    tables: &[DestTable],
+    room: usize,
+) -> Result<List<ManyHops>, NoMemory>
+    requires { AreTablesOf net.now tables.now }
+    ensures { IfOk result (λ many. map pure_hops many ≡ all_hops net.now 0 (map rows_of tables.now)) }
+{
+    let mut many = Vec::with_capacity(alloc, room)?;
+    for table in tables {
+        append_hops(&mut many, best_hops(alloc, net, table)?)?;
     }
     Ok(List::from_vec(many))
+}
+
+// Moves these after those that are there.
+fn append_hops(many: &mut Vec<ManyHops>, more: List<ManyHops>) -> Result<(), NoMemory>
+    ensures { OnOk result (many.new.items ≡ many.old.items ++ more) }
+{
+    for hops in more.into_vec() {
+        many.push(hops)?;
+    }
+    Ok(())
 }

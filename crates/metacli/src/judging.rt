@@ -1,20 +1,24 @@
 // What `verify` decides.
-ghost use Rattle.std.specs.Prelude.{◌≡◌, map, IfOk};
+ghost use Rattle.std.specs.Prelude.{◌≡◌, ◌≤◌, Err, length, map, IfOk, IfErr};
 ghost use Rattle.net_graph.specs.Changes.{AreChanges};
-ghost use Rattle.net_graph.specs.Views.{pure_change};
+ghost use Rattle.net_graph.specs.Views.{pure_change, rows_of};
+ghost use Rattle.report_check.specs.Views.{pure_judgement};
 ghost use Rattle.topology_file.specs.NetText.{changed_net};
 ghost use Rattle.topology_file.specs.Views.{pure_file};
 ghost use Rattle.metacli.specs.After.{last_of};
+ghost use Rattle.metacli.specs.Answers.{pure_stop};
+ghost use Rattle.metacli.specs.Found.{IsFoundOf, IsJudgedBy};
 ghost use Rattle.metacli.specs.Outcome.{WithReport};
+ghost use Rattle.metacli.specs.Reading.{IsReportOf};
 ghost use Rattle.metacli.specs.Views.{CanBeWritten, pure_outcome};
 
 use crate::after::{last_of, net_after};
 use crate::outcome::{Judged, Outcome, Stop};
-use crate::reading::read_tables;
+use crate::reading::take_report;
 use alg_model::Alg;
 use meta_base::{List, NoMemory, Shelf};
 use net_graph::{DestTable, Net};
-use report_check::{Judgement, judge};
+use report_check::{Judgement, MAX_REPORT_BYTES, ReportError, judge, read_report};
 use std::alloc::Global;
 use topology_file::NetFile;
 
@@ -26,13 +30,29 @@ pub fn verify<S: Shelf>(
     file: NetFile,
     report: &str,
 ) -> Outcome
-    requires over { file.net.alg ≡ alg }
     requires changes { AreChanges file.net (map pure_change file.changes) }
     ensures judged { WithReport alg (pure_file file) report.now (S.now_is shelf.old) (S.now_is shelf.new)
         (pure_outcome result) }
     ensures printable { CanBeWritten result }
 {
-    match judged_on(alloc, shelf, &file, report) {
+    match take_report(alloc, shelf, report) {
+        Ok(bytes) => outcome_of(alloc, alg, file, bytes.as_slice()),
+        Err(stop) => Outcome::Stopped {
+            alg: Some(alg),
+            file: Some(file),
+            stop,
+        },
+    }
+}
+
+// What it comes to by the bytes of the report.
+fn outcome_of(alloc: Global, alg: Alg, file: NetFile, source: &[u8]) -> Outcome
+    requires changes { AreChanges file.net (map pure_change file.changes) }
+    requires short { length source.now ≤ MAX_REPORT_BYTES }
+    ensures judged { IsJudgedBy alg (pure_file file) source.now (pure_outcome result) }
+    ensures printable { CanBeWritten result }
+{
+    match judged_after(alloc, &file, source) {
         Ok((after, tables, judgement)) => Outcome::Judged(Judged {
             alg,
             file,
@@ -50,18 +70,44 @@ pub fn verify<S: Shelf>(
 
 // The network after all changes, where there are any, the tables that the report means on it, and what they are judged
 // to be.
-fn judged_on<S: Shelf>(
+fn judged_after(
     alloc: Global,
-    shelf: &mut S,
     file: &NetFile,
-    report: &str,
+    source: &[u8],
 ) -> Result<(Option<Net>, List<DestTable>, Judgement), Stop>
     requires changes { AreChanges file.now.net (map pure_change file.now.changes) }
+    requires short { length source.now ≤ MAX_REPORT_BYTES }
     ensures after { IfOk result (λ made. last_of made.0 file.now.net ≡ changed_net (pure_file file.now)) }
+    ensures found { IfOk result (λ made. IsFoundOf (changed_net (pure_file file.now)) source.now
+        (map rows_of made.1) (pure_judgement made.2)) }
+    ensures refused { IfErr result (λ stop. IsReportOf (changed_net (pure_file file.now)) source.now
+        (Err (pure_stop stop))) }
 {
     let after = net_after(alloc, &file.net, file.changes.as_slice())?;
-    let net = last_of(&after, &file.net);
-    let tables = read_tables(alloc, shelf, net, report)?;
-    let judgement = judge(alloc, net, tables.as_slice())?;
-    Ok((after, tables, judgement))
+    match judged_on(alloc, last_of(&after, &file.net), source) {
+        Ok((tables, judgement)) => Ok((after, tables, judgement)),
+        Err(stop) => {
+            drop(after);
+            Err(stop)
+        }
+    }
+}
+
+// The tables that the report means on the network, and what they are judged to be.
+fn judged_on(alloc: Global, net: &Net, source: &[u8]) -> Result<(List<DestTable>, Judgement), Stop>
+    requires short { length source.now ≤ MAX_REPORT_BYTES }
+    ensures found { IfOk result (λ made. IsFoundOf net.now source.now (map rows_of made.0) (pure_judgement made.1)) }
+    ensures refused { IfErr result (λ stop. IsReportOf net.now source.now (Err (pure_stop stop))) }
+{
+    match read_report(alloc, net, source) {
+        Ok(tables) => match judge(alloc, net, tables.as_slice()) {
+            Ok(judgement) => Ok((tables, judgement)),
+            Err(NoMemory) => {
+                drop(tables);
+                Err(Stop::Memory)
+            }
+        },
+        Err(ReportError::Bad(fault)) => Err(Stop::Report(fault)),
+        Err(ReportError::NoMemory) => Err(Stop::Memory),
+    }
 }

@@ -13,6 +13,7 @@ ghost use Rattle.metacli.specs.Texts.{TextOf};
 ghost use Rattle.metacli.specs.declared.routing.Solution.TheVariants.{AllStable};
 
 use raml_syntax::{no_fault_beside_an_algebra, one_text_one_algebra, one_text_one_fault};
+use report_check::one_report_one_meaning;
 use settled_laws::strict_is_monotone;
 use topology_file::one_text_one_network;
 
@@ -27,6 +28,7 @@ pub fn nothing_is_given_up()
     one_text_one_fault();
     no_fault_beside_an_algebra();
     one_text_one_network();
+    one_report_one_meaning();
 }
 
 /// Two quiet runs of one network, through the same changes, come to the same but for their deliveries, where all labels

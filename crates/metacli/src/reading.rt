@@ -1,20 +1,16 @@
 // The files that a command names.
-ghost use Rattle.std.specs.Prelude.{◌≡◌, IfOk, length, map};
+ghost use Rattle.std.specs.Prelude.{◌≡◌, IfOk, map};
+ghost use Rattle.meta_base.specs.declared.ids.Which.TheVariants.{Report};
 ghost use Rattle.net_graph.specs.Changes.{AreChanges};
 ghost use Rattle.net_graph.specs.Views.{pure_change};
-ghost use Rattle.net_graph.specs.Tables.{OnTablesFrom, TableOf};
-ghost use Rattle.net_graph.specs.Views.{rows_of};
-ghost use Rattle.report_check.specs.Views.{AreOfDests};
 ghost use Rattle.topology_file.specs.Views.{pure_file};
-ghost use Rattle.metacli.specs.Reading.{Takes, ReadsExpression, ReadsNetwork, ReadsReport};
+ghost use Rattle.metacli.specs.Reading.{Takes, ReadsExpression, ReadsNetwork};
 ghost use Rattle.metacli.specs.Views.{as_read};
 
 use crate::outcome::Stop;
 use alg_model::Alg;
 use meta_base::{List, MAX_FILE_BYTES, NoMemory, Shelf, TakeError, Which, take_all};
-use net_graph::{DestTable, Net};
 use raml_syntax::{AlgError, read_alg};
-use report_check::{ReportError, read_report};
 use std::alloc::Global;
 use topology_file::{NetError, NetFile, networks_keep_their_algebra, read_net};
 
@@ -53,25 +49,11 @@ pub fn read_network<S: Shelf>(
     }
 }
 
-/// The tables of the report of that name on the network, or why there are none.
-pub fn read_tables<S: Shelf>(
-    alloc: Global,
-    shelf: &mut S,
-    net: &Net,
-    name: &str,
-) -> Result<List<DestTable>, Stop>
-    ensures reads { ReadsReport net.now name.now (S.now_is shelf.old)
-        (as_read (λ tables. map rows_of tables) result) (S.now_is shelf.new) }
-    ensures tables { IfOk result (λ tables. OnTablesFrom (TableOf net.now) 0 (map rows_of tables)) }
-    ensures dests { IfOk result (λ tables. AreOfDests 0 tables) }
-    ensures count { IfOk result (λ tables. length tables ≡ length net.now.dests) }
+/// The bytes of the report of that name, or why they were not taken.
+pub fn take_report<S: Shelf>(alloc: Global, shelf: &mut S, name: &str) -> Result<List<u8>, Stop>
+    ensures { Takes Report name.now (S.now_is shelf.old) (as_read (λ bytes. bytes) result) (S.now_is shelf.new) }
 {
-    let bytes = take_file(alloc, shelf, name, Which::Report)?;
-    match read_report(alloc, net, bytes.as_slice()) {
-        Ok(tables) => Ok(tables),
-        Err(ReportError::Bad(fault)) => Err(Stop::Report(fault)),
-        Err(ReportError::NoMemory) => Err(Stop::Memory),
-    }
+    take_file(alloc, shelf, name, Which::Report)
 }
 
 // An equal algebra.

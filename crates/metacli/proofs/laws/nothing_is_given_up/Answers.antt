@@ -9,5 +9,6 @@ returns c words old new o h =
       fault = c.one_text_one_fault.ensures;
       apart = c.no_fault_beside_an_algebra.ensures;
       network = c.one_text_one_network.ensures;
+      report = c.one_report_one_meaning.ensures;
     } in
     complete laws words old new o (Words words) h
