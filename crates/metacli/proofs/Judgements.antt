@@ -22,7 +22,7 @@ use Rattle.metacli.proofs.ReportRows.{HasNodes, path_there, reported_nodes, tabl
 use Rattle.std.specs.List.{AllByRecursion}
 
 within : (i n : ℕ) → ¬ (n ≤ i) → i < n
-within i n no = ⊎_elim (λ same. absurd (no (omega (arith, same)))) (λ apart. ⊎_elim (λ less. less) (λ more. absurd (no (omega (arith, more)))) apart) (cases_order i n)
+within i n denied = ⊎_elim (λ same. absurd (denied (omega (arith, same)))) (λ apart. ⊎_elim (λ less. less) (λ more. absurd (denied (omega (arith, more)))) apart) (cases_order i n)
 
 -- what is preferred to something is a value
 preferred : (c : PureCarrier) (x y : Option PureValue) → IsPreferred c x y → (v : PureValue) × (x ≡ Some v)
@@ -48,8 +48,8 @@ record AreSound (net : PureNet) (tables : List (List PureRow)) : Type 0 where
   nodes : (dest k : ℕ) (r : PureRoute) → route_at (table_at tables dest) k ≡ Some r → AreNodesOf net r.path
 
 routed_node : (net : PureNet) (dest : ℕ) (t : List PureRow) (i : ℕ) → TableOf net dest t → HasNoWalk net dest t i → i < length net.nodes
-routed_node net dest t i of no =
-    within i (length net.nodes) (λ past. no (subst (λ o. IfSome o (IsWalkOf net dest i)) (sym (no_route_past net dest t of i past)) tt))
+routed_node net dest t i of denied =
+    within i (length net.nodes) (λ past. denied (subst (λ o. IfSome o (IsWalkOf net dest i)) (sym (no_route_past net dest t of i past)) tt))
 
 -- Walks.
 

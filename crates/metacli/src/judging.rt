@@ -99,6 +99,7 @@ fn judged_on(alloc: Global, net: &Net, source: &[u8]) -> Result<(List<DestTable>
     ensures found { IfOk result (λ made. IsFoundOf net.now source.now (map rows_of made.0) (pure_judgement made.1)) }
     ensures refused { IfErr result (λ stop. IsReportOf net.now source.now (Err (pure_stop stop))) }
 {
+    let _edition = net.edition();
     match read_report(alloc, net, source) {
         Ok(tables) => match judge(alloc, net, tables.as_slice()) {
             Ok(judgement) => Ok((tables, judgement)),

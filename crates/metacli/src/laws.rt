@@ -13,8 +13,8 @@ ghost use Rattle.metacli.specs.Texts.{TextOf};
 ghost use Rattle.metacli.specs.declared.routing.Solution.TheVariants.{AllStable};
 
 use raml_syntax::{no_fault_beside_an_algebra, one_text_one_algebra, one_text_one_fault};
-use report_check::one_report_one_meaning;
 use settled_laws::strict_is_monotone;
+use sig_text::values_are_reported;
 use topology_file::one_text_one_network;
 
 /// Nothing is given up. Where the shelf tells its files, none of them is too long and no fault came, words that mean a
@@ -28,7 +28,7 @@ pub fn nothing_is_given_up()
     one_text_one_fault();
     no_fault_beside_an_algebra();
     one_text_one_network();
-    one_report_one_meaning();
+    values_are_reported();
 }
 
 /// Two quiet runs of one network, through the same changes, come to the same but for their deliveries, where all labels

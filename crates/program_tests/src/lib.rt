@@ -14,6 +14,8 @@ mod gates;
 #[cfg(test)]
 mod host;
 #[cfg(test)]
+mod judged;
+#[cfg(test)]
 mod program;
 #[cfg(test)]
 mod required;

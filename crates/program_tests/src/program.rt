@@ -27,12 +27,13 @@ pub(crate) fn is_missing(outcome: Outcome, begins: &str) -> Result<bool, Fail> {
     Ok(outcome.status == 3 && text.starts_with(begins) && text.lines().count() == 1)
 }
 
-// What stands around a run: the bytes of the expression file `f` and of the network file `n`, the
+// What stands around a run: the bytes of the expression file `f`, of the network file `n` and of the report `r`, the
 // calls of the shelf and of the sink that fail, and how much the sink takes at a time.
 #[derive(Clone, Copy)]
 struct Around<'a> {
     file: &'a [u8],
     net: &'a [u8],
+    report: &'a [u8],
     failing_calls: &'a [u64],
     failing_writes: &'a [u64],
     bite: usize,
@@ -88,6 +89,10 @@ fn run_watched<G: Gate>(
         name: Text::copy(alloc, "n")?,
         bytes: list_of(alloc, around.net)?,
     })?;
+    files.push(MemFile {
+        name: Text::copy(alloc, "r")?,
+        bytes: list_of(alloc, around.report)?,
+    })?;
     let mut shelf = MemShelf::new(files, list_of(alloc, around.failing_calls)?);
     let failing = list_of(alloc, around.failing_writes)?;
     let mut out = MemSink::new(alloc, ROOM, around.bite.max(1), failing)?;
@@ -132,11 +137,30 @@ pub(crate) fn run_at<G: Gate>(
     let around = Around {
         file,
         net,
+        report: b"",
         failing_calls: &[],
         failing_writes: &[],
         bite: BITE,
     };
     run_watched(rt, words, around, gate)
+}
+
+// A run of `verify` on a network, with a report.
+pub(crate) fn run_verify(
+    rt: &(impl AllocGlobal + Threads + Wait + Sync),
+    file: &[u8],
+    net: &[u8],
+    report: &[u8],
+) -> Result<Outcome, Fail> {
+    let around = Around {
+        file,
+        net,
+        report,
+        failing_calls: &[],
+        failing_writes: &[],
+        bite: BITE,
+    };
+    run_around(rt, &["verify", "f", "n", "r"], around)
 }
 
 // What a run with this status would come to that wrote this text.
@@ -233,6 +257,9 @@ const REFUSED_WORDS: &[(&[u8], &[&[&str]])] = &[
             &["route", "f", "--workers", "n"],
             &["route", "f", "--workers", "x"],
             &["stable", "f"],
+            &["hops", "f"],
+            &["verify", "f", "n"],
+            &["verify", "f", "n", "r", "r"],
             &["gadget"],
             &["gadget", "f", "n"],
             &["check", "f", "--require"],
@@ -278,6 +305,8 @@ const REFUSED_WORDS: &[(&[u8], &[&[&str]])] = &[
             &["gadget", "f", "--require", "strict"],
             &["route", "f", "n", "--require", "safe"],
             &["stable", "f", "n", "--workers", "2"],
+            &["hops", "f", "n", "--workers", "2"],
+            &["verify", "f", "n", "r", "--turns", "2"],
         ],
     ),
     (
@@ -369,6 +398,15 @@ fn words_mean_commands(rt: HostRuntime) -> Result<(), Fail> {
     let meant: &[(&[&str], Command)] = &[
         (&["gadget", "f"], Command::Gadget { file: 1 }),
         (&["stable", "f", "n"], Command::Stable { file: 1, net: 2 }),
+        (&["hops", "f", "n"], Command::Hops { file: 1, net: 2 }),
+        (
+            &["verify", "f", "n", "r"],
+            Command::Verify {
+                file: 1,
+                net: 2,
+                report: 3,
+            },
+        ),
         (&["route", "f", "n"], route(1, 2, 4)),
         (&["route", "--workers", "2", "f", "n"], route(3, 4, 2)),
         (&["route", "f", "--workers", "16", "n"], route(1, 4, 16)),
@@ -597,6 +635,7 @@ fn run_failing(
     let around = Around {
         file: b"main add(1..10);",
         net: b"",
+        report: b"",
         failing_calls: &[call],
         failing_writes: &[],
         bite: BITE,
@@ -623,6 +662,7 @@ fn writing_fails(rt: HostRuntime) -> Result<(), Fail> {
         let around = Around {
             file: b"main add(1..10);",
             net: b"",
+            report: b"",
             failing_calls: &[],
             failing_writes: &[write as u64],
             bite: 5,

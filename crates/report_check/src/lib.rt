@@ -20,8 +20,4 @@ pub use faults::{ReportError, ReportFault, ReportKind};
 pub use hops::{ManyHops, best_hops};
 pub use judgement::{Judgement, OptimalFinding, StableFinding};
 pub use judging::judge;
-pub use laws::{
-    findings_decide, hops_are_second_nodes, hops_lead_home, one_report_one_meaning,
-    printed_rows_are_read_back,
-};
 pub use report::{MAX_REPORT_BYTES, numbers_are_specified, read_report};

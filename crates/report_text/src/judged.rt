@@ -1,13 +1,19 @@
 // The lines of judgements and of next hops.
-ghost use Rattle.std.specs.Prelude.{◌≡◌, IfOk, OnOk};
+ghost use Rattle.std.specs.Prelude.{◌≡◌, Some, map, IfOk, OnOk};
+ghost use Rattle.alg_classes.specs.Instances.{pure_instance};
 ghost use Rattle.meta_base.specs.Appending.{Gains};
+ghost use Rattle.net_graph.specs.RowTexts.{AreNodesOf, IsRouteIn};
+ghost use Rattle.net_graph.specs.Views.{pure_route};
+ghost use Rattle.report_check.specs.Judged.{beaten, better, no_walk, not_offered, unsettled};
 ghost use Rattle.report_check.specs.Views.{pure_hops, pure_judgement, pure_optimal, pure_stable};
 ghost use Rattle.report_text.specs.JudgedTexts.{CanPrintHops, CanPrintJudgement, CanPrintOptimal, CanPrintStable, IsRowName, hops_text, judgement_text, optimal_text, row_names, stability_text, ways_text};
+ghost use Rattle.report_text.specs.Refusals.{CanMiss};
 
 use crate::refusals::push_misses_line;
 use crate::rows::{push_dest, push_node, push_path, push_route};
-use meta_base::{DestId, NoMemory, NodeId, Text};
-use net_graph::Net;
+use alg_classes::Instance;
+use meta_base::{ArcId, DestId, NoMemory, NodeId, Text};
+use net_graph::{Net, Route};
 use report_check::{Judgement, ManyHops, OptimalFinding, StableFinding};
 use sig_text::push_value;
 use std::alloc::Global;
@@ -22,6 +28,52 @@ fn push_names(out: &mut String, net: &Net, node: NodeId, dest: DestId) -> Result
     push_dest(out, net, dest)
 }
 
+// The line on a row whose path is no walk of its value.
+fn push_no_walk(out: &mut String, net: &Net, node: NodeId, dest: DestId) -> Result<(), NoMemory>
+    requires { IsRowName net.now node.0 dest.0 }
+    ensures { OnOk result (Gains out.old (optimal_text net.now (no_walk node.0 dest.0)) out.new) }
+{
+    out.push_str("optimal no: ")?;
+    push_names(out, net, node, dest)?;
+    Ok(out.push_str(" isn't a walk of that value\n")?)
+}
+
+// The line on a row that a walk beats.
+fn push_beaten(
+    out: &mut String,
+    net: &Net,
+    node: NodeId,
+    dest: DestId,
+    walk: &[NodeId],
+) -> Result<(), NoMemory>
+    requires row { IsRowName net.now node.0 dest.0 }
+    requires walk { AreNodesOf net.now (map (λ node. node.0) walk.now) }
+    ensures { OnOk result (Gains out.old
+        (optimal_text net.now (beaten node.0 dest.0 (map (λ node. node.0) walk.now))) out.new) }
+{
+    out.push_str("optimal no: ")?;
+    push_names(out, net, node, dest)?;
+    out.push_str(" is beaten by")?;
+    push_path(out, net, walk)?;
+    Ok(out.push_str("\n")?)
+}
+
+// The line on routes that a label leaves open.
+fn push_unsettled(
+    alloc: Global,
+    out: &mut String,
+    net: &Net,
+    arc: ArcId,
+    instance: &Instance,
+) -> Result<(), NoMemory>
+    requires { CanMiss arc.0 (pure_instance instance.now) (Some net.now) }
+    ensures { OnOk result (Gains out.old
+        (optimal_text net.now (unsettled arc.0 (pure_instance instance.now))) out.new) }
+{
+    out.push_str("optimal open: ")?;
+    push_misses_line(alloc, out, net, arc, instance)
+}
+
 // The line on how good the routes are.
 fn push_optimal(
     alloc: Global,
@@ -34,23 +86,44 @@ fn push_optimal(
 {
     match finding {
         OptimalFinding::Yes => Ok(out.push_str("optimal yes\n")?),
-        OptimalFinding::NoWalk { node, dest } => {
-            out.push_str("optimal no: ")?;
-            push_names(out, net, *node, *dest)?;
-            Ok(out.push_str(" isn't a walk of that value\n")?)
-        }
+        OptimalFinding::NoWalk { node, dest } => push_no_walk(out, net, *node, *dest),
         OptimalFinding::Beaten { node, dest, walk } => {
-            out.push_str("optimal no: ")?;
-            push_names(out, net, *node, *dest)?;
-            out.push_str(" is beaten by")?;
-            push_path(out, net, walk.as_slice())?;
-            Ok(out.push('\n')?)
+            push_beaten(out, net, *node, *dest, walk.as_slice())
         }
         OptimalFinding::Unsettled { arc, instance } => {
-            out.push_str("optimal open: ")?;
-            push_misses_line(alloc, out, net, *arc, instance)
+            push_unsettled(alloc, out, net, *arc, instance)
         }
     }
+}
+
+// The line on a row whose route nothing offers.
+fn push_not_offered(out: &mut String, net: &Net, node: NodeId, dest: DestId) -> Result<(), NoMemory>
+    requires { IsRowName net.now node.0 dest.0 }
+    ensures { OnOk result (Gains out.old (stability_text net.now (not_offered node.0 dest.0)) out.new) }
+{
+    out.push_str("stable no: ")?;
+    push_names(out, net, node, dest)?;
+    Ok(out.push_str(" isn't offered\n")?)
+}
+
+// The line on a row that has a better offer.
+fn push_better(
+    out: &mut String,
+    net: &Net,
+    node: NodeId,
+    dest: DestId,
+    offer: &Route,
+) -> Result<(), NoMemory>
+    requires row { IsRowName net.now node.0 dest.0 }
+    requires offer { IsRouteIn net.now (pure_route offer.now) }
+    ensures { OnOk result (Gains out.old
+        (stability_text net.now (better node.0 dest.0 (pure_route offer.now))) out.new) }
+{
+    out.push_str("stable no: ")?;
+    push_names(out, net, node, dest)?;
+    out.push_str(" has the better offer ")?;
+    push_route(out, net, Some(offer))?;
+    Ok(out.push_str("\n")?)
 }
 
 // The line on whether they are stable.
@@ -60,18 +133,8 @@ fn push_stability(out: &mut String, net: &Net, finding: &StableFinding) -> Resul
 {
     match finding {
         StableFinding::Yes => Ok(out.push_str("stable yes\n")?),
-        StableFinding::NotOffered { node, dest } => {
-            out.push_str("stable no: ")?;
-            push_names(out, net, *node, *dest)?;
-            Ok(out.push_str(" isn't offered\n")?)
-        }
-        StableFinding::Better { node, dest, offer } => {
-            out.push_str("stable no: ")?;
-            push_names(out, net, *node, *dest)?;
-            out.push_str(" has the better offer ")?;
-            push_route(out, net, Some(offer))?;
-            Ok(out.push('\n')?)
-        }
+        StableFinding::NotOffered { node, dest } => push_not_offered(out, net, *node, *dest),
+        StableFinding::Better { node, dest, offer } => push_better(out, net, *node, *dest, offer),
     }
 }
 

@@ -1,4 +1,5 @@
 use Rattle.command_words.specs.Words.{Words}
+use Rattle.report_check.proofs.Runs.{one_meaning}
 use Rattle.metacli.proofs.Completeness.{Laws, complete}
 use Rattle.metacli.proofs.laws.nothing_is_given_up.Goals as goal
 
@@ -9,6 +10,6 @@ returns c words old new o h =
       fault = c.one_text_one_fault.ensures;
       apart = c.no_fault_beside_an_algebra.ensures;
       network = c.one_text_one_network.ensures;
-      report = c.one_report_one_meaning.ensures;
+      report = one_meaning c.values_are_reported.ensures;
     } in
     complete laws words old new o (Words words) h
