@@ -11,10 +11,11 @@ _meta_usage() {
     _meta_lines "$1" | awk -v word="$2" '$1 == word { split(substr($0, 3), part, /  +/); print part[1] }'
 }
 
-# Files with that ending and folders; any files where there is none.
+# Files with that ending and folders; any files where there is none, and where no ending is given.
 _meta_files() {
     local IFS=$'\n'
-    COMPREPLY=($(compgen -f -X "!*.$1" -- "$word") $(compgen -d -S / -- "$word"))
+    COMPREPLY=()
+    [ $# -eq 0 ] || COMPREPLY=($(compgen -f -X "!*.$1" -- "$word") $(compgen -d -S / -- "$word"))
     [ ${#COMPREPLY[@]} -gt 0 ] || COMPREPLY=($(compgen -f -- "$word"))
     compopt -o filenames -o nospace 2>/dev/null
     [[ ${COMPREPLY[0]-} == */ ]] || compopt +o nospace 2>/dev/null
@@ -54,6 +55,7 @@ _meta_after() {
         case $arguments:$usage in
             0:*' FILE'*) _meta_files raml ;;
             1:*' NET'* | 1:*'[NET]'*) _meta_files net ;;
+            2:*' REPORT'*) _meta_files ;;
             0:*' DIR'*) COMPREPLY=($(compgen -d -- "$word")) ;;
         esac
     fi

@@ -328,11 +328,11 @@ def fault_of(text, form, greatest, what):
     return reader.wrong[0] if reader.wrong else None
 
 
-def literal_advice(text, what, policy):
+def literal_advice(text, what, policy, greatest=None):
     """The place in the text and the advice for a refused label or value; the advice's further lines show the form."""
     profile, tree = policy
     form = label_form(tree) if what == 'label' else value_form(tree)
-    fault = fault_of(text, form, GREATEST[profile], what)
+    fault = fault_of(text, form, greatest or GREATEST[profile], what)
     if fault is None:
         return 0, f'`{text}` is no {what} of this policy', []
     advice = fault.advice

@@ -63,6 +63,11 @@ def form_of(words):
     return FORMS[key], len(FORMS[key].split(' : ')[0].split())
 
 
+def looks_like_row(texts):
+    """Whether these words are a row: a node, a destination, and `none` or a value and a path from the node."""
+    return texts[2:] == ['none'] or (len(texts) > 3 and texts[3] == texts[0])
+
+
 def bad_line(text):
     """Column and advice for a line that has none of the forms, looked at as the program does: from the left."""
     words, colon, _ = words_of(text)
@@ -75,6 +80,8 @@ def bad_line(text):
     if form is None:
         if first in EXPR_WORDS:
             return column, 'this looks like an expression file: FILE, the policy, comes first and NET second'
+        if looks_like_row([text for text, _ in words]):
+            return column, 'this looks like a row of a report: NET comes before REPORT'
         if first == 'then':
             return column, 'a change is `then link A B : LABEL` or `then drop A B`'
         return column, f'the first word of a line is node, link, both, origin or then{meant(first, NET_WORDS)}'

@@ -115,7 +115,7 @@ def read_network(text, at_most):
             reader.read_line(line, number)
     except BadInput as error:
         if POLICY.search(text):
-            error.message = 'this is a policy; the picture is of a network file'
+            error.message = 'this is a policy, and not a network file'
         raise
     if not reader.network.nodes:
         raise BadInput('there is no node in it')

@@ -13,7 +13,7 @@ SCRIPT = os.path.join(TOP, 'meta')
 MEANINGS = {
     0: 'the command was carried out',
     1: 'the words were refused',
-    2: 'the expression or the network was refused',
+    2: 'the expression, the network or the report was refused',
     3: 'a label on an arc does not have a property that the command needs, or a required property fails',
     4: 'the turns were spent',
     5: 'a file could not be read',

@@ -12,7 +12,7 @@ NAME = r'[A-Za-z0-9_.-]{1,32}'
 PROPERTIES = ('monotone', 'strict', 'isotone', 'cancellative', 'total')
 PROPERTY = '|'.join(PROPERTIES)
 # What each argument of a command is called in a refusal.
-FILES = ('expression', 'network')
+FILES = ('expression', 'network', 'report')
 FILE = '|'.join(FILES)
 # The flags of the script that stand before a command.
 SCRIPT_FLAGS = ('--proved', '--unproved')
@@ -84,6 +84,12 @@ def instance_of(lines, text):
     if second is None:
         return {'label': label, 'values': [first], 'images': [image(images[0])]}
     return {'label': label, 'values': [first, second], 'images': [image(it) for it in images]}
+
+
+def missing_property(lines, name, listener, speaker, text):
+    """The property that the label on an arc doesn't have."""
+    arc = {'listener': listener, 'speaker': speaker}
+    return {'property': name, 'arc': arc, 'instance': instance_of(lines, text)}
 
 
 def read_verdict(lines, name, before=''):
@@ -209,6 +215,75 @@ def read_summary(lines):
     return {'summary': {'nodes': int(nodes), 'arcs': int(arcs), 'destinations': sums, 'end': end}}
 
 
+def read_hops(lines):
+    """The next hops of all rows, by destination. The word `here` may stand before them."""
+    found, nodes, places = {}, set(), []
+    while lines.has_more():
+        node, dest, value, words = lines.take(ROW)
+        words = (words or '').split()
+        if (node, dest) in nodes or len(set(words)) < len(words) - (words[:2] == ['here', 'here']):
+            raise lines.unknown(lines.at - 1)
+        nodes.add((node, dest))
+        is_here = words[:1] == ['here']
+        places += [lines.at] if is_here and words[1:2] != ['here'] else []
+        found.setdefault(dest, []).append({'node': node, 'value': value, 'here': is_here, 'heads': words[is_here:]})
+    if places and any(node == 'here' for node, _ in nodes):
+        raise Refused(f'line {places[0]} of what the program printed has two meanings: a node is called here')
+    return {'hops': found}
+
+
+def no_walk(lines, node, dest):
+    return {'holds': False, 'node': node, 'destination': dest, 'reason': 'no walk'}
+
+
+def beaten(lines, node, dest, walk):
+    if walk.split()[0] != node:
+        raise lines.unknown(lines.at - 1)
+    return {'holds': False, 'node': node, 'destination': dest, 'reason': 'beaten', 'walk': walk.split()}
+
+
+def unsettled(lines, name, listener, speaker, text):
+    return {'holds': None, **missing_property(lines, name, listener, speaker, text)}
+
+
+def not_offered(lines, node, dest):
+    return {'holds': False, 'node': node, 'destination': dest, 'reason': 'not offered'}
+
+
+def better_offer(lines, node, dest, value, path):
+    if path.split()[0] != node:
+        raise lines.unknown(lines.at - 1)
+    offer = {'value': value, 'path': path.split()}
+    return {'holds': False, 'node': node, 'destination': dest, 'reason': 'better offer', 'offer': offer}
+
+
+# The forms of the two lines of `verify`, each with what its members are made by.
+OPTIMAL = (
+    ('optimal yes', lambda lines: {'holds': True}),
+    (rf'optimal no: ({NAME}) ({NAME}) isn\'t a walk of that value', no_walk),
+    (rf'optimal no: ({NAME}) ({NAME}) is beaten by((?: {NAME})+)', beaten),
+    (rf'optimal open: (isotone) fails on ({NAME}) ({NAME}): (.+)', unsettled),
+)
+STABLE = (
+    ('stable yes', lambda lines: {'holds': True}),
+    (rf'stable no: ({NAME}) ({NAME}) isn\'t offered', not_offered),
+    (rf'stable no: ({NAME}) ({NAME}) has the better offer (\S+)((?: {NAME})+)', better_offer),
+)
+
+
+def read_finding(lines, forms):
+    """The finding whose line has one of these forms."""
+    for pattern, members_of in forms:
+        if lines.has_next(pattern):
+            return members_of(lines, *lines.take(pattern))
+    # (no line has the first form either, so this says which line is not known)
+    return lines.take(forms[0][0])
+
+
+def read_judgement(lines):
+    return {'judgement': {'optimal': read_finding(lines, OPTIMAL), 'stable': read_finding(lines, STABLE)}}
+
+
 def read_run(lines):
     return read_phases(lines, is_traced=False)
 
@@ -223,10 +298,12 @@ READERS = {
     'gadget': ((0,), read_gadget),
     'code': ((0,), read_code),
     'route': ((0,), read_table),
+    'hops': ((0,), read_hops),
     'stable': ((0,), read_stable_tables),
     'settle': ((0,), read_table),
     'run': ((0, 4), read_run),
     'trace': ((0, 4), read_trace),
+    'verify': ((0,), read_judgement),
     'demo': ((0,), read_summary),
 }
 
@@ -243,9 +320,12 @@ def refused_network(lines, fault, line):
     return {'kind': 'network', 'fault': fault, 'line': int(line)}
 
 
-def missing_property(lines, name, listener, speaker, text):
-    arc = {'listener': listener, 'speaker': speaker}
-    return {'kind': 'property', 'property': name, 'arc': arc, 'instance': instance_of(lines, text)}
+def refused_report(lines, fault, line):
+    return {'kind': 'report', 'fault': fault, 'line': int(line)}
+
+
+def refused_property(lines, *found):
+    return {'kind': 'property', **missing_property(lines, *found)}
 
 
 # Each line that refuses: the status that it comes with, its form, and its members.
@@ -253,7 +333,8 @@ REFUSALS = (
     (1, r'words refused: (C\d+)', refused_words),
     (2, rf'expression refused: (X\d+) at ({NUMBER}):({NUMBER})', refused_expression),
     (2, rf'network refused: (N\d+) at line ({NUMBER})', refused_network),
-    (3, rf'({PROPERTY}) fails on ({NAME}) ({NAME}): (.+)', missing_property),
+    (2, rf'report refused: (V\d+) at line ({NUMBER})', refused_report),
+    (3, rf'({PROPERTY}) fails on ({NAME}) ({NAME}): (.+)', refused_property),
     (5, rf'read fault on the ({FILE})', lambda lines, which: {'kind': 'read', 'of': which}),
     (7, r'out of memory', lambda lines: {'kind': 'memory'}),
     (8, rf'too long: the ({FILE})', lambda lines, which: {'kind': 'length', 'of': which}),

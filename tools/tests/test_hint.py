@@ -109,6 +109,8 @@ NETWORKS = [
     ('edge a b : 1\n', 'N1', '1:1', 'the first word'),
     ('node a b\ndrop a b\n', 'N1', '2:1', 'the first word'),
     ('// so\n', 'N1', '1:1', 'the first word'),
+    ('a x none\n', 'N1', '1:1', 'a row of a report'),
+    ('a x 3 a b\n', 'N1', '1:1', 'a row of a report'),
     ('node\n', 'N1', '1:5', 'one node or more'),
     ('node a, b\n', 'N1', '1:6', 'not of `,`'),
     ('node 10.0.0.1:179\n', 'N1', '1:14', 'no colon'),
@@ -148,6 +150,44 @@ NETWORKS = [
     ('node a b\nthen drop a b\n', 'N11', '2:1', 'no such arc'),
 ]
 
+# A report's text over two nodes and two destinations, its fault, and what the hint says of it.
+REPORTS = [
+    (b'\xef\xbb\xbfa x 0 a\n', 'V2', '1:1', 'byte order mark'),
+    ('node a b c\n', 'V2', '1:1', 'network file'),
+    ('# a table\n', 'V1', '1:1', 'no comments'),
+    ('# a table of b\n', 'V2', '1:1', 'no comments'),
+    ('main add(1..10);\n', 'V1', '1:1', 'expression file'),
+    ('a\n', 'V1', '1:1', 'three words or more'),
+    ('a x\n', 'V1', '1:1', 'three words or more'),
+    ('x 1 stable\n', 'V1', '1:1', '`stable`'),
+    ('table 1\n', 'V1', '1:1', '`stable`'),
+    ('phase 1\n', 'V1', '1:1', 'one phase'),
+    ('1 a b\n', 'V1', '1:1', '`trace`'),
+    ('a x 4\n', 'V1', '1:6', 'the path is missing'),
+    ('a x None\n', 'V1', '1:5', 'and not with `None`'),
+    ('a x none\r\r\n', 'V1', '1:5', 'ends with `none`'),
+    ('a x none\nquiet 2\n', 'V1', '2:1', 'the row of b for x is due here'),
+    ('a x none\nquiet two\n', 'V1', '2:7', '1 to 20 digits'),
+    ('a x none\nspent 123456789012345678901\n', 'V1', '2:7', '1 to 20 digits'),
+    ('c x none\n', 'V2', '1:1', 'NET has no node `c`'),
+    ('a z none\n', 'V2', '1:3', 'NET has no destination `z`'),
+    ('x a none\n', 'V2', '1:1', 'the node comes first'),
+    ('a b none\n', 'V2', '1:3', 'no destination is called `b`'),
+    ('a x 3 a c\n', 'V2', '1:9', 'NET has no node `c`'),
+    ('A x 3 a b\n', 'V2', '1:1', 'is `a` meant'),
+    ('a x 3 a,b\n', 'V2', '1:7', 'not of `,`'),
+    ('b x 0 b\n', 'V3', '1:1', 'the row of a for x is due here'),
+    ('a x none\na x none\n', 'V3', '2:1', 'the row of b for x is due here'),
+    ('a x none\n\na y none\n', 'V3', '3:1', 'the row of b for x is due here'),
+    ('a x none\nb x none\na y none\nb y none\na x none\n', 'V3', '5:1', 'there are 4'),
+    ('a x q a b\n', 'V4', '1:5', '`q` stands where a number from 0 up is due'),
+    ('a x none a b\n', 'V4', '1:10', 'nothing follows `none`'),
+    (f'a x {2 ** 119 + 1} a b\n', 'V4', '1:5', f'at most {2 ** 119}'),
+    ('a x none\nb x none\na y none\n', 'V5', '4:1', 'the row of b for y is due here'),
+    ('', 'V5', '1:1', 'the row of a for x is due here'),
+    ('a x none\nb x none\na y none\nb y none\nquiet 1\n\nquiet 1\n', 'V1', '7:1', 'nothing follows'),
+]
+
 # What stands in the place of LIST, and what the hint says of it.
 LISTS = [
     ('safe', '`safe` is no property: '),
@@ -176,6 +216,11 @@ WORDS = [
     (['demo', '1', '1'], '2 to 512'),
     (['check', 'missing.raml'], 'no such file'),
     (['check', '/'], 'a folder'),
+    (['verify', 'f', 'n'], 'verify FILE NET REPORT'),
+    (['verify', 'examples/shortest_path.raml', 'examples/diamond.net', 'missing.report'], 'missing.report: there is no'),
+    (['verify', 'examples/shortest_path.raml', 'examples/diamond.net', '/dev/zero'], '/dev/zero: the file has more'),
+    (['hops', 'f', 'n', '--workers', '2'], '`hops` doesn\'t have'),
+    (['hops', 'examples/customer_provider.raml', 'examples/providers.net'], 'isn\'t isotone, which `hops` needs'),
     (['check', '-'], '/dev/stdin'),
     (['check', '-h'], 'meta COMMAND --help'),
     (['check', 'f', '--help'], 'meta check --help'),
@@ -222,6 +267,16 @@ class Hints(Folder):
             name = self.file('n.net', text)
             line, hint = self.hint('check', policy, name)
             self.assertTrue(line.startswith(f'network refused: {fault} at line {place.split(":")[0]}'), (text, line))
+            self.assertTrue(hint.startswith(f'meta: {name}:{place}: ') and advice in hint, (text, hint))
+
+    def test_reports(self):
+        policy = self.file('p.raml', 'main add(1..10);')
+        net = self.file('n.net', 'node a  # the first\nnode b\nlink a b : 3\norigin x at b : 0\norigin y at a : 0\n'
+                                 'origin x at a : 9\n')
+        for text, fault, place, advice in REPORTS:
+            name = self.file('r.report', text)
+            line, hint = self.hint('verify', policy, net, name)
+            self.assertEqual(line, f'report refused: {fault} at line {place.split(":")[0]}', text)
             self.assertTrue(hint.startswith(f'meta: {name}:{place}: ') and advice in hint, (text, hint))
 
     def test_literals(self):

@@ -67,6 +67,57 @@ class Printed(Folder):
                 (GADGET, {'monotone': {'holds': False, 'instance': instance}, 'network': GADGET.splitlines()})):
             self.assertEqual(self.members(words, text), {'gadget': wanted})
 
+    def test_hops(self):
+        text = 'a x 3 b c\nb x 0 here\nc x 0 here b\na y none\nb y none\nc y 5 b\n'
+        self.assertEqual(self.members(['hops', 'f', 'n'], text), {'hops': {
+            'x': [{'node': 'a', 'value': '3', 'here': False, 'heads': ['b', 'c']},
+                  {'node': 'b', 'value': '0', 'here': True, 'heads': []},
+                  {'node': 'c', 'value': '0', 'here': True, 'heads': ['b']}],
+            'y': [{'node': 'a', 'value': None, 'here': False, 'heads': []},
+                  {'node': 'b', 'value': None, 'here': False, 'heads': []},
+                  {'node': 'c', 'value': '5', 'here': False, 'heads': ['b']}]}})
+
+    def test_a_node_that_is_called_here(self):
+        """The line `a x 0 here` may say that a has an origin, or that its next hop is the node here."""
+        found = self.members(['hops', 'f', 'n'], 'a x 0 here here\nhere x 0 a\n')['hops']['x']
+        self.assertEqual([(it['here'], it['heads']) for it in found], [(True, ['here']), (False, ['a'])])
+        ended, out, said = tool('to_json', self.stand_in('a x 0 here\nhere x 0 a\n'), 'hops', 'f', 'n')
+        self.assertEqual((ended, out), (2, ''))
+        self.assertIn('line 1 of what the program printed has two meanings', said)
+
+    def test_judgements(self):
+        words, yes = ['verify', 'f', 'n', 'r'], {'holds': True}
+        at, arc = {'holds': False, 'node': 'a', 'destination': 'x'}, {'listener': 'b', 'speaker': 'd'}
+        instance = {'label': '(10,7)', 'values': ['(9,8)', '(8,6)'], 'images': ['(9,15)', None]}
+        for line, wanted in (
+                ('optimal yes', yes),
+                ('optimal no: a x isn\'t a walk of that value', {**at, 'reason': 'no walk'}),
+                ('optimal no: a x is beaten by a b', {**at, 'reason': 'beaten', 'walk': ['a', 'b']}),
+                ('optimal open: isotone fails on b d: (10,7) on (9,8) and (8,6) gives (9,15) and none',
+                 {'holds': None, 'property': 'isotone', 'arc': arc, 'instance': instance})):
+            self.assertEqual(self.members(words, f'{line}\nstable yes\n'),
+                             {'judgement': {'optimal': wanted, 'stable': yes}})
+        for line, wanted in (
+                ('stable no: a x isn\'t offered', {**at, 'reason': 'not offered'}),
+                ('stable no: a x has the better offer 3 a b',
+                 {**at, 'reason': 'better offer', 'offer': {'value': '3', 'path': ['a', 'b']}})):
+            self.assertEqual(self.members(words, f'optimal yes\n{line}\n'),
+                             {'judgement': {'optimal': yes, 'stable': wanted}})
+
+    def test_unknown_judgements(self):
+        words = ['verify', 'f', 'n', 'r']
+        for text, line in (('stable yes\noptimal yes\n', 1), ('optimal no\nstable yes\n', 1),
+                           ('optimal no: a x is beaten by b a\nstable yes\n', 1),
+                           ('optimal open: strict fails on b d: 1 on 2 gives 2\nstable yes\n', 1),
+                           ('optimal open: isotone fails on b d: 1 on 2\nstable yes\n', 1),
+                           ('optimal yes\nstable no: a x isn\'t a walk of that value\n', 2),
+                           ('optimal yes\nstable no: a x has the better offer 3\n', 2),
+                           ('optimal yes\nstable no: a x has the better offer 3 b a\n', 2),
+                           ('optimal yes\nstable yes\nquiet 2\n', 3)):
+            self.assert_unknown(words, text, line)
+        for text, line in (('a x 3\n', 1), ('a x none b\n', 1), ('a x 3 b\na x 3 b\n', 2), ('a x 3 b b\n', 1)):
+            self.assert_unknown(['hops', 'f', 'n'], text, line)
+
     def test_stable_tables(self):
         """The destination may be called as a word of the lines is, and so may nodes."""
         text = 'stable 1 stable\ntable 1\na stable 0 a\n1 stable none\ny 1 stable\ntable 1\na y none\n1 y 2 1\n'
@@ -128,6 +179,13 @@ class Printed(Folder):
                 (7, 'out of memory', {'kind': 'memory'}),
                 (8, 'too long: the expression', {'kind': 'length', 'of': 'expression', 'file': 'f'})):
             self.assertEqual(self.members(words, line + '\n', status), {'refusal': {**wanted, 'text': line}})
+        words = ['verify', 'f', 'n', 'r']
+        for status, line, wanted in (
+                (2, 'report refused: V3 at line 2', {'kind': 'report', 'fault': 'V3', 'line': 2, 'file': 'r'}),
+                (2, 'network refused: N6 at line 3', {'kind': 'network', 'fault': 'N6', 'line': 3, 'file': 'n'}),
+                (5, 'read fault on the report', {'kind': 'read', 'of': 'report', 'file': 'r'}),
+                (8, 'too long: the report', {'kind': 'length', 'of': 'report', 'file': 'r'})):
+            self.assertEqual(self.members(words, line + '\n', status), {'refusal': {**wanted, 'text': line}})
 
     def test_the_front_of_a_text(self):
         for status in (6, 7, 139):
@@ -180,6 +238,8 @@ class Printed(Folder):
                                     (['gadget', 'f'], GADGET[:GADGET.index('then drop')], 0),
                                     (['gadget', 'f'], GADGET, 3), (['stable', 'f', 'n'], 'x 1 stable\ntable 1\n', 0),
                                     (['stable', 'f', 'n'], 'x 1 stable\n', 0), (['demo', '1', '2'], 'quiet\n', 4),
+                                    (['verify', 'f', 'n', 'r'], 'optimal yes\n', 0),
+                                    (['verify', 'f', 'n', 'r'], 'optimal yes\nstable yes\n', 3),
                                     (['check', 'f'], 'monotone yes\u00e9\n', 0), (['demo', '1', '2'], '', 0)):
             ended, out, said = tool('to_json', self.stand_in(text, status), *words)
             self.assertEqual((ended, out, said.count('\n'), said[:9]), (2, '', 1, 'to_json: '), words)
@@ -224,6 +284,12 @@ class Program(Folder):
         self.assertEqual(self.json_of('stable', policy, network)['tables'], {'x': [none]})
         for command in ('route', 'settle'):
             self.assertEqual(self.json_of(command, policy, network)['rows'], {'x': none})
+        self.assertEqual(self.json_of('hops', policy, network)['hops'], {'x': [
+            {'node': 'a', 'value': None, 'here': False, 'heads': []},
+            {'node': 'b', 'value': '0', 'here': True, 'heads': []}]})
+        report = self.file('r.report', 'a x none\nb x 0 b\n')
+        self.assertEqual(self.json_of('verify', policy, network, report)['judgement'],
+                         {'optimal': {'holds': True}, 'stable': {'holds': True}})
         phases = [{'phase': 0, 'rows': {'x': one}, 'end': 'quiet', 'deliveries': 1},
                   {'phase': 1, 'rows': {'x': none}, 'end': 'quiet', 'deliveries': 0}]
         self.assertEqual(self.json_of('run', policy, network)['phases'], phases)
@@ -254,3 +320,9 @@ class Program(Folder):
         self.assertEqual(self.json_of()['refusal']['fault'], 'C1')
         missing = os.path.join(self.folder, 'missing')
         self.assertEqual(self.json_of('check', missing)['refusal']['file'], missing)
+        policy = self.file('g.raml', 'main gate;')
+        self.assertEqual(self.json_of('verify', policy, network, missing)['refusal']['file'], missing)
+        report = self.file('r.report', 'a x none\n')
+        self.assertEqual(self.json_of('verify', policy, network, report)['refusal'],
+                         {'kind': 'report', 'fault': 'V2', 'line': 1, 'file': report,
+                          'text': 'report refused: V2 at line 1'})
