@@ -1,8 +1,8 @@
 // The lines of judgements and of next hops.
-ghost use Rattle.std.specs.Prelude.{◌≡◌, ◌++◌, Some, map, IfOk, OnOk};
+ghost use Rattle.std.specs.Prelude.{◌≡◌, ◌++◌, Some, codes, map, IfOk, OnOk};
 ghost use Rattle.alg_classes.specs.Instances.{pure_instance};
 ghost use Rattle.meta_base.specs.Appending.{Gains};
-ghost use Rattle.net_graph.specs.RowTexts.{AreNodesOf, IsRouteIn};
+ghost use Rattle.net_graph.specs.RowTexts.{AreNodesOf, IsRouteIn, path_text};
 ghost use Rattle.net_graph.specs.Views.{pure_route};
 ghost use Rattle.report_check.specs.Judged.{beaten, better, no_walk, not_offered, unsettled};
 ghost use Rattle.report_check.specs.Views.{pure_hops, pure_judgement, pure_optimal, pure_stable};
@@ -68,7 +68,16 @@ fn push_beaten(
         (optimal_text net.now (beaten node.0 dest.0 (map (λ node. node.0) walk.now))) out.new) }
 {
     push_about(out, net, node, dest, "optimal no: ", " is beaten by")?;
-    push_path(out, net, walk)?;
+    push_path_end(out, net, walk)?;
+    Ok(())
+}
+
+// The names of the nodes of a path, at the end of a line.
+fn push_path_end(out: &mut String, net: &Net, path: &[NodeId]) -> Result<(), NoMemory>
+    requires { AreNodesOf net.now (map (λ node. node.0) path.now) }
+    ensures { OnOk result (Gains out.old (path_text net.now (map (λ node. node.0) path.now) ++ codes "\n") out.new) }
+{
+    push_path(out, net, path)?;
     Ok(out.push_str("\n")?)
 }
 
