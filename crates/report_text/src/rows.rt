@@ -41,7 +41,8 @@ pub(crate) fn push_path(out: &mut String, net: &Net, path: &[NodeId]) -> Result<
 // The value and the path of a route, or the word none.
 pub(crate) fn push_route(out: &mut String, net: &Net, route: Option<&Route>) -> Result<(), NoMemory>
     requires { IfSome (option_map (λ r. pure_route r.now) route) (IsRouteIn net.now) }
-    ensures { OnOk result (Gains out.old (route_text net.now (option_map (λ r. pure_route r.now) route.entry)) out.new) }
+    ensures { OnOk result (Gains out.old
+        (route_text net.now (option_map (λ r. pure_route r.now) route.entry)) out.new) }
 {
     match route {
         None => Ok(out.push_str("none")?),
