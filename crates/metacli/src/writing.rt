@@ -28,8 +28,7 @@ ghost use Rattle.metacli.specs.Views.{CanBeWritten, IsListedOn, pure_outcome};
 use crate::Answer;
 use crate::after::last_of;
 use crate::outcome::{
-    Checked, Coded, Hopped, Judged, Outcome, Ran, Routed, Shown, Stop, Wedged, checked_answer,
-    end_answer,
+    Checked, Coded, Judged, Outcome, Ran, Routed, Shown, Stop, Wedged, checked_answer, end_answer,
 };
 use crate::phases::put_phases;
 use crate::putting::{Cut, answered, put_line, put_room, room_for_lines};
@@ -42,6 +41,7 @@ use meta_base::{Failed, NoMemory, Sink, Text, put_all};
 use net_facts::Missing;
 use net_graph::{Net, RouteRow};
 use property_infer::Verdicts;
+use report_check::ManyHops;
 use report_text::{
     code_lines, hops_line, judgement_lines, misses_line, push_row_line, refusal_line,
     required_line, verdict_line,
@@ -67,7 +67,10 @@ pub fn write<K: Sink>(alloc: Global, out: &mut K, outcome: &Outcome) -> Answer
         Outcome::Checked(it) => answered(put_checked(alloc, out, it), checked_answer(it.unmet)),
         Outcome::Coded(it) => answered(put_code(alloc, out, it), Answer::Done),
         Outcome::Routed(it) => answered(put_routes(alloc, out, it), Answer::Done),
-        Outcome::Hopped(it) => answered(put_hops(alloc, out, it), Answer::Done),
+        Outcome::Hopped(it) => {
+            let put = put_hops(alloc, out, &it.file.net, it.many.as_slice());
+            answered(put, Answer::Done)
+        }
         Outcome::Judged(it) => answered(put_judged(alloc, out, it), Answer::Done),
         Outcome::Wedged(it) => answered(put_gadget(alloc, out, it), Answer::Done),
         Outcome::Ran(it) => answered(put_run(alloc, out, it), end_answer(it.run.is_quiet)),
@@ -103,13 +106,12 @@ fn put_code<K: Sink>(alloc: Global, out: &mut K, coded: &Coded) -> Result<(), Cu
 }
 
 // Puts the lines of rows with all their next hops.
-fn put_hops<K: Sink>(alloc: Global, out: &mut K, hopped: &Hopped) -> Result<(), Cut>
-    requires { AllByRecursion (CanPrintHops hopped.now.file.net) (map pure_hops hopped.now.many) }
-    ensures { PutsText (K.holds out.old) (many_text hopped.now.file.net (map pure_hops hopped.now.many))
-        result (K.holds out.new) }
+fn put_hops<K: Sink>(alloc: Global, out: &mut K, net: &Net, many: &[ManyHops]) -> Result<(), Cut>
+    requires { AllByRecursion (CanPrintHops net.now) (map pure_hops many.now) }
+    ensures { PutsText (K.holds out.old) (many_text net.now (map pure_hops many.now)) result (K.holds out.new) }
 {
-    for hops in hopped.many.as_slice() {
-        put_line(out, hops_line(alloc, &hopped.file.net, hops))?;
+    for hops in many {
+        put_line(out, hops_line(alloc, net, hops))?;
     }
     Ok(())
 }

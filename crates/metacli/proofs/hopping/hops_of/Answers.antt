@@ -2,11 +2,11 @@ use Rattle.std.proofs.Common.{arith}
 use Rattle.metacli.proofs.NextHops.{dest_in, hops_end, hops_more, table_of}
 use Rattle.metacli.proofs.hopping.hops_of.Goals as goal
 
-pub best_hops-requires-dest : goal.best_hops-requires-dest
-best_hops-requires-dest c = dest_in c.args.net.now c.args.tables.now c.loop-table.table-index c.table-item.result c.requires c.loop-table-test.true c.table-item.is
+pub best_hops-requires-clause-dest : goal.best_hops-requires-clause-dest
+best_hops-requires-clause-dest c = dest_in c.args.net.now c.args.tables.now c.loop-table.table-index c.table-item.result c.requires c.loop-table-test.true c.table-item.is
 
-pub best_hops-requires-table : goal.best_hops-requires-table
-best_hops-requires-table c = table_of c.args.net.now c.args.tables.now c.loop-table.table-index c.table-item.result c.requires c.loop-table-test.true c.table-item.is
+pub best_hops-requires-clause-table : goal.best_hops-requires-clause-table
+best_hops-requires-clause-table c = table_of c.args.net.now c.args.tables.now c.loop-table.table-index c.table-item.result c.requires c.loop-table-test.true c.table-item.is
 
 pub loop-table-preserved : goal.loop-table-preserved
 loop-table-preserved c =
@@ -14,4 +14,4 @@ loop-table-preserved c =
     c.in_ok-append_hops.ensures c.in_ok-best_hops.ensures c.loop-table.invariant
 
 pub returns : goal.returns
-returns c = hops_end c.args.net.now c.args.tables.now c.loop-table.table-index _ _ (omega (arith, c.loop-table-test.false)) c.loop-table.invariant
+returns c = rw c.from_vec.ensures (hops_end c.args.net.now c.args.tables.now c.loop-table.table-index _ _ (omega (arith, c.loop-table-test.false)) c.loop-table.invariant)
