@@ -11,8 +11,3 @@ returns-in-Some g c =
     let missing = c.in-Some.missing in
     let first : IsFirstMissing (asked_of Unbeaten) net missing.arc.0 (pure_instance missing.instance) = rw (c.in-Some.is, c.properties.ensures) at c.in_ok-missing.ensures.first in
     (first, can_miss (asked_of Unbeaten) net missing.arc.0 (pure_instance missing.instance) first)
-
-pub best_hops_on-requires : goal.best_hops_on-requires
-best_hops_on-requires g c =
-    let fit : IsFit Unbeaten c.args.net.now = rw (c.in-None.is, c.properties.ensures) at c.in_ok-missing.ensures.none in
-    fit
