@@ -8,4 +8,4 @@ pub returns-in-Ok-clause-printable : goal.returns-in-Ok-clause-printable
 returns-in-Ok-clause-printable c = record { printable = c.in-Ok.ensures.found.printable; after = c.in-Ok.ensures.after }
 
 pub returns-in-Err-clause-judged : goal.returns-in-Err-clause-judged
-returns-in-Err-clause-judged c = record { report = Err _; is_report = c.in-Err.ensures; goes_on = refl }
+returns-in-Err-clause-judged c = record { report = Err _; is_report = c.in-Err.ensures.refused; goes_on = refl }
