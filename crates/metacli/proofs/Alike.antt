@@ -1,6 +1,5 @@
 -- Quiet runs of one network end alike.
-use Rattle.std.proofs.Common.{◌≡◌, ℕ, ◌-◌, Bool, true, false, List, [], ◌∷◌, length, map, Option, Some, None, refl, sym, ap, ◌∙◌, subst}
-use Rattle.std.specs.List.{AllByRecursion}
+use Rattle.std.proofs.Common.{◌≡◌, ℕ, ◌-◌, Bool, true, false, List, [], ◌∷◌, length, map, Some, None, refl, sym, ap, ◌∙◌, subst}
 use Rattle.alg_model.specs.Expressions.{PureAlg}
 use Rattle.alg_model.specs.Properties.{monotone, strict}
 use Rattle.net_gen.specs.Generated.{Generated}
@@ -16,8 +15,7 @@ use Rattle.vector_runs.specs.Turns.{AreMonotone}
 use Rattle.metacli.specs.Alike.{still, undelivered}
 use Rattle.metacli.specs.Answers.{done, refused, spent}
 use Rattle.metacli.specs.After.{nets_after}
-use Rattle.metacli.specs.Outcome.{PureOutcome, stopped, checked, coded, routed, hopped, judged, wedged, ran, shown, AreRoutesOn, IsRoutedAs, IsRunAs, IsShownAs, answer_in, rows_in}
-use Rattle.metacli.specs.Texts.{TextOf}
+use Rattle.metacli.specs.Outcome.{PureOutcome, stopped, checked, coded, routed, hopped, judged, wedged, ran, shown, IsRoutedAs, IsRunAs, IsShownAs, answer_in, rows_in}
 use Rattle.metacli.specs.declared.routing.Solution.TheVariants.{AllStable}
 
 -- no two lists of rows are settled

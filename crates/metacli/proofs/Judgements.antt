@@ -1,6 +1,6 @@
 -- What is found of the tables of a report names nodes, destinations, arcs and values of the network alone, so it can be
 -- printed.
-use Rattle.std.proofs.Common.{◌≡◌, ℕ, ◌<◌, ◌≤◌, List, [], ◌∷◌, length, Option, Some, None, IfSome, inl, inr, ⊎_elim, refl, sym, subst, arith}
+use Rattle.std.proofs.Common.{◌≡◌, ℕ, ◌<◌, ◌≤◌, List, [], ◌∷◌, length, Option, Some, None, IfSome, ⊎_elim, refl, sym, subst, arith}
 use Rattle.std.proofs.lemmas.Bool.{cases_order}
 use Rattle.alg_model.specs.Carriers.{In, IsPreferred}
 use Rattle.alg_model.specs.Expressions.{PureCarrier, PureLabel, PureValue}
@@ -10,16 +10,15 @@ use Rattle.net_graph.specs.Nets.{PureNet, IsNet, label_between, origin_value}
 use Rattle.net_graph.specs.RouteLaws.{no_route_past, table_route_in}
 use Rattle.net_graph.specs.Routes.{PureRoute}
 use Rattle.net_graph.specs.RowTexts.{AreNodesOf, IsRouteIn}
-use Rattle.net_graph.specs.Tables.{PureRow, IsOfferBy, IsOwnOffer, Offers, OnTablesFrom, TableOf, carrier, route_at, value_at}
+use Rattle.net_graph.specs.Tables.{PureRow, Offers, OnTablesFrom, TableOf, carrier, route_at, value_at}
 use Rattle.net_graph.specs.Walks.{along}
 use Rattle.report_check.specs.Judged.{Judged, PureJudgement, PureOptimal, unbeaten, no_walk, beaten, unsettled, PureStable, stable, not_offered, better}
-use Rattle.report_check.specs.Judged.{HasNoWalk, IsBeatenBy, IsUnrelaxed, JudgedOptimal, JudgedStable, table_at}
+use Rattle.report_check.specs.Judged.{HasNoWalk, IsBeatenBy, JudgedOptimal, JudgedStable, table_at}
 use Rattle.report_check.specs.ReportText.{ReportText}
-use Rattle.stable_check.specs.Checks.{ImprovedBy, IsWalkOf}
-use Rattle.report_text.specs.JudgedTexts.{CanPrintJudgement, CanPrintOptimal, CanPrintStable, IsRowName}
+use Rattle.stable_check.specs.Checks.{IsWalkOf}
+use Rattle.report_text.specs.JudgedTexts.{CanPrintJudgement, CanPrintOptimal, CanPrintStable}
 use Rattle.metacli.proofs.Missing.{can_miss}
-use Rattle.metacli.proofs.ReportRows.{HasNodes, path_there, reported_nodes, table_there}
-use Rattle.std.specs.List.{AllByRecursion}
+use Rattle.metacli.proofs.ReportRows.{path_there, reported_nodes, table_there}
 
 within : (i n : ℕ) → ¬ (n ≤ i) → i < n
 within i n denied = ⊎_elim (λ same. absurd (denied (omega (arith, same)))) (λ apart. ⊎_elim (λ less. less) (λ more. absurd (denied (omega (arith, more)))) apart) (cases_order i n)

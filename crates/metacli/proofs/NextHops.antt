@@ -1,15 +1,14 @@
 -- The next hops of tables, one table after another, and their lines.
-use Rattle.std.proofs.Common.{◌≡◌, ℕ, zero, suc, ◌+◌, ◌<◌, ◌≤◌, ◌==◌, List, [], ◌∷◌, ◌++◌, length, map, drop, filter, get_or, Ok, append-nil, append_assoc, refl, sym, ap, ◌∙◌, subst, arith}
+use Rattle.std.proofs.Common.{◌≡◌, ℕ, zero, suc, ◌+◌, ◌<◌, ◌≤◌, ◌==◌, List, [], ◌∷◌, ◌++◌, length, map, drop, filter, get_or, Ok, append-nil, append_assoc, sym, ap, ◌∙◌, subst, arith}
 use Rattle.std.proofs.lemmas.List.{at_drop_all, at_drop_more, length-map, map-append}
 use Rattle.std.specs.List.{AllByRecursion}
-use Rattle.alg_model.specs.Properties.{monotone, isotone}
 use Rattle.link_state.specs.Tables.{AreTablesFrom, AreTablesOf, IsTableOf}
 use Rattle.net_graph.specs.Changes.{PureChange, after_all, changed}
 use Rattle.net_graph.specs.NetLaws.{all_passed, all_weaker}
 use Rattle.net_graph.specs.Nets.{PureArc, PureNet, IsArcOf, IsNet, arcs_from}
 use Rattle.net_graph.specs.RouteLaws.{table_value_in}
 use Rattle.net_graph.specs.RowTexts.{AreNodesOf}
-use Rattle.net_graph.specs.Tables.{PureRow, BestFirst, NetHas, Optimal, TableOf}
+use Rattle.net_graph.specs.Tables.{PureRow, BestFirst, Optimal, TableOf}
 use Rattle.net_graph.specs.Views.{rows_of}
 use Rattle.net_graph.specs.declared.route.DestTable.{DestTable}
 use Rattle.report_check.specs.Hops.{PureHops, heads_at, hops_from, hops_of, is_hop}

@@ -1,5 +1,5 @@
 -- The rows that a report means have paths of the network's nodes alone.
-use Rattle.std.proofs.Common.{◌≡◌, ℕ, zero, suc, ◌+◌, ◌<◌, ◌≤◌, ◌==◌, Bool, true, false, if◌then◌else◌, List, [], ◌∷◌, ◌++◌, length, map, Option, Some, None, IfSome, Result, Ok, Err, slice_index_or, refl, sym, ap, ◌∙◌, subst, arith}
+use Rattle.std.proofs.Common.{◌≡◌, ℕ, zero, suc, ◌+◌, ◌<◌, ◌==◌, Bool, true, false, if◌then◌else◌, List, [], ◌∷◌, ◌++◌, length, map, Option, Some, None, IfSome, Result, Ok, Err, refl, sym, ap, subst, arith}
 use Rattle.std.specs.Option.{ok_or}
 use Rattle.std.specs.List.{AllByRecursion}
 use Rattle.alg_model.specs.Expressions.{PureValue}
@@ -10,7 +10,7 @@ use Rattle.net_graph.specs.Routes.{PureRoute}
 use Rattle.net_graph.specs.RowTexts.{AreNodesOf}
 use Rattle.net_graph.specs.Tables.{PureRow, OnTablesFrom, route_at}
 use Rattle.report_check.specs.Judged.{table_at}
-use Rattle.report_check.specs.ReportText.{PureProgress, PureSaid, silent, no_route, route, ending, bad, ReportText, RowSpelling, Lead, after_end, after_none, after_route, after_said, and_then, as_value, dest_in, first_tables, in_turn, is_next, is_whole, no_rows, node_in, path_in, said_in, unless_over, with_last, with_row}
+use Rattle.report_check.specs.ReportText.{PureProgress, PureSaid, silent, no_route, route, ending, bad, ReportText, RowSpelling, Lead, after_end, after_none, after_route, after_said, and_then, as_value, dest_in, in_turn, is_next, is_whole, no_rows, node_in, path_in, said_in, with_row}
 use Rattle.report_check.specs.declared.faults.ReportKind.{ReportKind}
 use Rattle.report_check.specs.declared.faults.ReportKind.TheVariants.{BadLine, UnknownName, WrongRow}
 

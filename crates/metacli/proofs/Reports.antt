@@ -6,11 +6,11 @@ use Rattle.meta_base.specs.Shelf.{Moment}
 use Rattle.meta_base.specs.declared.ids.Which.TheVariants.{Report}
 use Rattle.net_graph.specs.Tables.{PureRow}
 use Rattle.report_check.specs.ReportText.{ReportText}
-use Rattle.report_text.specs.Refusals.{PureRefusal, long, memory, read}
+use Rattle.report_text.specs.Refusals.{PureRefusal, long, read}
 use Rattle.topology_file.specs.NetText.{PureNetFile, changed_net}
 use Rattle.metacli.specs.Found.{IsJudgedBy}
-use Rattle.metacli.specs.Outcome.{PureOutcome, GoesOnWith, WithReport, stopped}
-use Rattle.metacli.specs.Reading.{IsReadAs, IsReportOf, IsReportRefusal, IsUntaken, IsWhole, ReadsReport, Takes}
+use Rattle.metacli.specs.Outcome.{PureOutcome, WithReport, stopped}
+use Rattle.metacli.specs.Reading.{IsReadAs, IsReportOf, IsReportRefusal, IsUntaken, IsWhole, Takes}
 
 -- bytes that were taken are not too many
 pub taken_short : (name bytes : List ℕ) (old new : Moment) → Takes Report name old (Ok bytes) new → length bytes ≤ max_file_bytes

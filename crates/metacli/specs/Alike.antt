@@ -1,5 +1,5 @@
 -- Outcomes that are alike but for what depends on the order of deliveries.
-use Rattle.std.specs.Prelude.{List, [], false, map}
+use Rattle.std.specs.Prelude.{[], false, map}
 use Rattle.vector_runs.specs.Runs.{PurePhase}
 use Rattle.metacli.specs.Outcome.{PureOutcome, ran, shown}
 

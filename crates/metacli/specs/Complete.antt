@@ -1,6 +1,6 @@
 -- Nothing is given up: without a fault, words that mean a command are carried out, or refused by their
 -- files alone, unless memory is refused.
-use Rattle.std.specs.Prelude.{◌≡◌, ℕ, ◌≤◌, ◌⊎◌, List, Some, None, Result, Ok, Err, IsTrue, length}
+use Rattle.std.specs.Prelude.{◌≡◌, ℕ, ◌≤◌, ◌⊎◌, List, Some, Result, Ok, Err, IsTrue, length}
 use Rattle.meta_base.specs.Count.{HasRisen}
 use Rattle.meta_base.specs.Shelf.{Moment}
 use Rattle.meta_base.specs.Numbers.{max_file_bytes}

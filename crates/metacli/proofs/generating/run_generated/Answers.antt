@@ -1,4 +1,4 @@
-use Rattle.std.proofs.Common.{◌≡◌, ◌∙◌, true, [], ap, map, subst}
+use Rattle.std.proofs.Common.{◌≡◌, ◌∙◌, [], ap, map, subst}
 use Rattle.net_graph.specs.Nets.{PureNet}
 use Rattle.vector_runs.specs.Runs.{IsRun, pure_phase}
 use Rattle.demo_rest.specs.Most.{demo_turns}

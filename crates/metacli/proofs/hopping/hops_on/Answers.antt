@@ -1,6 +1,6 @@
 use Rattle.alg_classes.specs.Instances.{pure_instance}
 use Rattle.net_facts.specs.Misses.{IsFirstMissing}
-use Rattle.metacli.specs.Outcome.{IsFit, asked_of}
+use Rattle.metacli.specs.Outcome.{asked_of}
 use Rattle.metacli.specs.declared.routing.Solution.TheVariants.{Unbeaten}
 use Rattle.metacli.proofs.Missing.{can_miss}
 use Rattle.metacli.proofs.hopping.hops_on.Goals as goal

@@ -1,4 +1,4 @@
-use Rattle.std.proofs.Common.{◌≡◌, List, length, map, ◌∙◌, subst}
+use Rattle.std.proofs.Common.{◌≡◌, length, map, ◌∙◌, subst}
 use Rattle.std.proofs.lemmas.List.{length-map}
 use Rattle.net_graph.specs.Views.{rows_of}
 use Rattle.report_check.specs.Judged.{Judged}

@@ -1,11 +1,10 @@
-use Rattle.std.proofs.Common.{◌≡◌, ◌<◌, ◌+◌, ◌-◌, ◌++◌, Err, length, map, take, drop, subst, sym, arith}
+use Rattle.std.proofs.Common.{◌<◌, ◌+◌, ◌-◌, Err, length, map, take, subst, sym, arith}
 use Rattle.std.proofs.lemmas.Result.{err_from_is_err_and}
 use Rattle.std.specs.List.{AllByRecursion, range_with_len}
-use Rattle.net_graph.specs.Nets.{PureNet}
 use Rattle.net_graph.specs.RowTexts.{IsRowOf}
 use Rattle.net_graph.specs.Views.{pure_row}
 use Rattle.report_text.specs.TableTexts.{stable_text, table_text}
-use Rattle.metacli.specs.Texts.{HasLines, PutsText, rows_text, tables_text}
+use Rattle.metacli.specs.Texts.{PutsText, rows_text, tables_text}
 use Rattle.metacli.proofs.Tables.{all_left, all_taken, first_rows, other_rows, tables_at}
 use Rattle.metacli.proofs.Written.{cut_within, lines_begin, lines_more, put_last}
 use Rattle.metacli.proofs.tabling.+put_tables.Goals as goal
