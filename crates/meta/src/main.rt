@@ -7,7 +7,7 @@ ghost use Rattle.meta.specs.Endings.{IsCarriedOut, IsRefusedUnread};
 ghost use Rattle.meta.specs.declared.WordsError.TheVariants.{NoMemory as NoMemoryLeft};
 
 use host_io::{FileShelf, OutSink};
-use meta_base::{NoMemory, OpenGate, Shelf, Sink, Text, put_all};
+use meta_base::{Failed, NoMemory, OpenGate, Shelf, Sink, Text, put_all};
 use metacli::{run_meta, status};
 use std::process::ExitCode;
 use std::rt::{Env, Files};
@@ -65,8 +65,13 @@ fn carry_out<R: AllocGlobal + Threads + Wait + Sync, S: Shelf, K: Sink>(
 fn refuse_words<K: Sink>(out: &mut K) -> u8
     ensures { IsRefusedUnread (K.holds out.old) (K.holds out.new) result }
 {
-    let is_written = put_all(out, b"words refused: C2\n").is_ok() && out.flush().is_ok();
-    if is_written { 1 } else { 6 }
+    match put_all(out, b"words refused: C2\n") {
+        Ok(()) => match out.flush() {
+            Ok(()) => 1,
+            Err(_) => 6,
+        },
+        Err(Failed) => 6,
+    }
 }
 
 // What the program does with these words, and the status that it ends with.
