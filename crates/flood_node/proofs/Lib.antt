@@ -1,0 +1,5 @@
+mod Words
+mod Tellings
+mod OwnCards
+mod Nodes
+mod ToldNets
