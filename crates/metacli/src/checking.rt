@@ -142,7 +142,7 @@ fn arc_verdicts(alloc: Global, net: &Net) -> Result<Verdicts, NoMemory>
         add_label(
             alloc,
             net.alg(),
-            &net.arc(ArcId(arc as u32)).label,
+            net.arc(ArcId(arc as u32)).label,
             &mut labels,
         )?;
     }

@@ -39,7 +39,7 @@ pub fn first_missing(
     let Some((arc, property)) = first_missed(net, properties) else {
         return Ok(None);
     };
-    let instance = instance_against(alloc, net.alg(), &net.arc(arc).label, property)?;
+    let instance = instance_against(alloc, net.alg(), net.arc(arc).label, property)?;
     Ok(Some(Missing { arc, instance }))
 }
 
@@ -51,7 +51,7 @@ fn first_missed(net: &Net, properties: &[Property]) -> Option<(ArcId, Property)>
 {
     for arc in 0..net.arc_count() {
         let id = ArcId(arc as u32);
-        if let Some(property) = earliest_missed(net.alg(), &net.arc(id).label, properties) {
+        if let Some(property) = earliest_missed(net.alg(), net.arc(id).label, properties) {
             return Some((id, property));
         }
     }

@@ -11,6 +11,7 @@ pub mod Walks
 pub mod Tables
 pub mod Views
 pub mod Codes
+pub mod Kept
 pub mod Groups
 pub mod Cuts
 pub mod Dests

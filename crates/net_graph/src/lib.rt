@@ -2,6 +2,7 @@
 //! optimal, relaxed, stable or best first. It stands on `alg_model` and knows no file format.
 #![tactic(auto)]
 
+mod arcs;
 mod change;
 mod draft;
 mod filed;
@@ -10,10 +11,12 @@ mod laws;
 mod limits;
 mod names;
 mod net;
+mod out_arcs;
 mod pairs;
 mod parts;
 mod route;
 
+pub use arcs::Arc;
 pub use change::Change;
 pub use draft::NetDraft;
 pub use laws::{changed_networks_are_networks, networks_after_changes_are_networks};
@@ -22,5 +25,6 @@ pub use limits::{
     numbers_are_specified,
 };
 pub use net::Net;
-pub use parts::{Arc, Origin};
+pub use out_arcs::OutArcs;
+pub use parts::Origin;
 pub use route::{DestTable, MAX_ROW_NUMBER, Route, RouteRow};

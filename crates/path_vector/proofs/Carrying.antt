@@ -12,7 +12,6 @@ use Rattle.alg_model.specs.Expressions.{PureLabel, PureValue}
 use Rattle.net_graph.specs.NetLaws.{found_at_place, nothing_at_place}
 use Rattle.net_graph.specs.Nets.{PureArc, PureNet, IsNet, IsArcOf, is_arc_between, arcs_from}
 use Rattle.net_graph.specs.Views.{pure_arc}
-use Rattle.net_graph.specs.declared.parts.Arc.{Arc}
 use Rattle.net_graph.specs.Routes.{PureRoute}
 use Rattle.path_vector.specs.Columns.{HasEntries}
 use Rattle.path_vector.specs.Choosing.{IsArcThere, arc_is_found, arc_stands, found_there}
@@ -63,13 +62,7 @@ module _ {L S : Type 0} (value : S → PureValue) (ns : List (Listened L S)) (n 
       by None f = rw (find_next (is_at a) ns (n ∷ []) f, e) refl
       by (Some m) f = rw (find_first (is_at a) ns (n ∷ []) m f, alone m f) refl
 
--- the arc at a place of those from a node
-pub arc_there : (arcs : List Arc) (all : List PureArc) (k : ℕ) (a : Arc) → map pure_arc arcs ≡ all → k < length arcs → a ≡ get_or arcs k a → slice_get all k ≡ Some (pure_arc a)
-arc_there arcs all k a e l is =
-    let there : slice_get arcs k ≡ Some a = slice_get-get_or arcs k a l ∙ ap (λ z. Some z) (sym is) in
-    subst (λ z. slice_get z k ≡ Some (pure_arc a)) e (slice_get-map pure_arc arcs k ∙ ap (option_map pure_arc) there)
-
--- its label may be taken into an algebra
+-- the label of an arc may be taken into an algebra
 pub small_label : (net : PureNet) (i k : ℕ) (a : PureArc) → IsNet net → slice_get (arcs_from net i) k ≡ Some a → LabelAtMost MAX_LABEL_NUMBER a.label
 small_label net i k a n e =
     let item = (item_passed (λ (b : PureArc). b.tail == i) net.arcs a (item_at (arcs_from net i) k a e)).0 in

@@ -251,7 +251,7 @@ impl<'a, A: Algebra> NodeCore for PvNode<'a, A> {
         clock: u64,
         out: &mut Outgoing<Update>,
     ) -> Result<(), NoMemory> {
-        if fits(self.net, self.net.arc(arc), update) {
+        if fits(self.net, &self.net.arc(arc), update) {
             return self.take(arc, update, clock, out);
         }
         self.last = clock;

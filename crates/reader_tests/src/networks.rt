@@ -31,7 +31,7 @@ fn keeps_names(net: &Net) -> bool {
 fn files_arcs(net: &Net) -> bool {
     net.node_count() == 2
         && net.arc_count() == 1
-        && net.out_arcs(NodeId(0)).len() == 1
+        && net.out_arcs(NodeId(0)).count() == 1
         && net.listeners(NodeId(1)) == [ArcId(0)].as_slice()
         && net.arc(ArcId(0)).head == NodeId(1)
         && net.has_arc(NodeId(0), NodeId(1))
@@ -370,7 +370,7 @@ fn is_arc(net: &Net, id: usize, line: Line) -> bool {
     arc.id == id
         && arc.tail == NodeId(tail)
         && arc.head == NodeId(head)
-        && matches!(&arc.label, Label::Number(number) if *number == label)
+        && matches!(arc.label, Label::Number(number) if *number == label)
 }
 
 fn are_arcs(net: &Net, lines: &[Line]) -> bool {

@@ -106,8 +106,10 @@ fn heads_at(
     ensures { IfOk result (λ heads. numbers heads ≡ heads_at net.now (rows_of table.now) node.0) }
 {
     let mut heads = List::new(alloc);
-    for arc in net.out_arcs(node) {
-        if is_hop(alloc, net, table, arc)? {
+    let arcs = net.out_arcs(node);
+    for place in 0..arcs.count() {
+        let arc = arcs.get(place);
+        if is_hop(alloc, net, table, &arc)? {
             heads.push(arc.head)?;
         }
     }
@@ -115,10 +117,10 @@ fn heads_at(
 }
 
 // Whether what the arc makes of its head's row is as good as its tail's row.
-fn is_hop(alloc: Global, net: &Net, table: &DestTable, arc: &Arc) -> Result<bool, NoMemory>
+fn is_hop(alloc: Global, net: &Net, table: &DestTable, arc: &Arc<'_>) -> Result<bool, NoMemory>
     requires net { IsNet net.now }
     requires table { TableOf net.now table.now.dest.0 (rows_of table.now) }
-    requires arc { label_between net.now arc.now.tail.0 arc.now.head.0 ≡ Some (pure_label arc.now.label) }
+    requires arc { label_between net.now arc.now.tail.0 arc.now.head.0 ≡ Some (pure_label arc.now.label.now) }
     ensures { IfOk result (λ r. r ≡ is_hop net.now (rows_of table.now) (pure_arc arc.now)) }
 {
     let Some(row) = route_at(table, arc.tail) else {

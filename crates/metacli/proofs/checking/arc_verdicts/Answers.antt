@@ -19,7 +19,7 @@ loop-arc-preserved c =
     let before = take c.loop-arc.arc (labels_on net) in
     let lent = subst (λ a. CoversLabels a before c.loop-arc.labels) (sym c.alg.ensures.alg) c.loop-arc.invariant in
     let grown = c.in_ok-add_label.ensures.covers before lent in
-    let next = label_at net c.loop-arc.arc (pure_arc c.arc.result.now) c.arc.ensures.arc in
+    let next = label_at net c.loop-arc.arc (pure_arc c.arc.result) c.arc.ensures.arc in
     rw next (rw c.alg.ensures.alg at grown)
 
 pub verdicts_of-requires : goal.verdicts_of-requires

@@ -69,7 +69,7 @@ returns-then-not-goes_by-clause-change g c =
     ∙ ap (option_and_then (offer_by net a)) (ap (option_map (known_route value)) (sym (c.route-known.ensures m there.1)) ∙ sym (heard_there (A.stands_for s) (A.is_sig s) (A.sig_value s) c.args.net.now c.args.node.0 c.requires.net ns c.requires.neighbours c.args.arc.0 c.place_of-place.result c.args.dest.0
     c.requires.settles.0 c.requires.settles.1 c.requires.settles.2 c.place_of-place.ensures c.requires.dest m there.1)) in
     let worse = rw c.requires.algebra at (sym c.is_worse.ensures ∙ c.if-is_worse.true) in
-    let head : c.arc.result.now.head.0 ≡ a.head = (let e = sym c.arc.ensures.arc ∙ c.requires.settles.1 in ap (λ (z : PureArc). z.head) (let f : pure_arc c.arc.result.now ≡ a = cc in f)) in
+    let head : c.arc.result.head.0 ≡ a.head = (let e = sym c.arc.ensures.arc ∙ c.requires.settles.1 in ap (λ (z : PureArc). z.head) (let f : pure_arc c.arc.result ≡ a = cc in f)) in
     let other : goes_by a.head row ≡ false = ap (λ z. goes_by z row) (sym head) ∙ (sym c.goes_by.ensures ∙ c.if-not-goes_by.true) in
     row_chosen net dest i heard a row offer c.requires.settles.3 offered worse other
 

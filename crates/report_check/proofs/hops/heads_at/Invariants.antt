@@ -6,5 +6,5 @@ use Rattle.report_check.specs.Hops.{is_hop}
 use Rattle.report_check.proofs.hops.heads_at.Given as goal
 
 -- the heads of the arcs so far
-abbrev pub invariant-loop-arc : goal.invariant-loop-arc
-invariant-loop-arc l = numbers l.heads ≡ map (λ (a : PureArc). a.head) (filter (is_hop l.net (rows_of l.table)) (take l.arc-index (arcs_from l.net l.fn.node.0)))
+abbrev pub invariant-loop-place : goal.invariant-loop-place
+invariant-loop-place l = numbers l.heads ≡ map (λ (a : PureArc). a.head) (filter (is_hop l.net (rows_of l.table)) (take l.place (arcs_from l.net l.fn.node.0)))
