@@ -13,6 +13,7 @@ pub mod Views
 pub mod Codes
 pub mod Kept
 pub mod Groups
+pub mod LabelNumbers
 pub mod Cuts
 pub mod Dests
 pub mod Pairs

@@ -7,6 +7,7 @@ use crate::arcs::{Arc, Arcs, KeptArc, copy_labels};
 use crate::change::Change;
 use crate::filed::FiledLines;
 use crate::groups::{Groups, Spot};
+use crate::label_numbers::LabelNumbers;
 use crate::out_arcs::OutArcs;
 use crate::parts::Known;
 use crate::{NetDraft, Origin};
@@ -53,6 +54,7 @@ impl Net {
     ghost use Rattle.alg_model.specs.Views.{pure_label};
     ghost use Rattle.net_graph.specs.Views.{pure_arc, pure_origin, pure_change};
     ghost use Rattle.net_graph.specs.Changes.{changed, MayChange};
+    ghost use Rattle.net_graph.specs.LabelNumbers.{AreLabelNumbers};
     ghost use Rattle.net_graph.specs.Parts.{IsKnown, IsFiled};
     ghost use Rattle.net_graph.specs.NetParts.{net_in};
     ghost use Rattle.net_graph.specs.RowTexts.{node_text, dest_text};
@@ -197,6 +199,13 @@ impl Net {
     {
         let arc = self.out.item(self.arc_spots[id.0 as usize]);
         arc.with_label(&self.labels)
+    }
+
+    /// Lends the numbers of the labels on the arcs.
+    pub fn label_numbers(&self) -> LabelNumbers<'_>
+        ensures { AreLabelNumbers self.now result }
+    {
+        LabelNumbers::new(self.labels.len(), &self.out, &self.arc_spots)
     }
 
     /// Where the arc of that number stands among the arcs of its tail, in file order, from 0.
