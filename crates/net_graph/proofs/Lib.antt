@@ -6,3 +6,4 @@ pub mod KeptLemmas
 pub mod FiledLemmas
 pub mod CopyLemmas
 pub mod NameTexts
+pub mod LabelLemmas

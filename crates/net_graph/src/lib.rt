@@ -7,6 +7,7 @@ mod change;
 mod draft;
 mod filed;
 mod groups;
+mod label_marks;
 mod label_numbers;
 mod laws;
 mod limits;
@@ -20,6 +21,7 @@ mod route;
 pub use arcs::Arc;
 pub use change::Change;
 pub use draft::NetDraft;
+pub use label_marks::LabelMarks;
 pub use label_numbers::LabelNumbers;
 pub use laws::{changed_networks_are_networks, networks_after_changes_are_networks};
 pub use limits::{
