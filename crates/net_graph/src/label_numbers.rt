@@ -29,11 +29,7 @@ impl<'a> Model for LabelNumbers<'a> {
 
 impl<'a> LabelNumbers<'a> {
     // The numbers of the arcs at these spots, where there are so many labels.
-    pub(crate) fn new(
-        count: usize,
-        out: &'a Groups<KeptArc>,
-        spots: &'a [Spot],
-    ) -> LabelNumbers<'a>
+    pub(crate) fn new(count: usize, out: &'a Groups<KeptArc>, spots: &'a [Spot]) -> LabelNumbers<'a>
         requires { AreCounted count out.now spots.now }
         ensures { result ≡ numbers_at out.now spots.now }
     {
