@@ -2,8 +2,6 @@
 use Rattle.std.proofs.Common.{◌≡◌, ℕ, zero, suc, ◌+◌, ◌<◌, ◌≤◌, max, List, [], ◌∷◌, ◌++◌, Bool, true, false, Option, Some, None, All, slice_index, slice_set, length, map, cond, filter, slice_get, option_map, subst, refl, sym, ap, ◌∙◌, arith, append_assoc, ltb, replicate}
 use mathlib.Core.Path.{fun_ext}
 use Rattle.std.specs.Prelude.{◌==◌}
-use Rattle.std.specs.Coded.{le_prop}
-use Rattle.std.proofs.Math.Logic.{∥∥₁_elim, ∥∥₁_map}
 use Rattle.std.specs.List.{AllByRecursion}
 use Rattle.std.specs.declared.collections.VecDeque.{VecDeque}
 use Rattle.std.specs.declared.alloc.Global.{Global}
@@ -16,8 +14,7 @@ use Rattle.net_graph.specs.Nets.{PureArc, PureNet, IsNet, AreNumbered, arcs_to}
 use Rattle.node_core.specs.Kinds.{Kind, IsLawful, listener, speaker, on_arc}
 use Rattle.node_core.specs.Machine.{Machine, changed_at, AreUnbegun, begun_messages, Start, clock_after, step_of, stepped, Deliver, front_clock}
 use Rattle.node_core.specs.MachineLaws.{same_test, at_each, all_mapped, on_arc_join, on_arc_none, option_from, speaks_within, front_is}
-use Rattle.node_core.specs.OrderLaws.{deliver_within, front_up_to}
-use Rattle.node_core.specs.Running.{AreUpTo, IsRunning}
+use Rattle.node_core.specs.Running.{IsRunning}
 use Rattle.node_core.specs.Configs.{numbered, noted, waits_on, waits_in, machine_over}
 use Rattle.node_core.specs.Stepping.{CanTake, HasStepped}
 
@@ -250,15 +247,6 @@ can_take k net c a i bound run listens within waits early =
       listens = rw (node.net_is, node.number_is) listens;
       early = early (clock_after k c i front.0) (front_is k net c a (clock_after k c i front.0) (record { number = i; message = front.0; rest = front.1; listens = listens; front = front.2; clock_is = refl }));
     }
-
-module _ {S M : Type 0} (k : Kind S M) (lawful : IsLawful k) (net : PureNet) where
-  -- the clock that the message in front gives is at most one above what all are up to
-  pub front_within : (c : Machine S M) (a i n : ℕ) (m : M) → ∥ AreUpTo k c n ∥₁ → listener net a ≡ Some i → slice_get (c.link a) 0 ≡ Some m → clock_after k c i m ≤ n + 1
-  front_within c a i n m up listens front = ∥∥₁_elim up le_prop (λ u. front_up_to k lawful net c a (clock_after k c i m) n u (rw (listens, front) refl))
-
-  -- a delivery at a clock that isn't above the bound keeps it, also from a machine that is the same
-  pub stays_up_to : (c b d : Machine S M) (a n : ℕ) → b ≡ c → ∥ AreUpTo k c n ∥₁ → ((t : ℕ) → front_clock k net c a ≡ Some t → t ≤ n) → Deliver k net b a ≡ Some d → ∥ AreUpTo k d n ∥₁
-  stays_up_to c b d a n same up early made = ∥∥₁_map up (λ u. deliver_within k lawful net c d a n u early (subst (λ m. Deliver k net m a ≡ Some d) same made))
 
 -- a machine over links on which the same waits
 pub same_links : {N M S W : Type 0} (state : N → S) (note : M → W) (nodes : List N) (clocks : List ℕ) (old new : List (VecDeque M Global)) → ((b : ℕ) → waits_on new b ≡ waits_on old b) → machine_over state note nodes clocks new ≡ machine_over state note nodes clocks old
