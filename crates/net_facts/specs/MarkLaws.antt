@@ -50,7 +50,7 @@ held_more P net numbers marks k n a h number arc holds = record {
   numbered = h.numbered;
   held = λ m l marked at.
       let here = label_at net numbers h.numbered k n a number arc in
-      let other : (n ≡ m → ⊥) → P l = λ apart. h.held m l (sym (get_or-set_other marks n m true false apart) ∙ marked) at in
+      let other : (m ≡ n → ⊥) → P l = λ apart. h.held m l (sym (get_or-set_other marks n m true false apart) ∙ marked) at in
       ⊎_elim
       (λ same. subst P (same_Some a.label l (sym here ∙ ap (slice_get h.numbered.labels) same ∙ at)) holds)
       (λ apart. ⊎_elim (λ less. other (λ e. absurd (omega (arith, less, e)))) (λ more. other (λ e. absurd (omega (arith, more, e)))) apart)
