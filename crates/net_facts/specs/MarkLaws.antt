@@ -1,6 +1,6 @@
 -- Labels of a network that are marked by their numbers once something was found to hold of them. Lemmas, so that
 -- proofs of other crates may cite them.
-use Rattle.std.proofs.Common.{◌≡◌, arith, ℕ, zero, suc, List, [], ◌∷◌, Bool, true, false, ◌⊎◌, ⊎_elim, Some, option_map, map, get_or, set, replicate, slice_get, ap, sym, subst, ◌∙◌}
+use Rattle.std.proofs.Common.{◌≡◌, arith, ℕ, zero, suc, List, [], Bool, true, false, ◌⊎◌, ⊎_elim, Some, option_map, get_or, set, replicate, slice_get, ap, sym, subst, ◌∙◌}
 use Rattle.std.proofs.lemmas.Bool.{cases_order}
 use Rattle.std.proofs.lemmas.Option.{same_Some, slice_get-map}
 use Rattle.std.proofs.lemmas.List.{get_or-set_other}
