@@ -6,7 +6,7 @@ ghost use Rattle.net_graph.specs.Views.{pure_change};
 
 use alg_model::{Label, Value};
 use meta_base::{ArcId, DestId, List, MAX_FILE_BYTES, NoMemory, NodeId};
-use net_graph::{Change, DestTable, Net, NetDraft, Route};
+use net_graph::{Change, DestTable, LabelMarks, Net, NetDraft, Route};
 use sig_text::LitFault::{BadText, NotALabel};
 use std::alloc::Global;
 use std::test::Fail;
@@ -58,6 +58,38 @@ fn networks_are_filed(rt: HostRuntime) -> Result<(), Fail> {
     let is_filed = keeps_names(&net) && files_arcs(&net) && files_origins(&net);
     drop(net);
     assert!(rt; is_filed);
+    Ok(())
+}
+
+// Whether arcs 0 and 2 have one number, and arc 1 the other of two.
+fn are_numbered(alloc: Global, net: &Net) -> bool {
+    if net.arc_count() != 3 {
+        return false;
+    }
+    let numbers = net.label_numbers();
+    let first = numbers.of(ArcId(0));
+    let second = numbers.of(ArcId(1));
+    let mut marks = LabelMarks::new(alloc, numbers.count());
+    let is_unmarked = !marks.has(first);
+    marks.mark(first);
+    numbers.count() == 2
+        && first == numbers.of(ArcId(2))
+        && is_unmarked
+        && marks.has(first)
+        && !marks.has(second)
+}
+
+#[test]
+fn equal_labels_have_one_number(rt: HostRuntime) -> Result<(), Fail> {
+    let alloc = rt.alloc();
+    let net = network(
+        alloc,
+        "add(1..10)",
+        b"node a b c\nlink a b : 3\nlink b c : 4\nlink c a : 3\n",
+    )?;
+    let is_numbered = are_numbered(alloc, &net);
+    drop(net);
+    assert!(rt; is_numbered);
     Ok(())
 }
 
