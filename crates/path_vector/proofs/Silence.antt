@@ -3,11 +3,9 @@ use Rattle.std.proofs.Common.{◌≡◌, ℕ, suc, ◌*◌, ◌<◌, ◌≤◌, 
 use Rattle.std.specs.Prelude.{filter, find, option_map, option_and_then, IfOk, Result, Ok, Err}
 use Rattle.std.proofs.Math.ListN.{take}
 use Rattle.std.proofs.Math.Nat.{mul-le-mul}
-use Rattle.std.proofs.lemmas.List.{length-map}
 use Rattle.alg_model.specs.Expressions.{PureLabel, PureValue}
 use Rattle.net_graph.specs.Nets.{PureArc, PureNet, IsNet, arcs_from}
 use Rattle.net_graph.specs.Routes.{PureRoute}
-use Rattle.net_graph.specs.Views.{pure_arc}
 use Rattle.net_graph.specs.declared.limits.TheConstants.{MAX_ARCS, MOST_DESTS}
 use Rattle.path_vector.specs.Columns.{AreSilent, IsSilent}
 use Rattle.path_vector.specs.Known.{entry_of, heard_by, known_route, AreNeighbours, IsNeighbour, Listened}

@@ -1,4 +1,4 @@
--- A network is seen from several threads at once, so nodes that refer to one may go to another thread.
+-- A network is seen from several threads at once, so what refers to one may go to another thread.
 use denote.Param.Send.{IsSync, sendable}
 use Rattle.std.proofs.Crossing.{crosses}
 use Rattle.alg_model.proofs.tree.Label.TheLaws.TheKnot as label
