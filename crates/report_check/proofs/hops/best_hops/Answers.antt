@@ -6,7 +6,7 @@ use Rattle.report_check.proofs.Hopping.{hops_more, hops_all}
 use Rattle.report_check.proofs.hops.best_hops.Goals as goal
 
 pub loop-node-preserved : goal.loop-node-preserved
-loop-node-preserved c =
+loop-node-preserved g c =
     let net = c.args.net.now in
     let rows = rows_of c.args.table.now in
     let within : c.loop-node.node < length rows = omega (arith, c.requires.table.count, c.loop-node-test.true, c.node_count-node-end.ensures.count) in
@@ -14,7 +14,7 @@ loop-node-preserved c =
     rw (c.in_ok-push.ensures.items, map-append pure_hops c.loop-node.many.items (c.in_ok-hops_at.field-0 ∷ []), c.loop-node.invariant, c.in_ok-hops_at.ensures) (sym more)
 
 pub returns : goal.returns
-returns c =
+returns g c =
     let rows = rows_of c.args.table.now in
     let all : c.loop-node.node ≡ length rows = omega (arith, c.requires.table.count, c.loop-node-test.false, c.loop-node.auto.node-end, c.node_count-node-end.ensures.count) in
     rw c.from_vec.ensures (hops_all c.args.net.now c.args.table.now.dest.0 rows rows c.loop-node.node (map pure_hops c.loop-node.many.items) all c.loop-node.invariant)

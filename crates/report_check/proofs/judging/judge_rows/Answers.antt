@@ -2,7 +2,7 @@ use Rattle.std.proofs.Common.{◌≡◌, ℕ, length, subst, arith}
 use Rattle.net_graph.specs.Views.{rows_of}
 use Rattle.report_check.specs.Findings.{OptimalUpTo}
 use Rattle.report_check.specs.Views.{pure_optimal}
-use Rattle.report_check.proofs.judging.judge_table.Goals as goal
+use Rattle.report_check.proofs.judging.judge_rows.Goals as goal
 
 pub returns-clause-optimal : goal.returns-clause-optimal
 returns-clause-optimal c = λ w.

@@ -2,7 +2,7 @@ use Rattle.std.proofs.Common.{◌≡◌, true}
 use Rattle.net_graph.specs.Views.{rows_of}
 use Rattle.report_check.specs.Findings.{OptimalUpTo, StableUpTo}
 use Rattle.report_check.specs.Views.{pure_optimal, pure_stable}
-use Rattle.report_check.proofs.judging.judge_table.Given as goal
+use Rattle.report_check.proofs.judging.judge_rows.Given as goal
 
 -- what the rows so far show
 abbrev pub invariant-loop-node : goal.invariant-loop-node
