@@ -15,10 +15,10 @@ use Rattle.net_graph.specs.RouteLaws.{no_route_past, paths_equal, same_route}
 use Rattle.net_graph.specs.Tables.{PureRow, Offers, TableOf, carrier, is_among, route_at, value_at}
 use Rattle.net_graph.specs.Walks.{Weight, along}
 use Rattle.net_graph.specs.ArcLaws.{along_none}
-use Rattle.stable_check.specs.Checks.{offer_by, own_offer, IsMade, IsOutdone, IsWalkOf, Makes, Outdoes, passed_on}
+use Rattle.stable_check.specs.Checks.{offer_by, own_offer, ImprovedBy, IsMade, IsOutdone, IsWalkOf, MadeBy, Makes, OutdoneBy, Outdoes, passed_on}
 use Rattle.stable_check.specs.Offering.{choice_by}
 use Rattle.stable_check.specs.WalkWeights.{weighs_walk}
-use Rattle.report_check.specs.Findings.{HasWalksBefore, StableUpTo}
+use Rattle.report_check.specs.Findings.{HasWalksBefore, IsMadeAlone, StableUpTo}
 use Rattle.report_check.specs.Judged.{stable}
 use Rattle.report_check.specs.Looks.{IsAsGood, Shows, offer_after, path_after}
 use Rattle.report_check.specs.declared.look.Shown.{Shown}
@@ -69,13 +69,23 @@ not_less : (o p : Ordering) → o ≡ Greater → ordering_then o p ≢ Less
 not_less o p e f = grind arith
 
 -- and one that is worse
-pub shows_worse : (c : PureCarrier) (i : ℕ) (next : Option PureRoute) (v : PureValue) (row : Option PureRoute) (r : PureRoute) (shown : Shown) → row ≡ Some r → Order c v r.value ≡ Greater
+pub shows_worse : (c : PureCarrier) (i : ℕ) (next : Option PureRoute) (v : PureValue) (row : Option PureRoute) (w : PureValue) (shown : Shown) → option_map (λ (r : PureRoute). r.value) row ≡ Some w → Order c v w ≡ Greater
     → shown.makes ≡ false → Shows c i next v row shown
-shows_worse c i next v row r shown e o f = rw e record {
-  improves = λ g h. absurd (cc);
-  makes = λ g. absurd (cc);
-  outdoes = λ g. unless_loop c i (path_after next) v (Some r) (λ k. not_less (Order c v r.value) (compare_paths (i ∷ path_after next) r.path) o);
-}
+shows_worse c i next v None w shown e o f = absurd (cc)
+shows_worse c i next v (Some r) w shown e o f =
+    let same : w ≡ r.value = cc in
+    let worse : Order c v r.value ≡ Greater = rw same at o in
+    record {
+      improves = λ g h. absurd (cc);
+      makes = λ g. absurd (cc);
+      outdoes = λ g. unless_loop c i (path_after next) v (Some r) (λ k. not_less (Order c v r.value) (compare_paths (i ∷ path_after next) r.path) worse);
+    }
+
+pub as_good : (c : PureCarrier) (v : PureValue) (row : Option PureRoute) (w : PureValue) → option_map (λ (r : PureRoute). r.value) row ≡ Some w → Order c v w ≡ Equal → IsAsGood c v row
+as_good c v None w e o = absurd (cc)
+as_good c v (Some r) w e o =
+    let same : w ≡ r.value = cc in
+    rw same at o
 
 then_same : (o p : Ordering) → o ≡ Equal → ordering_then o p ≡ p
 then_same o p e = rw e refl
@@ -90,7 +100,7 @@ shows_equal c i next v row r shown e good made out = rw e record {
   makes = λ g. let m = made g in makes m.0 (same_route (record { value = v; path = i ∷ path_after next }) r m.1 (paths_equal (i ∷ path_after next) r.path m.2));
   outdoes = λ g. unless_loop c i (path_after next) v (Some r)
       (λ k h. let o : Order c v r.value ≡ Equal = rw e at good in
-        out g k (sym (then_same (Order c v r.value) (compare_paths (i ∷ path_after next) r.path) o) ∙ h));
+      out g k (sym (then_same (Order c v r.value) (compare_paths (i ∷ path_after next) r.path) o) ∙ h));
 }
   where
     makes : is_among (path_after next) i ≡ false → record { value = v; path = i ∷ path_after next } ≡ r → Makes (offer_after i (path_after next) v) (Some r)
@@ -107,6 +117,32 @@ offer_along net rows i j v e = by (route_at rows j) e
 -- and the own origin
 pub offer_own : (net : PureNet) (dest i : ℕ) (v : PureValue) → origin_value net dest i ≡ Some v → own_offer net dest i ≡ offer_after i (path_after None) v
 offer_own net dest i v e = rw e refl
+
+-- What an arc shows.
+pub hop_improves : (net : PureNet) (rows : List PureRow) (i j : ℕ) (v : PureValue) (shown : Shown) → along net i j (value_at rows j) ≡ Some v → Shows (carrier net) i (route_at rows j) v (route_at rows i) shown
+    → shown.improves ≡ false → ¬ ImprovedBy net rows i j
+hop_improves net rows i j v shown e s f = rw e (s.improves f)
+
+pub hop_makes : (net : PureNet) (rows : List PureRow) (i j : ℕ) (v : PureValue) (shown : Shown) → along net i j (value_at rows j) ≡ Some v → Shows (carrier net) i (route_at rows j) v (route_at rows i) shown
+    → shown.makes ≡ true → MadeBy net (route_at rows) i j
+hop_makes net rows i j v shown e s f = rw (offer_along net rows i j v e) (s.makes f)
+
+pub hop_outdoes : (net : PureNet) (rows : List PureRow) (i j : ℕ) (v : PureValue) (shown : Shown) → along net i j (value_at rows j) ≡ Some v → Shows (carrier net) i (route_at rows j) v (route_at rows i) shown
+    → shown.outdoes ≡ false → ¬ OutdoneBy net (route_at rows) i j
+hop_outdoes net rows i j v shown e s f = rw (offer_along net rows i j v e) (s.outdoes f)
+
+-- What the own origin shows.
+pub own_improves : (net : PureNet) (dest : ℕ) (rows : List PureRow) (i : ℕ) (v : PureValue) (shown : Shown) → origin_value net dest i ≡ Some v → Shows (carrier net) i None v (route_at rows i) shown
+    → shown.improves ≡ false → ¬ IsPreferred (carrier net) (origin_value net dest i) (value_at rows i)
+own_improves net dest rows i v shown e s f = rw e (s.improves f)
+
+pub own_makes : (net : PureNet) (dest : ℕ) (rows : List PureRow) (i : ℕ) (v : PureValue) (shown : Shown) → origin_value net dest i ≡ Some v → Shows (carrier net) i None v (route_at rows i) shown
+    → shown.makes ≡ true → IsMadeAlone net dest (route_at rows) i
+own_makes net dest rows i v shown e s f = inr (rw (offer_own net dest i v e) (s.makes f))
+
+pub own_outdoes : (net : PureNet) (dest : ℕ) (rows : List PureRow) (i : ℕ) (v : PureValue) (shown : Shown) → origin_value net dest i ≡ Some v → Shows (carrier net) i None v (route_at rows i) shown
+    → shown.outdoes ≡ false → ¬ Outdoes (carrier net) (own_offer net dest i) (route_at rows i)
+own_outdoes net dest rows i v shown e s f = rw (offer_own net dest i v e) (s.outdoes f)
 
 -- Whole tables.
 

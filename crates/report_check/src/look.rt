@@ -1,12 +1,14 @@
 // A quick look at a whole table, in an algebra's own form. It copies no path, and builds no value but where a row's own
 // route is offered. What it doesn't clear is judged row by row.
 ghost use Rattle.std.specs.Prelude.{◌≡◌, ◌<◌, ◌∷◌, ◌||◌, ◌&&◌, not, ℕ, true, false, length, option_map, option_and_then, IfOk, IfSome};
+ghost use Rattle.std.specs.Bool.{Decides};
 ghost use Rattle.meta_base.specs.NodePaths.{compare_paths, numbers};
 ghost use Rattle.alg_model.specs.declared.alg.TheConstants.{MAX_VALUE_NUMBER};
 ghost use Rattle.alg_model.specs.Application.{App};
 ghost use Rattle.alg_model.specs.Bounds.{AtMost};
 ghost use Rattle.alg_model.specs.Carriers.{IsPreferred, carrier_of};
 ghost use Rattle.alg_model.specs.Expressions.{PureLabel};
+ghost use Rattle.alg_model.specs.Views.{pure_value};
 ghost use Rattle.net_graph.specs.Nets.{origin_value};
 ghost use Rattle.net_graph.specs.Tables.{carrier, is_among, route_at, value_at};
 ghost use Rattle.net_graph.specs.Views.{pure_route, rows_of};
@@ -19,7 +21,7 @@ ghost use Rattle.stable_check.specs.Checks.{ImprovedBy, IsMade, IsOutdone, MadeB
 use crate::compiled::{Compiled, sig_at};
 use crate::found::Wanted;
 use crate::labels::Hop;
-use alg_model::{Algebra, same_value};
+use alg_model::{Algebra, Value, same_value};
 use meta_base::{NoMemory, NodeId};
 use net_graph::Route;
 use path_store::compare;
@@ -125,6 +127,20 @@ fn is_loopless(next: Option<&Route>, node: NodeId) -> bool
     }
 }
 
+// Whether it stands for the value.
+fn is_value<A: Algebra>(
+    alloc: Global,
+    algebra: &A,
+    sig: &A::Sig,
+    value: &Value,
+) -> Result<bool, NoMemory>
+    requires { A.is_sig algebra.now sig.now }
+    ensures { IfOk result (λ same. Decides same (A.sig_value algebra.now sig.now ≡ pure_value value.now)) }
+{
+    let stood_for = algebra.value_of(alloc, sig)?;
+    Ok(same_value(&stood_for, value))
+}
+
 // What the offer of a value that is as good as the node's own shows of its row.
 fn weigh_equal<A: Algebra>(
     alloc: Global,
@@ -152,8 +168,7 @@ fn weigh_equal<A: Algebra>(
         }),
         Ordering::Equal => Ok(Shown {
             improves: false,
-            makes: is_loopless(next, node)
-                && same_value(&form.algebra.value_of(alloc, image)?, &row.value),
+            makes: is_value(alloc, form.algebra, image, &row.value)? && is_loopless(next, node),
             outdoes: false,
         }),
     }

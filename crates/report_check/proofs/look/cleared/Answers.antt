@@ -34,8 +34,7 @@ returns-clause-optimal g c = λ e.
     let rows = rows_of form.table.now in
     let shown = c.loop-node.shown in
     let all : length net.nodes ≡ c.loop-node.node = omega (arith, c.loop-node-test.false, c.loop-node.auto.node-end, c.node_count-node-end.ensures.count) in
-    let f = both_true shown.makes _ e in
-    (
+    let f = both_true shown.makes _ e in (
       made_walks net c.requires.compiled.is_net form.table.now.dest.0 rows c.requires.compiled.is_table (λ k l. c.loop-node.invariant.makes f.0 k (omega (arith, l, all))),
       λ k l. c.loop-node.invariant.improves (not_false shown.improves f.1) k (omega (arith, l, all)),
     )
