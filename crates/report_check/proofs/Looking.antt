@@ -191,6 +191,9 @@ made_choices net dest rows n made out = λ k within. (choice_by net dest (route_
 
 -- Tests.
 
+pub equal_not_less : (o : Ordering) → o ≡ Equal → o ≢ Less
+equal_not_less o e f = absurd (cc)
+
 pub either_false : (a b : Bool) → (a || b) ≡ false → (a ≡ false) × (b ≡ false)
 either_false true b e = absurd (cc)
 either_false false b e = (refl, e)

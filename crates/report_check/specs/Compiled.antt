@@ -29,7 +29,7 @@ pub record IsHopFrom {L : Type 0} (stands_for : L → PureLabel → Type 0) (net
 
 -- what stands in each place stands for the value there, and for none where there is none
 pub record AreSigs {S : Type 0} (is_sig : S → Type 0) (sig_value : S → PureValue) (value : ℕ → Option PureValue) (sigs : List (Option S)) : Type 0 where
-  pub sigs : (k : ℕ) → IfSome (own_at sigs k) is_sig
+  pub all_stand : (k : ℕ) → IfSome (own_at sigs k) is_sig
   pub values : (k : ℕ) → option_map sig_value (own_at sigs k) ≡ value k
 
 -- the labels are the network's, and what stands for values those of the rows, and of the nodes' own origins

@@ -2,7 +2,7 @@
 ghost use Rattle.std.specs.Prelude.{◌≡◌, ◌<◌, ℕ, length, option_map, IfOk, IfSome};
 ghost use Rattle.alg_model.specs.Carriers.{In, carrier_of};
 ghost use Rattle.alg_model.specs.Views.{pure_value};
-ghost use Rattle.net_graph.specs.Nets.{origin_value};
+ghost use Rattle.net_graph.specs.Nets.{IsNet, origin_value};
 ghost use Rattle.net_graph.specs.Tables.{TableOf, value_at};
 ghost use Rattle.net_graph.specs.Views.{pure_row, rows_of};
 ghost use Rattle.report_check.specs.Compiled.{AreOutLabels, AreSigs, IsCompiled};
@@ -120,11 +120,13 @@ fn sigs_of_own<A: Algebra>(
 ) -> Result<Vec<Option<A::Sig>>, NoMemory>
     requires algebra { A.expression algebra.now ≡ net.now.alg.expression }
     requires dest { dest.0 < length net.now.dests }
-    ensures { IfOk result (λ made.
+    ensures sigs { IfOk result (λ made.
         AreSigs (A.is_sig algebra.now) (A.sig_value algebra.now) (origin_value net.now dest.0) made.items) }
+    ensures net { IsNet net.now }
 {
+    let count = net.node_count();
     let own = OwnValues::of(alloc, net, dest)?;
-    let mut sigs = Vec::with_capacity(alloc, own.values.len())?;
+    let mut sigs = Vec::with_capacity(alloc, count)?;
     for value in &own.values {
         sigs.push(sig_of_value(alloc, algebra, *value)?)?;
     }

@@ -144,14 +144,15 @@ fn only(found: Judgement, asked: Wanted) -> Judgement
     ensures optimal { pure_optimal result.optimal ≡ cond asked.optimal (pure_optimal found.optimal) unbeaten }
     ensures stable { pure_stable result.stable ≡ cond asked.stable (pure_stable found.stable) stable }
 {
+    let Judgement { optimal, stable } = found;
     Judgement {
         optimal: if asked.optimal {
-            found.optimal
+            optimal
         } else {
             OptimalFinding::Yes
         },
         stable: if asked.stable {
-            found.stable
+            stable
         } else {
             StableFinding::Yes
         },

@@ -80,6 +80,17 @@ impl Shown {
         }
     }
 
+    // What is cleared of a table of whose rows this is shown.
+    fn clears(self) -> Wanted
+        ensures optimal { result.optimal ≡ (self.makes && not self.improves) }
+        ensures stable { result.stable ≡ (self.makes && not self.outdoes) }
+    {
+        Wanted {
+            optimal: self.makes && !self.improves,
+            stable: self.makes && !self.outdoes,
+        }
+    }
+
     // What is shown of several rows, with one more.
     fn and_of(self, row: Shown) -> Shown
         ensures improves { result.improves ≡ (self.improves || row.improves) }
@@ -357,8 +368,5 @@ pub(crate) fn cleared<A: Algebra>(alloc: Global, form: &Compiled<'_, A>) -> Resu
         let row = row_shows(alloc, form, NodeId(node as u32), &mut spare)?;
         shown = shown.and_of(row);
     }
-    Ok(Wanted {
-        optimal: shown.makes && !shown.improves,
-        stable: shown.makes && !shown.outdoes,
-    })
+    Ok(shown.clears())
 }

@@ -1,4 +1,4 @@
-use Rattle.std.proofs.Common.{◌≡◌, ◌×◌, ℕ, Option, Some, IfSome, option_map, vec_len, slice_get}
+use Rattle.std.proofs.Common.{◌≡◌, ℕ, Option, Some, IfSome, option_map, vec_len, slice_get}
 use Rattle.net_graph.specs.Nets.{origin_value}
 use Rattle.report_check.proofs.compiled.sigs_of_own.Given as goal
 

@@ -1,4 +1,4 @@
-use Rattle.std.proofs.Common.{◌≡◌, ◌×◌, ℕ, Option, Some, IfSome, option_map, vec_len, slice_get}
+use Rattle.std.proofs.Common.{◌≡◌, ℕ, Option, Some, IfSome, option_map, vec_len, slice_get}
 use Rattle.net_graph.specs.Tables.{value_at}
 use Rattle.net_graph.specs.Views.{rows_of}
 use Rattle.report_check.proofs.compiled.sigs_of_rows.Given as goal

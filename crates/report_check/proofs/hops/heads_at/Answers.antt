@@ -41,7 +41,7 @@ loop-hop-preserved g c =
           let passes : p at.arc ≡ true = sym test ∙ w.if-branch.true in
           let new : c.if-branch.heads ≡ c.loop-hop.heads ++ c.hop-item.result.head ∷ [] = search rules in
           let more = heads_more p (arcs_from net i) m at.arc (numbers c.loop-hop.heads) at.there passes c.loop-hop.invariant in
-          ap numbers new ∙ (map-append (λ (n : NodeId). n.0) c.loop-hop.heads (c.hop-item.result.head ∷ []) ∙ rw ← at.head at more)
+          ap numbers new ∙ (map-append (λ (n : NodeId). n.0) c.loop-hop.heads (c.hop-item.result.head ∷ []) ∙ rw (← at.head) at more)
       | else-branch w ↦
           let fails : p at.arc ≡ false = sym test ∙ w.if-branch.false in
           let same : c.if-branch.heads ≡ c.loop-hop.heads = search rules in

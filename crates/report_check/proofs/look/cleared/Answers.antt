@@ -1,4 +1,4 @@
-use Rattle.std.proofs.Common.{◌≡◌, ◌<◌, ℕ, length, sym, ◌∙◌, below_more, arith}
+use Rattle.std.proofs.Common.{◌≡◌, ◌<◌, ℕ, not, length, sym, ◌∙◌, below_more, arith}
 use Rattle.net_graph.specs.Tables.{route_at}
 use Rattle.net_graph.specs.Views.{rows_of}
 use Rattle.stable_check.specs.Checks.{IsMade, IsOutdone}
@@ -34,7 +34,7 @@ returns-clause-optimal g c = λ e.
     let rows = rows_of form.table.now in
     let shown = c.loop-node.shown in
     let all : length net.nodes ≡ c.loop-node.node = omega (arith, c.loop-node-test.false, c.loop-node.auto.node-end, c.node_count-node-end.ensures.count) in
-    let f = both_true shown.makes _ e in (
+    let f = both_true shown.makes (not shown.improves) (sym c.clears.ensures.optimal ∙ e) in (
       made_walks net c.requires.compiled.is_net form.table.now.dest.0 rows c.requires.compiled.is_table (λ k l. c.loop-node.invariant.makes f.0 k (omega (arith, l, all))),
       λ k l. c.loop-node.invariant.improves (not_false shown.improves f.1) k (omega (arith, l, all)),
     )
@@ -45,5 +45,5 @@ returns-clause-stable g c = λ e.
     let net = form.net.now in
     let shown = c.loop-node.shown in
     let all : length net.nodes ≡ c.loop-node.node = omega (arith, c.loop-node-test.false, c.loop-node.auto.node-end, c.node_count-node-end.ensures.count) in
-    let f = both_true shown.makes _ e in
+    let f = both_true shown.makes (not shown.outdoes) (sym c.clears.ensures.stable ∙ e) in
     made_choices net form.table.now.dest.0 (rows_of form.table.now) (length net.nodes) (λ k l. c.loop-node.invariant.makes f.0 k (omega (arith, l, all))) (λ k l. c.loop-node.invariant.outdoes (not_false shown.outdoes f.1) k (omega (arith, l, all)))
