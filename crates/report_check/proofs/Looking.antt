@@ -1,5 +1,5 @@
 -- What a look at a table shows of its rows.
-use Rattle.std.proofs.Common.{◌≡◌, ◌≢◌, ℕ, ◌<◌, ◌≤◌, zero, suc, List, [], ◌∷◌, Option, Some, None, IfSome, Bool, true, false, not, ◌||◌, ◌&&◌, ◌⊎◌, inl, inr, if◌then◌else◌, option_map, option_and_then, length, refl, sym, ap, ◌∙◌, arith}
+use Rattle.std.proofs.Common.{◌≡◌, ◌≢◌, ℕ, ◌<◌, ◌≤◌, zero, suc, List, [], ◌∷◌, Option, Some, None, IfSome, Bool, true, false, cond, not, ◌||◌, ◌&&◌, ◌⊎◌, inl, inr, if◌then◌else◌, option_map, option_and_then, length, refl, sym, ap, ◌∙◌, subst, arith}
 use Rattle.std.specs.Bool.{Decides}
 use Rattle.std.specs.Ordering.{nat_cmp, ordering_then}
 use Rattle.std.specs.declared.cmp.Ordering.{Ordering}
@@ -13,7 +13,9 @@ use Rattle.net_graph.specs.Nets.{PureNet, IsNet, origin_value}
 use Rattle.net_graph.specs.Routes.{PureRoute}
 use Rattle.net_graph.specs.RouteLaws.{no_route_past, paths_equal, same_route}
 use Rattle.net_graph.specs.Tables.{PureRow, Offers, TableOf, carrier, is_among, route_at, value_at}
+use Rattle.net_graph.specs.Views.{rows_of}
 use Rattle.net_graph.specs.Walks.{Weight, along}
+use Rattle.net_graph.specs.declared.route.DestTable.{DestTable}
 use Rattle.net_graph.specs.ArcLaws.{along_none}
 use Rattle.stable_check.specs.Checks.{offer_by, own_offer, ImprovedBy, IsMade, IsOutdone, IsWalkOf, MadeBy, Makes, OutdoneBy, Outdoes, passed_on}
 use Rattle.stable_check.specs.Offering.{choice_by}
@@ -209,3 +211,18 @@ both_true false b e = absurd (cc)
 pub not_false : (a : Bool) → not a ≡ true → a ≡ false
 not_false true e = absurd (cc)
 not_false false e = refl
+
+-- What is wanted and isn't cleared is looked for, and nothing else is.
+pub only_left : {X : Type 0} (wanted clear : Bool) (x y : X) (P : X → Type 0) → wanted ≡ true → (clear ≡ true → P y) → ((wanted && not clear) ≡ true → P x) → P (cond (wanted && not clear) x y)
+only_left true true x y P e f g = f refl
+only_left true false x y P e f g = g refl
+only_left false clear x y P e f g = absurd (cc)
+
+pub all_cleared : (wanted clear : Bool) → wanted ≡ true → (wanted && not clear) ≡ false → clear ≡ true
+all_cleared true true e f = refl
+all_cleared true false e f = absurd (cc)
+all_cleared false clear e f = absurd (cc)
+
+-- what is cleared of one table of a network is cleared of another form of both
+pub stable_same : (net other : PureNet) (t u : DestTable) → net ≡ other → t ≡ u → StableUpTo net t.dest.0 (rows_of t) (length net.nodes) stable → StableUpTo other u.dest.0 (rows_of u) (length other.nodes) stable
+stable_same net other t u e f h = subst (λ (n : PureNet). StableUpTo n u.dest.0 (rows_of u) (length n.nodes) stable) e (subst (λ (x : DestTable). StableUpTo net x.dest.0 (rows_of x) (length net.nodes) stable) f h)

@@ -126,10 +126,7 @@ fn judge_table<A: Algebra>(
 {
     let form = Compiled::of(alloc, algebra, net, labels, table)?;
     let clear = cleared(alloc, &form)?;
-    let left = Wanted {
-        optimal: wanted.optimal && !clear.optimal,
-        stable: wanted.stable && !clear.stable,
-    };
+    let left = wanted.without(clear);
     if !left.optimal && !left.stable {
         return Ok(Judgement {
             optimal: OptimalFinding::Yes,
