@@ -1,6 +1,6 @@
 -- Labels and values of a network and a table in an algebra's own form.
 use Rattle.std.specs.Prelude.{◌≡◌, ℕ, List, Option, Some, IfSome, length, option_map, slice_get}
-use Rattle.alg_model.specs.Expressions.{Expression, PureLabel, PureValue}
+use Rattle.alg_model.specs.Expressions.{PureLabel, PureValue}
 use Rattle.net_graph.specs.Nets.{PureArc, PureNet, IsNet, arcs_from, label_between, origin_value}
 use Rattle.net_graph.specs.Tables.{PureRow, TableOf, value_at}
 use Rattle.stable_check.specs.Checks.{own_at}

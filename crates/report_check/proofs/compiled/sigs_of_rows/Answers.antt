@@ -1,5 +1,4 @@
 use Rattle.std.proofs.Common.{◌≡◌, ℕ, Option, IfSome, length, option_map, sym, ◌∙◌, arith}
-use Rattle.alg_model.specs.Carriers.{In, carrier_of}
 use Rattle.net_graph.specs.Tables.{value_at}
 use Rattle.net_graph.specs.Views.{rows_of}
 use Rattle.report_check.proofs.Forms.{are_sigs, each_more, value_past, value_there}

@@ -1,4 +1,4 @@
-use Rattle.std.proofs.Common.{◌≡◌, ◌<◌, ℕ, not, length, sym, ◌∙◌, below_more, arith}
+use Rattle.std.proofs.Common.{◌≡◌, not, length, sym, ◌∙◌, below_more, arith}
 use Rattle.net_graph.specs.Tables.{route_at}
 use Rattle.net_graph.specs.Views.{rows_of}
 use Rattle.stable_check.specs.Checks.{IsMade, IsOutdone}

@@ -1,6 +1,6 @@
-use Rattle.std.proofs.Common.{◌≡◌, ◌∷◌, true, false, option_map, sym, ap, ◌∙◌}
+use Rattle.std.proofs.Common.{◌≡◌, ◌∷◌, option_map, sym, ◌∙◌}
 use Rattle.std.specs.declared.cmp.Ordering.TheVariants.{Equal}
-use Rattle.meta_base.specs.NodePaths.{compare_paths, numbers}
+use Rattle.meta_base.specs.NodePaths.{compare_paths}
 use Rattle.alg_model.specs.Carriers.{carrier_of}
 use Rattle.net_graph.specs.Tables.{is_among, route_at}
 use Rattle.net_graph.specs.Views.{pure_route, rows_of}

@@ -1,5 +1,3 @@
-use Rattle.std.proofs.Common.{IfSome}
-use Rattle.alg_model.specs.Carriers.{In, carrier_of}
 use Rattle.net_graph.specs.RouteLaws.{table_value_in}
 use Rattle.net_graph.specs.Views.{rows_of}
 use Rattle.report_check.proofs.compiled.Compiled.of.Goals as goal
