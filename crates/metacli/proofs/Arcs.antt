@@ -45,9 +45,10 @@ pub added_more : (net : PureNet) (i n : ℕ) (numbers : List ℕ) (marks : List 
 added_more net i n numbers marks old new a number arc grown are =
     let before = take i (labels_on net) in
     let more = held_weaker (Contains before) (Contains (before ++ a.label ∷ [])) net numbers marks (λ l c. Contains-append_left before (a.label ∷ []) l c) are.marked in
-    rw (label_at net i a arc) record {
-      covers = grown are.covers;
-      marked = held_more (Contains (before ++ a.label ∷ [])) net numbers marks i n a more number arc (Contains-push before a.label);
+    let next = label_at net i a arc in
+    record {
+      covers = rw next (grown are.covers);
+      marked = rw next (held_more (Contains (before ++ a.label ∷ [])) net numbers marks i n a more number arc (Contains-push before a.label));
     }
 
 -- or is marked
@@ -58,7 +59,8 @@ added_already net i n numbers marks labels within number marked are =
     let before = take i (labels_on net) in
     let l = there.0.label in
     let among = held_at (Contains before) net numbers marks i n there.0 are.marked number there.1 marked in
-    rw (label_at net i there.0 there.1) record {
-      covers = covers_again net.alg before l labels among are.covers;
-      marked = held_weaker (Contains before) (Contains (before ++ l ∷ [])) net numbers marks (λ m c. Contains-append_left before (l ∷ []) m c) are.marked;
+    let next = label_at net i there.0 there.1 in
+    record {
+      covers = rw next (covers_again net.alg before l labels among are.covers);
+      marked = rw next (held_weaker (Contains before) (Contains (before ++ l ∷ [])) net numbers marks (λ m c. Contains-append_left before (l ∷ []) m c) are.marked);
     }

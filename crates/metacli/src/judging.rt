@@ -5,7 +5,7 @@ ghost use Rattle.code_gen.specs.Widths.{HoldValues};
 ghost use Rattle.net_graph.specs.Changes.{AreChanges};
 ghost use Rattle.net_graph.specs.Tables.{OnTablesFrom, TableOf};
 ghost use Rattle.net_graph.specs.Views.{pure_change, rows_of};
-ghost use Rattle.report_check.specs.Judged.{Judged};
+ghost use Rattle.report_check.specs.Judged.{Judged as AreJudged};
 ghost use Rattle.report_check.specs.Views.{AreOfDests, pure_judgement};
 ghost use Rattle.topology_file.specs.NetText.{changed_net};
 ghost use Rattle.topology_file.specs.Views.{pure_file};
@@ -124,7 +124,7 @@ fn judgement_of(alloc: Global, net: &Net, tables: &[DestTable]) -> Result<Judgem
     requires tables { OnTablesFrom (TableOf net.now) 0 (map rows_of tables.now) }
     requires dests { AreOfDests 0 tables.now }
     requires count { length tables.now ≡ length net.now.dests }
-    ensures { IfOk result (λ judgement. Judged net.now (map rows_of tables.now) (pure_judgement judgement)) }
+    ensures { IfOk result (λ judgement. AreJudged net.now (map rows_of tables.now) (pure_judgement judgement)) }
 {
     rows_have_their_width();
     match row_width(net.alg()) {
@@ -146,7 +146,7 @@ fn judgement_over<W: HeldRow>(
     requires tables { OnTablesFrom (TableOf net.now) 0 (map rows_of tables.now) }
     requires dests { AreOfDests 0 tables.now }
     requires count { length tables.now ≡ length net.now.dests }
-    ensures { IfOk result (λ judgement. Judged net.now (map rows_of tables.now) (pure_judgement judgement)) }
+    ensures { IfOk result (λ judgement. AreJudged net.now (map rows_of tables.now) (pure_judgement judgement)) }
 {
     let algebra = CodeAlgebra::<W>::new(alloc, net.alg())?;
     let judgement = judge(alloc, &algebra, net, tables)?;

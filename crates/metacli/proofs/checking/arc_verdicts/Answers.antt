@@ -26,18 +26,19 @@ of-number-requires c = omega (arith, c.loop-arc-test.true, c.arc_count-arc-end.e
 
 pub loop-arc-preserved : goal.loop-arc-preserved
 loop-arc-preserved c = elim c.if-not-has.branch [
-    then-not-has+in_ok-add_label w ↦
-        let net = c.args.net.now in
-        let before = take c.loop-arc.arc (labels_on net) in
-        let l = (pure_arc w.arc.result).label in
-        rw (w.added-is, w.labels-is, w.mark.ensures) (added_more net c.loop-arc.arc c.of-number.result c.label_numbers-numbers.result c.loop-arc.added c.loop-arc.labels w.in_ok-add_label.labels
-            (pure_arc w.arc.result) c.of-number.ensures w.arc.ensures.arc
-            (λ covers. subst (λ a. CoversLabels a (before ++ l ∷ []) w.in_ok-add_label.labels) w.alg.ensures.alg
-            (w.in_ok-add_label.ensures.covers before (subst (λ a. CoversLabels a before c.loop-arc.labels) (sym w.alg.ensures.alg) covers))) c.loop-arc.invariant)
+  | then-not-has+in_ok-add_label w ↦
+      let net = c.args.net.now in
+      let before = take c.loop-arc.arc (labels_on net) in
+      let l = (pure_arc w.arc.result).label in
+      let new = w.add_label.new.labels in
+      rw (w.added-is, w.labels-is, w.mark.ensures) (added_more net c.loop-arc.arc c.of-number.result c.label_numbers-numbers.result c.loop-arc.added c.loop-arc.labels new
+      (pure_arc w.arc.result) c.of-number.ensures w.arc.ensures.arc
+      (λ covers. subst (λ a. CoversLabels a (before ++ l ∷ []) new) w.alg.ensures.alg
+      (w.in_ok-add_label.ensures.covers before (subst (λ a. CoversLabels a before c.loop-arc.labels) (sym w.alg.ensures.alg) covers))) c.loop-arc.invariant)
   | else-not-has w ↦
-        rw (w.added-is, w.labels-is) (added_already c.args.net.now c.loop-arc.arc c.of-number.result c.label_numbers-numbers.result c.loop-arc.added c.loop-arc.labels
-            (omega (arith, c.loop-arc-test.true, c.arc_count-arc-end.ensures.count)) c.of-number.ensures (sym c.has.ensures ∙ w.if-not-has.false) c.loop-arc.invariant)
-  ]
+      rw (w.added-is, w.labels-is) (added_already c.args.net.now c.loop-arc.arc c.of-number.result c.label_numbers-numbers.result c.loop-arc.added c.loop-arc.labels
+      (omega (arith, c.loop-arc-test.true, c.arc_count-arc-end.ensures.count)) c.of-number.ensures (sym c.has.ensures ∙ w.if-not-has.false) c.loop-arc.invariant)
+]
 
 pub verdicts_of-requires : goal.verdicts_of-requires
 verdicts_of-requires c = rw (c.as_slice.ensures, c.alg-2.ensures.alg) c.loop-arc.invariant.covers.each
