@@ -77,7 +77,7 @@ fn listeners_of<A: Algebra>(
         let arc = net.arc(*id);
         listeners.push(Listener {
             node: arc.tail,
-            label: algebra.lab_of(alloc, &arc.label)?,
+            label: algebra.lab_of(alloc, arc.label)?,
         })?;
     }
     Ok(List::from_vec(listeners))

@@ -1,4 +1,4 @@
-ghost use Rattle.std.specs.Prelude.{◌≡◌, ◌<◌, ◌≤◌, IfOk, OnOk, length, vec_len};
+ghost use Rattle.std.specs.Prelude.{◌≡◌, ◌==◌, ◌<◌, ◌≤◌, IfOk, OnOk, length, vec_len};
 ghost use Rattle.meta_base.specs.Count.{HasRisen};
 ghost use Rattle.meta_base.specs.Sink.{HasFlushed, HasWritten};
 ghost use Rattle.host_io.specs.Outside.{silent_sink};
@@ -11,7 +11,7 @@ use std::alloc::Global;
 const ROOM: usize = 65_536;
 
 /// Standard output. It gathers what it takes, and hands it to the system 64 KiB at a time and when it is flushed. It
-/// tells nothing of what it took, and counts each error of the system as a fault, also that nothing was taken of a
+/// reports nothing of what it took but whether any of it waits, and counts each error of the system as a fault, also that nothing was taken of a
 /// piece that isn't empty.
 #[derive(Drop)]
 pub struct OutSink<'a, R: Print> {
@@ -50,7 +50,8 @@ impl<'a, R: Print> OutSink<'a, R> {
 
     // Hands the system all that was gathered. Where that fails, what the system has not taken stays gathered.
     fn hand_on(&mut self) -> Result<(), Failed>
-        ensures handed { HasFlushed (silent_sink self.old.faults) result (silent_sink self.new.faults) }
+        ensures handed { HasFlushed (silent_sink self.old.faults (vec_len self.old.gathered == 0)) result
+            (silent_sink self.new.faults (vec_len self.new.gathered == 0)) }
         ensures emptied { OnOk result (vec_len self.new.gathered ≡ 0) }
     {
         while self.handed < self.gathered.len() {
@@ -69,7 +70,8 @@ impl<'a, R: Print> OutSink<'a, R> {
     fn gather(&mut self, piece: &[u8]) -> Result<usize, Failed>
         requires some { 0 < length piece.now }
         requires room { vec_len self.old.gathered < ROOM }
-        ensures { HasWritten (silent_sink self.old.faults) piece.now result (silent_sink self.new.faults) }
+        ensures { HasWritten (silent_sink self.old.faults (vec_len self.old.gathered == 0)) piece.now result
+            (silent_sink self.new.faults (vec_len self.new.gathered == 0)) }
     {
         let n = piece.len().min(ROOM - self.gathered.len());
         match self.gathered.extend_from_slice(&piece[..n]) {
@@ -80,7 +82,7 @@ impl<'a, R: Print> OutSink<'a, R> {
 }
 
 impl<'a, R: Print> Sink for OutSink<'a, R> {
-    ghost holds = { λ s. silent_sink s.faults };
+    ghost holds = { λ s. silent_sink s.faults (vec_len s.gathered == 0) };
 
     fn write(&mut self, piece: &[u8]) -> Result<usize, Failed> {
         if piece.is_empty() {

@@ -42,4 +42,4 @@ abbrev pub amount_next : ℕ → MemSink → ℕ
 amount_next n s = min (min n s.bite) (room_of s - length (taken_by s))
 
 abbrev pub held_by : MemSink → Held
-held_by s = record { reports = true; bytes = taken_by s; faults = s.calls.faults }
+held_by s = record { reports = true; bytes = taken_by s; faults = s.calls.faults; is_handed_on = true }

@@ -11,6 +11,8 @@ pub record Held : Type 0 where
   pub bytes : List ℕ
   -- the count of faults
   pub faults : ℕ
+  -- whether nothing of what it took waits to be handed on
+  pub is_handed_on : Bool
 
 -- the first n bytes of the piece were taken
 pub record Took (old : Held) (piece : List ℕ) (n : ℕ) (new : Held) : Type 0 where
@@ -49,6 +51,13 @@ abbrev pub Puts : {A : Type 0} → Held → List ℕ → Result A Failed → Hel
 Puts old piece (Ok _) new = Appended old piece new
 Puts old piece (Err _) new = AppendedPart old piece new
 
+-- what was taken before is handed on, and all else that is shown stays
+pub record Flushed (old new : Held) : Type 0 where
+  pub handed_on : IsTrue new.is_handed_on
+  pub faults : new.faults ≡ old.faults
+  pub reports : new.reports ≡ old.reports
+  pub bytes : IsTrue old.reports → new.bytes ≡ old.bytes
+
 -- what was taken before could not be handed on: the count rose, and what is shown of the bytes stays
 pub record FlushFailed (old new : Held) : Type 0 where
   pub risen : HasRisen old.faults new.faults
@@ -57,7 +66,7 @@ pub record FlushFailed (old new : Held) : Type 0 where
   pub bytes : IsTrue old.reports → new.bytes ≡ old.bytes
 
 abbrev pub HasFlushed : {A : Type 0} → Held → Result A Failed → Held → Type 0
-HasFlushed old (Ok _) new = new ≡ old
+HasFlushed old (Ok _) new = Flushed old new
 HasFlushed old (Err _) new = FlushFailed old new
 
 -- the first n bytes of the piece have been appended, and no write failed

@@ -4,8 +4,9 @@ use crate::Failed;
 
 /// Where bytes go.
 ///
-/// A sink shows at every moment whether it tells what it took, the bytes that it took, and a count of
-/// faults that never falls and stops at the greatest `u64`.
+/// A sink shows at every moment whether it reports what it took, the bytes that it took, a count of
+/// faults that never falls and stops at the greatest `u64`, and whether nothing of what it took waits to be
+/// handed on.
 pub trait Sink {
     /// What the sink shows.
     ghost holds: { Self → Held };
@@ -20,8 +21,8 @@ pub trait Sink {
 
     /// Hands on what it took and still keeps, where it gathers pieces. Whoever wrote the last piece calls it.
     ///
-    /// It fails only where the count of faults rises. What is shown of the bytes stays as it is, and a call
-    /// that doesn't fail leaves the count too.
+    /// It fails only where the count of faults rises. What is shown of the bytes stays as it is. A call that
+    /// doesn't fail leaves the count too, and nothing waits after it.
     fn flush(&mut self) -> Result<(), Failed>
         ensures { HasFlushed (holds self.old) result (holds self.new) };
 }

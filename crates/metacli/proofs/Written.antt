@@ -1,7 +1,7 @@
 -- Texts that are written a line at a time.
-use Rattle.std.proofs.Common.{◌≡◌, ◌≢◌, ◌<◌, ℕ, ◌+◌, ◌-◌, ◌++◌, List, length, min, take, drop, arith, refl, sym, ap, ◌∙◌, append_assoc, inl, inr, ⊎_elim, [], Result, Ok, Err, append-nil, length-append, ◌∷◌, map, get_or, zero, suc, subst}
+use Rattle.std.proofs.Common.{◌≡◌, ◌≢◌, ◌<◌, ℕ, ◌+◌, ◌-◌, ◌++◌, List, length, take, drop, arith, refl, sym, ap, ◌∙◌, append_assoc, inl, inr, ⊎_elim, [], Result, Ok, Err, append-nil, length-append, ◌∷◌, map, get_or, zero, suc, subst}
 use Rattle.std.proofs.Math.Seq.{take-append-add}
-use Rattle.std.proofs.lemmas.List.{take_all, take_min, take-append-le, at_drop_more}
+use Rattle.std.proofs.lemmas.List.{take_all, take-append-le, at_drop_more}
 use Rattle.std.specs.List.{AllByRecursion, range_with_len}
 use Rattle.alg_classes.specs.Instances.{pure_property}
 use Rattle.alg_classes.specs.declared.property.Property.{Property}
@@ -12,7 +12,7 @@ use Rattle.net_graph.specs.Nets.{PureNet}
 use Rattle.net_graph.specs.Views.{pure_row}
 use Rattle.net_graph.specs.RowTexts.{IsRowOf, row_text}
 use Rattle.net_graph.specs.declared.route.RouteRow.{RouteRow}
-use Rattle.meta_base.specs.Sink.{Held, Appended, AppendedPart, FlushFailed}
+use Rattle.meta_base.specs.Sink.{Held, Appended, AppendedPart}
 use Rattle.meta_base.specs.declared.ids.Delivery.{Delivery}
 use Rattle.net_graph.specs.Tables.{PureRow}
 use Rattle.report_text.specs.RunTexts.{delivery_text}
@@ -20,7 +20,7 @@ use Rattle.report_text.specs.SummaryTexts.{reach_text, reaches_text}
 use Rattle.report_text.specs.Refusals.{words, expr, network, report, misses, read, long, memory}
 use Rattle.report_text.specs.VerdictTexts.{verdict_text, lines_on}
 use Rattle.metacli.specs.Answers.{PureAnswer, done, refused, spent, unmet, write_fault}
-use Rattle.metacli.specs.Texts.{CutShort, HasLines, PutsText, Written, cut_answer, journal_text, rows_text}
+use Rattle.metacli.specs.Texts.{HasLines, PutsText, Written, cut_answer, journal_text, rows_text}
 use Rattle.metacli.specs.declared.putting.Cut.{Cut}
 use Rattle.metacli.specs.declared.putting.Cut.TheVariants as cut
 
@@ -38,51 +38,6 @@ all_written old new text (refused (misses arc x)) h a = (refl, a)
 all_written old new text (refused (read w)) h a = (refl, a)
 all_written old new text (refused (long w)) h a = (refl, a)
 all_written old new text write_fault h a = absurd (h refl)
-
--- a text whose front that isn't all of it was written is cut short
-pub cut_short : (old new : Held) (text : List ℕ) → AppendedPart old text new → CutShort old text new
-cut_short old new text p = record {
-  risen = p.risen;
-  faults = p.faults;
-  reports = p.reports;
-  bytes = λ reported. let q = p.bytes reported in (q.0, omega (arith, q.1), q.2);
-}
-
--- and so is one whose front, or all of it, was not handed on
-not_handed_on : (old now new : Held) (n : ℕ) (text : List ℕ) → Appended old (take n text) now → FlushFailed now new → CutShort old text new
-not_handed_on old now new n text a f = record {
-  risen = ⊎_elim (λ e. inl (omega (arith, e, a.faults))) inr f.risen;
-  faults = omega (arith, a.faults, f.faults);
-  reports = f.reports ∙ a.reports;
-  bytes = λ reported. (min n (length text), omega arith, f.bytes (rw a.reports reported) ∙ a.bytes reported ∙ ap (λ x. old.bytes ++ x) (sym (take_min n text)));
-}
-
-whole_not_handed_on : (old now new : Held) (text : List ℕ) → Appended old text now → FlushFailed now new → CutShort old text new
-whole_not_handed_on old now new text a f =
-    not_handed_on old now new (length text) text (subst (λ t. Appended old t now) (sym (take_all (length text) text (omega arith))) a) f
-
-still_cut_short : (old now new : Held) (text : List ℕ) → CutShort old text now → FlushFailed now new → CutShort old text new
-still_cut_short old now new text c f = record {
-  risen = ⊎_elim (λ e. inl (omega (arith, e, c.faults))) inr f.risen;
-  faults = omega (arith, c.faults, f.faults);
-  reports = f.reports ∙ c.reports;
-  bytes = λ reported. let q = c.bytes reported in (q.0, q.1, f.bytes (rw c.reports reported) ∙ q.2);
-}
-
--- whatever was answered, a sink that fails to hand on what it gathered cuts the text short
-pub flush_failed : (old now new : Held) (text : List ℕ) (decided answer : PureAnswer) → Written old text now decided answer → FlushFailed now new → Written old text new decided write_fault
-flush_failed old now new text decided done w f = whole_not_handed_on old now new text w.1 f
-flush_failed old now new text decided spent w f = whole_not_handed_on old now new text w.1 f
-flush_failed old now new text decided (unmet p) w f = whole_not_handed_on old now new text w.1 f
-flush_failed old now new text decided (refused memory) w f = not_handed_on old now new w.1.0 text w.1.1 f
-flush_failed old now new text decided (refused (words n)) w f = whole_not_handed_on old now new text w.1 f
-flush_failed old now new text decided (refused (expr g)) w f = whole_not_handed_on old now new text w.1 f
-flush_failed old now new text decided (refused (network g)) w f = whole_not_handed_on old now new text w.1 f
-flush_failed old now new text decided (refused (report g)) w f = whole_not_handed_on old now new text w.1 f
-flush_failed old now new text decided (refused (misses arc x)) w f = whole_not_handed_on old now new text w.1 f
-flush_failed old now new text decided (refused (read which)) w f = whole_not_handed_on old now new text w.1 f
-flush_failed old now new text decided (refused (long which)) w f = whole_not_handed_on old now new text w.1 f
-flush_failed old now new text decided write_fault w f = still_cut_short old now new text w f
 
 pub lines_begin : (held : Held) (text : List ℕ) → HasLines held text text held
 lines_begin held text = record {
@@ -155,7 +110,7 @@ cut_in_room old now new text room line rest new_room c empty e h p =
 
 -- the answer to a text that was cut short
 pub cut_answered : (old new : Held) (text : List ℕ) (d : PureAnswer) (c : Cut) → d ≢ refused memory → PutsText old text (Err c) new → Written old text new d (cut_answer c)
-cut_answered old new text d cut.Sink h p = cut_short old new text p
+cut_answered old new text d cut.Sink h p = p
 cut_answered old new text d cut.Memory h p = ((λ e. absurd (h e)), lines_front old new text p.0 p.1)
 
 -- the lines from one row on

@@ -9,7 +9,7 @@ use Rattle.vector_runs.specs.Runs.{AreOfNetworks, AreStable, IsRun, pure_phase}
 use Rattle.vector_runs.specs.declared.run.Run.{Run}
 use Rattle.metacli.specs.Answers.{pure_answer}
 use Rattle.metacli.specs.Outcome.{PureOutcome, answer_in, ComesTo, ComesToRest, Shows}
-use Rattle.metacli.specs.Texts.{TextOf, Written}
+use Rattle.metacli.specs.Texts.{TextOf, WrittenOut}
 use Rattle.metacli.specs.declared.ended.Ended.{Ended}
 
 -- The words come to an outcome, by what was read. It is what the end shows, it has its cause, and its text is
@@ -18,7 +18,7 @@ pub record Runs (words : List (List ℕ)) (old new : Moment) (before after : Hel
   pub outcome : PureOutcome
   pub shows : Shows e (result_ok (Words words)) outcome
   pub comes_to : ComesTo words old new outcome
-  pub written : Written before (TextOf outcome) after (answer_in outcome) (pure_answer e.answer)
+  pub written : WrittenOut before (TextOf outcome) after (answer_in outcome) (pure_answer e.answer)
 
 -- a run through these networks: its quiet phases are stable, it comes to rest, and its rows and deliveries are of the
 -- phases' networks

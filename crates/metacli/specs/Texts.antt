@@ -1,8 +1,7 @@
 -- The printed text of what was decided, and what of it was written.
-use Rattle.std.specs.Prelude.{◌≡◌, ◌≤◌, ℕ, ◌+◌, Bool, true, IsTrue, List, [], ◌∷◌, ◌++◌, length, map, nat_eq, Option, Some, None, Result, Ok, Err, take, drop, option_map, if◌then◌else◌}
+use Rattle.std.specs.Prelude.{◌≡◌, ◌≢◌, ◌⊎◌, ℕ, ◌+◌, Bool, true, List, [], ◌∷◌, ◌++◌, length, map, nat_eq, Option, Some, None, Result, Ok, Err, take, drop, option_map, if◌then◌else◌}
 use Rattle.std.specs.List.{concat, range_with_len, AllByRecursion}
-use Rattle.meta_base.specs.Count.{HasRisen}
-use Rattle.meta_base.specs.Sink.{Held, Appended, AppendedPart}
+use Rattle.meta_base.specs.Sink.{Held, Appended, AppendedPart, Flushed, FlushFailed}
 use Rattle.meta_base.specs.declared.ids.Delivery.{Delivery}
 use Rattle.net_graph.specs.Nets.{PureNet}
 use Rattle.net_graph.specs.Tables.{PureRow}
@@ -117,23 +116,30 @@ PutsText old text (Ok _) new = Appended old text new
 PutsText old text (Err Sink) new = AppendedPart old text new
 PutsText old text (Err Memory) new = (rest : List ℕ) × HasLines old text rest new
 
--- a front of the text was appended, and the count rose: the sink failed before the end of the text, or where it was to
--- hand on what it had gathered
-pub record CutShort (old : Held) (text : List ℕ) (new : Held) : Type 0 where
-  pub risen : HasRisen old.faults new.faults
-  pub faults : old.faults ≤ new.faults
-  pub reports : new.reports ≡ old.reports
-  pub bytes : IsTrue old.reports → (n : ℕ) × (n ≤ length text) × (new.bytes ≡ old.bytes ++ take n text)
-
--- What was written of the text, by the answer in the end: a front of it after a write fault; a front of it
+-- What was written of the text, by the answer to that: a proper front of it after a write fault; a front of it
 -- where memory was refused, and all of it where that was decided before; else all of it.
 abbrev pub Written : Held → List ℕ → Held → PureAnswer → PureAnswer → Type 0
-Written old text new decided write_fault = CutShort old text new
+Written old text new decided write_fault = AppendedPart old text new
 Written old text new decided (refused memory) = (decided ≡ refused memory → Appended old text new) × ((n : ℕ) × Appended old (take n text) new)
 Written old text new decided (refused r) = (refused r ≡ decided) × Appended old text new
 Written old text new decided done = (done ≡ decided) × Appended old text new
 Written old text new decided spent = (spent ≡ decided) × Appended old text new
 Written old text new decided (unmet p) = (unmet p ≡ decided) × Appended old text new
+
+-- a flush that failed: want of memory stays the answer, and any other becomes a write fault
+abbrev pub AfterFailedFlush : PureAnswer → PureAnswer → Type 0
+AfterFailedFlush before answer = (before ≡ refused memory → answer ≡ refused memory) × (before ≢ refused memory → answer ≡ write_fault)
+
+-- what the sink had gathered was handed on, and the answer stays; or that failed
+abbrev pub HandsOn : Held → PureAnswer → Held → PureAnswer → Type 0
+HandsOn old before new answer = (Flushed old new × (answer ≡ before)) ⊎ (FlushFailed old new × AfterFailedFlush before answer)
+
+-- what was written of the text, and then handed on
+pub record WrittenOut (old : Held) (text : List ℕ) (new : Held) (decided answer : PureAnswer) : Type 0 where
+  pub now : Held
+  pub before : PureAnswer
+  pub written : Written old text now decided before
+  pub handed_on : HandsOn now before new answer
 
 -- the answer where it was cut short
 abbrev pub cut_answer : Cut → PureAnswer

@@ -18,7 +18,7 @@ use alg_classes::Property;
 use alg_model::Alg;
 use command_words::Required;
 use meta_base::{ArcId, List, NoMemory};
-use net_graph::Net;
+use net_graph::{LabelMarks, Net};
 use property_infer::{Verdict, Verdicts, add_label, verdicts, verdicts_of};
 use settled_laws::monotone_verdict_decides_uniqueness;
 use std::alloc::Global;
@@ -137,14 +137,16 @@ fn verdicts_after(alloc: Global, file: &NetFile) -> Result<Verdicts, NoMemory>
 fn arc_verdicts(alloc: Global, net: &Net) -> Result<Verdicts, NoMemory>
     ensures { IfOk result (λ verdicts. AreVerdictsOn net.now.alg (IsOnArc net.now) (pure_verdicts verdicts)) }
 {
+    let numbers = net.label_numbers();
+    let mut added = LabelMarks::new(alloc, numbers.count());
     let mut labels = List::new(alloc);
     for arc in 0..net.arc_count() {
-        add_label(
-            alloc,
-            net.alg(),
-            &net.arc(ArcId(arc as u32)).label,
-            &mut labels,
-        )?;
+        let id = ArcId(arc as u32);
+        let number = numbers.of(id);
+        if !added.has(number) {
+            add_label(alloc, net.alg(), net.arc(id).label, &mut labels)?;
+            added.mark(number);
+        }
     }
     verdicts_of(alloc, net.alg(), labels.as_slice())
 }

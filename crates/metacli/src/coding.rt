@@ -85,7 +85,7 @@ fn arc_listing(alloc: Global, net: &Net) -> Result<Listing, NoMemory>
     let order = compile_order(alloc, net.alg())?;
     let mut labels = List::new(alloc);
     for arc in 0..net.arc_count() {
-        let label = &net.arc(ArcId(arc as u32)).label;
+        let label = net.arc(ArcId(arc as u32)).label;
         labels.push(compile_label(alloc, net.alg(), label)?)?;
     }
     Ok(Listing { order, labels })

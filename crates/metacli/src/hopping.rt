@@ -1,5 +1,7 @@
 // What `hops` decides.
 ghost use Rattle.std.specs.Prelude.{◌≡◌, ◌++◌, Ok, map, IfOk, OnOk};
+ghost use Rattle.alg_model.specs.Carriers.{carrier_of};
+ghost use Rattle.code_gen.specs.Widths.{HoldValues};
 ghost use Rattle.link_state.specs.Tables.{AreTablesOf};
 ghost use Rattle.net_graph.specs.Changes.{AreChanges};
 ghost use Rattle.net_graph.specs.Views.{pure_change, rows_of};
@@ -17,10 +19,12 @@ use crate::outcome::{Hopped, Outcome, Stop, Unfit};
 use crate::routing::{Solution, tables_of};
 use alg_model::Alg;
 use best_first::best_first_is_optimal;
+use code_gen::{CodeAlgebra, row_width, rows_have_their_width};
+use label_code::{FixedRow, HeldRow, Words};
 use meta_base::{List, NoMemory};
 use net_facts::{Missing, first_missing};
 use net_graph::{DestTable, Net};
-use report_check::{ManyHops, best_hops};
+use report_check::{ManyHops, best_hops, out_labels};
 use std::alloc::{AllocGlobal, Global};
 use std::thread::Threads;
 use topology_file::NetFile;
@@ -118,7 +122,7 @@ fn best_hops_on<R: AllocGlobal + Threads + Sync>(
     hops_of(rt.alloc(), net, tables.as_slice(), room)
 }
 
-// The next hops of the tables, one table after another, in a list that has room for so many at once.
+// The next hops of the tables, by code over rows that are as narrow as the algebra allows.
 fn hops_of(
     alloc: Global,
     net: &Net,
@@ -128,9 +132,32 @@ fn hops_of(
     requires { AreTablesOf net.now tables.now }
     ensures { IfOk result (λ many. map pure_hops many ≡ all_hops net.now 0 (map rows_of tables.now)) }
 {
+    rows_have_their_width();
+    match row_width(net.alg()) {
+        Some(1) => hops_over::<FixedRow<1>>(alloc, net, tables, room),
+        Some(2) => hops_over::<FixedRow<2>>(alloc, net, tables, room),
+        Some(3) => hops_over::<FixedRow<3>>(alloc, net, tables, room),
+        Some(4) => hops_over::<FixedRow<4>>(alloc, net, tables, room),
+        _ => hops_over::<Words>(alloc, net, tables, room),
+    }
+}
+
+// The same over rows of this kind, one table after another, in a list that has room for so many at once.
+fn hops_over<W: HeldRow>(
+    alloc: Global,
+    net: &Net,
+    tables: &[DestTable],
+    room: usize,
+) -> Result<List<ManyHops>, NoMemory>
+    requires rows { HoldValues W.can_hold (carrier_of net.now.alg.expression) }
+    requires tables { AreTablesOf net.now tables.now }
+    ensures { IfOk result (λ many. map pure_hops many ≡ all_hops net.now 0 (map rows_of tables.now)) }
+{
+    let algebra = CodeAlgebra::<W>::new(alloc, net.alg())?;
+    let labels = out_labels(alloc, &algebra, net)?;
     let mut many = Vec::with_capacity(alloc, room)?;
     for table in tables {
-        append_hops(&mut many, best_hops(alloc, net, table)?)?;
+        append_hops(&mut many, best_hops(alloc, &algebra, net, &labels, table)?)?;
     }
     Ok(List::from_vec(many))
 }

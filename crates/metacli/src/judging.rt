@@ -1,8 +1,12 @@
 // What `verify` decides.
 ghost use Rattle.std.specs.Prelude.{◌≡◌, ◌≤◌, Err, length, map, IfOk, IfErr};
+ghost use Rattle.alg_model.specs.Carriers.{carrier_of};
+ghost use Rattle.code_gen.specs.Widths.{HoldValues};
 ghost use Rattle.net_graph.specs.Changes.{AreChanges};
+ghost use Rattle.net_graph.specs.Tables.{OnTablesFrom, TableOf};
 ghost use Rattle.net_graph.specs.Views.{pure_change, rows_of};
-ghost use Rattle.report_check.specs.Views.{pure_judgement};
+ghost use Rattle.report_check.specs.Judged.{Judged as AreJudged};
+ghost use Rattle.report_check.specs.Views.{AreOfDests, pure_judgement};
 ghost use Rattle.topology_file.specs.NetText.{changed_net};
 ghost use Rattle.topology_file.specs.Views.{pure_file};
 ghost use Rattle.metacli.specs.After.{last_of};
@@ -16,6 +20,8 @@ use crate::after::{last_of, net_after};
 use crate::outcome::{Judged, Outcome, Stop};
 use crate::reading::take_report;
 use alg_model::Alg;
+use code_gen::{CodeAlgebra, row_width, rows_have_their_width};
+use label_code::{FixedRow, HeldRow, Words};
 use meta_base::{List, NoMemory, Shelf};
 use net_graph::{DestTable, Net};
 use report_check::{Judgement, MAX_REPORT_BYTES, ReportError, judge, read_report};
@@ -101,7 +107,7 @@ fn judged_on(alloc: Global, net: &Net, source: &[u8]) -> Result<(List<DestTable>
 {
     let _edition = net.edition();
     match read_report(alloc, net, source) {
-        Ok(tables) => match judge(alloc, net, tables.as_slice()) {
+        Ok(tables) => match judgement_of(alloc, net, tables.as_slice()) {
             Ok(judgement) => Ok((tables, judgement)),
             Err(NoMemory) => {
                 drop(tables);
@@ -111,4 +117,38 @@ fn judged_on(alloc: Global, net: &Net, source: &[u8]) -> Result<(List<DestTable>
         Err(ReportError::Bad(fault)) => Err(Stop::Report(fault)),
         Err(ReportError::NoMemory) => Err(Stop::Memory),
     }
+}
+
+// What the tables are judged to be, by code over rows that are as narrow as the algebra allows.
+fn judgement_of(alloc: Global, net: &Net, tables: &[DestTable]) -> Result<Judgement, NoMemory>
+    requires tables { OnTablesFrom (TableOf net.now) 0 (map rows_of tables.now) }
+    requires dests { AreOfDests 0 tables.now }
+    requires count { length tables.now ≡ length net.now.dests }
+    ensures { IfOk result (λ judgement. AreJudged net.now (map rows_of tables.now) (pure_judgement judgement)) }
+{
+    rows_have_their_width();
+    match row_width(net.alg()) {
+        Some(1) => judgement_over::<FixedRow<1>>(alloc, net, tables),
+        Some(2) => judgement_over::<FixedRow<2>>(alloc, net, tables),
+        Some(3) => judgement_over::<FixedRow<3>>(alloc, net, tables),
+        Some(4) => judgement_over::<FixedRow<4>>(alloc, net, tables),
+        _ => judgement_over::<Words>(alloc, net, tables),
+    }
+}
+
+// The same over rows of this kind.
+fn judgement_over<W: HeldRow>(
+    alloc: Global,
+    net: &Net,
+    tables: &[DestTable],
+) -> Result<Judgement, NoMemory>
+    requires rows { HoldValues W.can_hold (carrier_of net.now.alg.expression) }
+    requires tables { OnTablesFrom (TableOf net.now) 0 (map rows_of tables.now) }
+    requires dests { AreOfDests 0 tables.now }
+    requires count { length tables.now ≡ length net.now.dests }
+    ensures { IfOk result (λ judgement. AreJudged net.now (map rows_of tables.now) (pure_judgement judgement)) }
+{
+    let algebra = CodeAlgebra::<W>::new(alloc, net.alg())?;
+    let judgement = judge(alloc, &algebra, net, tables)?;
+    Ok(judgement)
 }

@@ -25,8 +25,8 @@ use std::sync::Wait;
 use std::thread::Threads;
 use topology_file::NetFile;
 use vector_runs::{
-    Run, enough_turns_are_quiet, phases_are_of_networks, quiet_phases_are_stable, run_phases,
-    runs_are_short,
+    Budget, Run, enough_turns_are_quiet, phases_are_of_networks, quiet_phases_are_stable,
+    run_phases, runs_are_short,
 };
 
 /// What `run` or `trace` comes to on a network over the algebra, through all its changes, with so many workers and
@@ -136,5 +136,6 @@ fn run_over<W: HeldRow + Send + Sync, R: AllocGlobal + Threads + Wait + Sync, G:
 {
     let alloc = rt.alloc();
     let algebra = CodeAlgebra::<W>::new(alloc, net.alg())?;
-    run_phases(rt, alloc, &algebra, net, changed, workers, turns, gate)
+    let budget = Budget { workers, turns };
+    run_phases(rt, alloc, &algebra, net, changed, budget, gate)
 }

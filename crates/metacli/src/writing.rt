@@ -3,7 +3,6 @@ ghost use Rattle.std.specs.Prelude.{◌≡◌, ◌≢◌, ◌++◌, ℕ, List, O
 ghost use Rattle.std.specs.List.{AllByRecursion};
 ghost use Rattle.alg_classes.specs.Instances.{pure_instance, pure_property};
 ghost use Rattle.alg_model.specs.Views.{pure_value};
-ghost use Rattle.meta_base.specs.Sink.{Held};
 ghost use Rattle.net_graph.specs.Nets.{PureNet};
 ghost use Rattle.net_graph.specs.Views.{pure_row};
 ghost use Rattle.net_graph.specs.RowTexts.{IsRowOf};
@@ -20,9 +19,9 @@ ghost use Rattle.vector_runs.specs.Runs.{AreOfNetworks, pure_phase};
 ghost use Rattle.wedge_nets.specs.GadgetTexts.{gadget_text};
 ghost use Rattle.wedge_nets.specs.Gadgets.{HasGadget};
 ghost use Rattle.metacli.specs.After.{last_of};
-ghost use Rattle.metacli.specs.Answers.{PureAnswer, pure_answer, pure_stop, refused, write_fault};
+ghost use Rattle.metacli.specs.Answers.{pure_answer, pure_stop, refused, write_fault};
 ghost use Rattle.metacli.specs.Outcome.{answer_in};
-ghost use Rattle.metacli.specs.Texts.{PutsText, TextOf, Written, last_net, many_text, routes_text, rows_text, run_text, unmet_text};
+ghost use Rattle.metacli.specs.Texts.{AfterFailedFlush, HandsOn, PutsText, TextOf, Written, last_net, many_text, routes_text, rows_text, run_text, unmet_text};
 ghost use Rattle.metacli.specs.Views.{CanBeWritten, IsListedOn, pure_outcome};
 
 use crate::Answer;
@@ -80,14 +79,22 @@ pub fn write<K: Sink>(alloc: Global, out: &mut K, outcome: &Outcome) -> Answer
 
 /// Hands on what the sink gathered, after this was answered, and answers how that went.
 pub fn hand_on<K: Sink>(out: &mut K, answer: Answer) -> Answer
-    ensures { (old : Held) (text : List ℕ) (decided : PureAnswer) →
-        Written old text (K.holds out.old) decided (pure_answer answer) →
-        Written old text (K.holds out.new) decided (pure_answer result) }
+    ensures { HandsOn (K.holds out.old) (pure_answer answer) (K.holds out.new) (pure_answer result) }
 {
     match out.flush() {
         Ok(()) => answer,
-        Err(Failed) => {
-            drop(answer);
+        Err(Failed) => after_failed_flush(answer),
+    }
+}
+
+// The answer where what was answered so could not be handed on.
+fn after_failed_flush(answer: Answer) -> Answer
+    ensures { AfterFailedFlush (pure_answer answer) (pure_answer result) }
+{
+    match answer {
+        Answer::NoMemory => Answer::NoMemory,
+        other => {
+            drop(other);
             Answer::WriteFault
         }
     }
@@ -322,7 +329,7 @@ pub(crate) fn put_rows<K: Sink>(
 }
 
 // Writes a line, and answers what was decided, or that the sink failed.
-#[tactic(auto, using(crate::proofs::Written::all_written, crate::proofs::Written::cut_short))]
+#[tactic(auto, using(crate::proofs::Written::all_written))]
 fn write_line<K: Sink>(out: &mut K, line: &[u8], decided: Answer) -> Answer
     requires { pure_answer decided ≢ write_fault }
     ensures { Written (K.holds out.old) line.now (K.holds out.new) (pure_answer decided) (pure_answer result) }

@@ -1,5 +1,5 @@
 -- The earliest of some properties that a label doesn't have, and the arcs before it that have all of them.
-use Rattle.std.proofs.Common.{◌≡◌, ℕ, zero, suc, ◌+◌, ◌≤◌, List, [], ◌∷◌, Option, Some, None, Bool, true, false, not, cond, map, length, slice_get, refl, ap, sym, ◌∙◌, subst, arith, ◌-◌, below_more}
+use Rattle.std.proofs.Common.{◌≡◌, ℕ, zero, suc, ◌+◌, ◌≤◌, List, [], ◌∷◌, Option, Some, None, Bool, true, false, not, cond, get_or, map, length, slice_get, refl, ap, sym, ◌∙◌, subst, arith, ◌-◌, below_more}
 use Rattle.std.proofs.lemmas.Option.{same_Some}
 use Rattle.std.specs.List.{AllByRecursion, find}
 use Rattle.std.specs.Option.{MatchOption}
@@ -14,6 +14,7 @@ use Rattle.alg_model.specs.Properties.{PureProperty, Has}
 use Rattle.alg_model.specs.Verdicts.{PureInstance}
 use Rattle.net_graph.specs.Nets.{PureArc, PureNet}
 use Rattle.property_infer.specs.Reported.{IsMissingOf}
+use Rattle.net_facts.specs.MarkLaws.{AreHeld, held_at}
 use Rattle.net_facts.specs.Misses.{HasAll, ArcHasAll, NetHasAll, AllBefore, StandsAfter, MissesEarliest, MissesFirst, IsFirstMissing}
 
 abbrev pub Earliest : Expression → PureLabel → List Property → Option Property → Type 0
@@ -77,6 +78,13 @@ pub one_passes : (ps : List PureProperty) (net : PureNet) (n : ℕ) (a : PureArc
 one_passes ps net n a at has before =
     below_more (λ m. (b : PureArc) → slice_get net.arcs m ≡ Some b → ArcHasAll ps net b) n before
     (λ b e. subst (ArcHasAll ps net) (same_Some a b (let here = at in cc)) has)
+
+-- one whose label is marked
+pub marked_passes : (ps : List PureProperty) (net : PureNet) (n number : ℕ) (numbers : List ℕ) (marks : List Bool) → AreHeld (HasAll ps net.alg.expression) net numbers marks
+    → slice_get numbers n ≡ Some number → get_or marks number false ≡ true → AllBefore (ArcHasAll ps net) net.arcs n → AllBefore (ArcHasAll ps net) net.arcs (n + 1)
+marked_passes ps net n number numbers marks held at marked before =
+    below_more (λ m. (b : PureArc) → slice_get net.arcs m ≡ Some b → ArcHasAll ps net b) n before
+    (λ b e. held_at (HasAll ps net.alg.expression) net numbers marks n number b held at e marked)
 
 -- an instance that shows it of the arc at that place
 pub first_shown : (ps : List PureProperty) (net : PureNet) (k : ℕ) (p : PureProperty) (arc : PureArc) (x : PureInstance) → MissesFirst ps net k p

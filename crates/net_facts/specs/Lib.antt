@@ -1,2 +1,3 @@
 pub mod Misses
 pub mod MissingLaws
+pub mod MarkLaws

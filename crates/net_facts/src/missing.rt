@@ -10,7 +10,7 @@ ghost use Rattle.net_facts.specs.Misses.{HasAll, IsFirstMissing, MissesEarliest,
 use alg_classes::{Instance, Profile, Property};
 use alg_model::{Alg, Label};
 use meta_base::{ArcId, NoMemory};
-use net_graph::Net;
+use net_graph::{LabelMarks, Net};
 use property_infer::{instance_against, label_profile};
 use std::alloc::Global;
 
@@ -36,23 +36,30 @@ pub fn first_missing(
     ensures first { IfOk result (λ missing. IfSome missing (λ missing.
         IsFirstMissing (map pure_property properties.now) net.now missing.arc.0 (pure_instance missing.instance))) }
 {
-    let Some((arc, property)) = first_missed(net, properties) else {
+    let Some((arc, property)) = first_missed(alloc, net, properties) else {
         return Ok(None);
     };
-    let instance = instance_against(alloc, net.alg(), &net.arc(arc).label, property)?;
+    let instance = instance_against(alloc, net.alg(), net.arc(arc).label, property)?;
     Ok(Some(Missing { arc, instance }))
 }
 
-// The first arc whose label doesn't have one of the properties, and the earliest of them that it doesn't have.
-fn first_missed(net: &Net, properties: &[Property]) -> Option<(ArcId, Property)>
+// The first arc whose label doesn't have one of the properties, and the earliest of them that it doesn't have. Where
+// there is memory for marks, each label is looked at once.
+fn first_missed(alloc: Global, net: &Net, properties: &[Property]) -> Option<(ArcId, Property)>
     ensures { MatchOption result
         (NetHasAll (map pure_property properties.now) net.now)
         (λ found. MissesFirst (map pure_property properties.now) net.now found.0.0 (pure_property found.1)) }
 {
+    let numbers = net.label_numbers();
+    let mut passed = LabelMarks::new(alloc, numbers.count());
     for arc in 0..net.arc_count() {
         let id = ArcId(arc as u32);
-        if let Some(property) = earliest_missed(net.alg(), &net.arc(id).label, properties) {
-            return Some((id, property));
+        let number = numbers.of(id);
+        if !passed.has(number) {
+            if let Some(property) = earliest_missed(net.alg(), net.arc(id).label, properties) {
+                return Some((id, property));
+            }
+            passed.mark(number);
         }
     }
     None

@@ -16,13 +16,16 @@ coded_origin =
     code_by (ℕ × (ℕ × PureValue)) (coded× coded_ℕ (coded× coded_ℕ coded_value))
     (λ o. (o.node, (o.dest, o.value))) (λ p. record { node = p.0; dest = p.1.0; value = p.1.1 }) (λ _. refl)
 
+abbrev pub coded_arcs : Coded (List PureArc)
+coded_arcs = coded_list coded_arc
+
 abbrev pub coded_names : Coded (List (List ℕ))
 coded_names = coded_list (coded_list coded_ℕ)
 
 abbrev pub coded_net : Coded PureNet
 coded_net =
     code_by (PureAlg × (List (List ℕ) × (List (List ℕ) × (List PureArc × List PureOrigin))))
-    (coded× coded_alg (coded× coded_names (coded× coded_names (coded× (coded_list coded_arc) (coded_list coded_origin)))))
+    (coded× coded_alg (coded× coded_names (coded× coded_names (coded× coded_arcs (coded_list coded_origin)))))
     (λ n. (n.alg, (n.nodes, (n.dests, (n.arcs, n.origins)))))
     (λ p. record { alg = p.0; nodes = p.1.0; dests = p.1.1.0; arcs = p.1.1.1.0; origins = p.1.1.1.1 }) (λ _. refl)
 

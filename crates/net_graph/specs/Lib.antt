@@ -11,7 +11,9 @@ pub mod Walks
 pub mod Tables
 pub mod Views
 pub mod Codes
+pub mod Kept
 pub mod Groups
+pub mod LabelNumbers
 pub mod Cuts
 pub mod Dests
 pub mod Pairs

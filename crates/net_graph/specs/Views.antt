@@ -2,7 +2,7 @@
 use Rattle.std.specs.Prelude.{List, map, option_map}
 use Rattle.meta_base.specs.NodePaths.{numbers}
 use Rattle.alg_model.specs.Views.{pure_value, pure_label}
-use Rattle.net_graph.specs.declared.parts.Arc.{Arc}
+use Rattle.net_graph.specs.declared.arcs.Arc.{Arc}
 use Rattle.net_graph.specs.declared.parts.Origin.{Origin}
 use Rattle.net_graph.specs.declared.route.Route.{Route}
 use Rattle.net_graph.specs.declared.route.RouteRow.{RouteRow}
@@ -15,7 +15,7 @@ use Rattle.net_graph.specs.Routes.{PureRoute}
 use Rattle.net_graph.specs.Tables.{PureRow}
 
 abbrev pub pure_arc : Arc → PureArc
-pure_arc a = record { id = a.id.0; tail = a.tail.0; head = a.head.0; label = pure_label a.label }
+pure_arc a = record { id = a.id.0; tail = a.tail.0; head = a.head.0; label = pure_label a.label.now }
 
 abbrev pub pure_origin : Origin → PureOrigin
 pure_origin o = record { node = o.node.0; dest = o.dest.0; value = pure_value o.value }

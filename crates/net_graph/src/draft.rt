@@ -1,4 +1,4 @@
-ghost use Rattle.std.specs.Prelude.{◌≡◌, ◌≢◌, ◌<◌, ◌≤◌, Some, None, true, false, length, option_map, IfOk, IfSome, OnOk, OnErr};
+ghost use Rattle.std.specs.Prelude.{◌≡◌, ◌≢◌, ◌<◌, ◌≤◌, Some, None, true, false, length, option_map, slice_get, IfOk, IfSome, OnOk, OnErr};
 ghost use Rattle.alg_model.specs.Views.{pure_value, pure_label};
 ghost use Rattle.alg_model.specs.Carriers.{carrier_of, In};
 ghost use Rattle.alg_model.specs.Application.{IsLabel};
@@ -8,11 +8,12 @@ ghost use Rattle.net_graph.specs.Limits.{max_nodes, max_dests};
 ghost use Rattle.net_graph.specs.declared.limits.TheConstants.{MAX_ARCS, MOST_NODES, MOST_DESTS};
 ghost use Rattle.net_graph.specs.Lines.{empty_net, with_node, with_arc, with_dest, with_origin, with_origin_at};
 
+use crate::arcs::Arcs;
 use crate::filed::file_lines;
 use crate::names::Names;
 use crate::pairs::Pairs;
 use crate::parts::Known;
-use crate::{Arc, Net, Origin};
+use crate::{Net, Origin};
 use alg_model::{Alg, Edition, Label, Value};
 use meta_base::{ArcId, DestId, NoMemory, NodeId};
 use std::alloc::Global;
@@ -24,7 +25,7 @@ pub struct NetDraft {
     alloc: Global,
     known: Known,
     // In file order.
-    arcs: Vec<Arc>,
+    arcs: Arcs,
     origins: Vec<Origin>,
 }
 
@@ -38,9 +39,9 @@ impl Model for NetDraft {
 
     ghost use Rattle.net_graph.specs.Drafts.{net_with, IsDraft};
 
-    ghost view = { λ d. net_with d.known d.arcs.items d.origins.items };
+    ghost view = { λ d. net_with d.known d.arcs d.origins.items };
 
-    ghost invariant = { λ d. IsDraft d.known d.arcs.items d.origins.items };
+    ghost invariant = { λ d. IsDraft d.known d.arcs d.origins.items };
 }
 
 impl NetDraft {
@@ -62,7 +63,7 @@ impl NetDraft {
                 arc_pairs: Pairs::new(alloc),
                 origin_pairs: Pairs::new(alloc),
             },
-            arcs: Vec::new(alloc),
+            arcs: Arcs::new(alloc),
             origins: Vec::new(alloc),
         }
     }
@@ -71,11 +72,11 @@ impl NetDraft {
     pub(crate) fn from_parts(
         alloc: Global,
         known: Known,
-        arcs: Vec<Arc>,
+        arcs: Arcs,
         origins: Vec<Origin>,
     ) -> NetDraft
-        requires { IsDraft known arcs.items origins.items }
-        ensures { result ≡ net_with known arcs.items origins.items }
+        requires { IsDraft known arcs origins.items }
+        ensures { result ≡ net_with known arcs origins.items }
     {
         NetDraft {
             alloc,
@@ -114,19 +115,34 @@ impl NetDraft {
         ensures ok { OnOk result (self.new ≡ with_arc self.old tail.0 head.0 (pure_label label)) }
         ensures err { OnErr result (self.new ≡ self.old) }
     {
-        let id = ArcId(self.arcs.len() as u32);
-        self.arcs.reserve(1)?;
         self.known.arc_pairs.add(tail.0, head.0)?;
-        let arc = Arc {
-            id,
-            tail,
-            head,
-            label,
-        };
-        self.arcs.push(arc).unwrap();
-        Ok(())
+        let added = self.arcs.push(tail, head, label);
+        if added.is_err() {
+            self.known.arc_pairs.drop_last();
+        }
+        added
     }
 
+    /// Adds an arc with the label of the arc of that number, which isn't copied. All else is as for
+    /// [`NetDraft::add_arc`].
+    pub fn add_arc_like(&mut self, tail: NodeId, head: NodeId, like: ArcId) -> Result<(), NoMemory>
+        requires tail { tail.0 < length self.old.nodes }
+        requires head { head.0 < length self.old.nodes }
+        requires apart { tail.0 ≢ head.0 }
+        requires absent { has_arc self.old tail.0 head.0 ≡ false }
+        requires like { like.0 < length self.old.arcs }
+        requires room { length self.old.arcs < MAX_ARCS }
+        ensures ok { OnOk result (IfSome (slice_get self.old.arcs like.0) (λ arc.
+            self.new ≡ with_arc self.old tail.0 head.0 arc.label)) }
+        ensures err { OnErr result (self.new ≡ self.old) }
+    {
+        self.known.arc_pairs.add(tail.0, head.0)?;
+        let added = self.arcs.push_like(tail, head, like);
+        if added.is_err() {
+            self.known.arc_pairs.drop_last();
+        }
+        added
+    }
     /// Adds a destination of that name without an origin, with the next number. The name is 1 to 32
     /// letters, digits and bytes of `_-.`, no other destination has it, and there are fewer than
     /// [`crate::max_dests`] of the edition. After a refusal the draft is as it was.
@@ -196,6 +212,7 @@ impl NetDraft {
             arcs,
             origins,
         } = self;
+        let (labels, arcs) = arcs.into_parts();
         let lines = file_lines(
             alloc,
             known.nodes.count(),
@@ -203,7 +220,7 @@ impl NetDraft {
             arcs,
             origins,
         )?;
-        Ok(Net::from_parts(known, lines))
+        Ok(Net::from_parts(known, labels, lines))
     }
 
     /// Lends the algebra.
@@ -237,7 +254,7 @@ impl NetDraft {
         ensures count { result ≡ length self.now.arcs }
         ensures net { IsNet self.now }
     {
-        self.arcs.len()
+        self.arcs.count()
     }
 
     /// How many destinations there are, at most [`crate::max_dests`] of the edition, and at most

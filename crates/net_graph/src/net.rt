@@ -1,14 +1,17 @@
 ghost use Rattle.std.specs.Prelude.{◌≡◌, ◌<◌, ◌≤◌, Some, true, map, find, length, position, slice_get, option_map, IfOk, IfSome};
 ghost use Rattle.std.specs.List.{AllByRecursion};
 ghost use Rattle.net_graph.specs.declared.limits.TheConstants.{MOST_NODES, MOST_DESTS};
-ghost use Rattle.net_graph.specs.Nets.{IsNet, IsArcOf, IsOriginOf, is_name, number_of, has_arc, has_origin, is_arc_between, is_origin_at, arcs_from, arcs_to, origins_of};
+ghost use Rattle.net_graph.specs.Nets.{CanBeNumbered, IsNet, IsArcOf, IsOriginOf, is_name, number_of, has_arc, has_origin, is_arc_between, is_origin_at, arcs_from, arcs_to, origins_of};
 
-use crate::change::{Change, changed_arcs};
+use crate::arcs::{Arc, Arcs, KeptArc, copy_labels};
+use crate::change::Change;
 use crate::filed::FiledLines;
 use crate::groups::{Groups, Spot};
+use crate::label_numbers::LabelNumbers;
+use crate::out_arcs::OutArcs;
 use crate::parts::Known;
-use crate::{Arc, NetDraft, Origin};
-use alg_model::{Alg, Edition};
+use crate::{NetDraft, Origin};
+use alg_model::{Alg, Edition, Label};
 use meta_base::{ArcId, DestId, NoMemory, NodeId};
 use std::alloc::Global;
 use std::marker::Model;
@@ -19,8 +22,10 @@ use std::marker::Model;
 #[derive(Debug, Drop)]
 pub struct Net {
     known: Known,
+    // The labels of arcs, some of which many arcs have.
+    labels: Vec<Label>,
     // The arcs by their tails, and where each arc stands, in file order.
-    out: Groups<Arc>,
+    out: Groups<KeptArc>,
     arc_spots: Vec<Spot>,
     // The ids of the arcs by their heads.
     heard: Groups<ArcId>,
@@ -46,21 +51,24 @@ impl Model for Net {
 }
 
 impl Net {
+    ghost use Rattle.alg_model.specs.Views.{pure_label};
     ghost use Rattle.net_graph.specs.Views.{pure_arc, pure_origin, pure_change};
     ghost use Rattle.net_graph.specs.Changes.{changed, MayChange};
+    ghost use Rattle.net_graph.specs.LabelNumbers.{AreLabelNumbers};
     ghost use Rattle.net_graph.specs.Parts.{IsKnown, IsFiled};
     ghost use Rattle.net_graph.specs.NetParts.{net_in};
     ghost use Rattle.net_graph.specs.RowTexts.{node_text, dest_text};
 
     // The network of these parts.
-    pub(crate) fn from_parts(known: Known, lines: FiledLines) -> Net
-        requires known { IsKnown (net_in known lines) known.arc_pairs known.origin_pairs }
-        requires filed { IsFiled (net_in known lines)
+    pub(crate) fn from_parts(known: Known, labels: Vec<Label>, lines: FiledLines) -> Net
+        requires known { IsKnown (net_in known labels.items lines) known.arc_pairs known.origin_pairs }
+        requires filed { IsFiled (net_in known labels.items lines) (map pure_label labels.items)
             lines.out.groups lines.out.spots.items lines.heard lines.homes.groups lines.homes.spots.items }
-        ensures { result ≡ net_in known lines }
+        ensures { result ≡ net_in known labels.items lines }
     {
         Net {
             known,
+            labels,
             out: lines.out.groups,
             arc_spots: lines.out.spots,
             heard: lines.heard,
@@ -167,12 +175,12 @@ impl Net {
     }
 
     /// Lends the arcs that the node may route by, in file order.
-    pub fn out_arcs(&self, node: NodeId) -> &[Arc]
+    pub fn out_arcs(&self, node: NodeId) -> OutArcs<'_>
         requires { node.0 < length self.now.nodes }
-        ensures arcs { map pure_arc result.now ≡ arcs_from self.now node.0 }
-        ensures within { AllByRecursion (λ a. IsArcOf self.now.alg (length self.now.nodes) (pure_arc a)) result.now }
+        ensures arcs { result ≡ arcs_from self.now node.0 }
+        ensures within { AllByRecursion (IsArcOf self.now.alg (length self.now.nodes)) result }
     {
-        self.out.group(node.0 as usize)
+        OutArcs::new(&self.labels, self.out.group(node.0 as usize))
     }
 
     /// Lends the ids of the arcs that the node speaks on, in file order.
@@ -184,12 +192,20 @@ impl Net {
     }
 
     /// Lends the arc of that number.
-    pub fn arc(&self, id: ArcId) -> &Arc
+    pub fn arc(&self, id: ArcId) -> Arc<'_>
         requires { id.0 < length self.now.arcs }
-        ensures arc { slice_get self.now.arcs id.0 ≡ Some (pure_arc result.now) }
-        ensures within { IsArcOf self.now.alg (length self.now.nodes) (pure_arc result.now) }
+        ensures arc { slice_get self.now.arcs id.0 ≡ Some (pure_arc result) }
+        ensures within { IsArcOf self.now.alg (length self.now.nodes) (pure_arc result) }
     {
-        self.out.item(self.arc_spots[id.0 as usize])
+        let arc = self.out.item(self.arc_spots[id.0 as usize]);
+        arc.with_label(&self.labels)
+    }
+
+    /// Lends the numbers of the labels on the arcs.
+    pub fn label_numbers(&self) -> LabelNumbers<'_>
+        ensures { AreLabelNumbers self.now result }
+    {
+        LabelNumbers::new(self.labels.len(), &self.out, &self.arc_spots)
     }
 
     /// Where the arc of that number stands among the arcs of its tail, in file order, from 0.
@@ -211,6 +227,19 @@ impl Net {
         self.homes.group(dest.0 as usize)
     }
 
+    // Equal arcs, in file order.
+    fn copy_arcs(&self, alloc: Global) -> Result<Arcs, NoMemory>
+        ensures arcs { IfOk result (λ arcs. arcs ≡ self.now.arcs) }
+        ensures few { IfOk result (λ arcs. CanBeNumbered (length arcs)) }
+    {
+        let labels = copy_labels(alloc, &self.labels)?;
+        let mut arcs = Vec::with_capacity(alloc, self.arc_spots.len())?;
+        for spot in &self.arc_spots {
+            arcs.push(*self.out.item(*spot))?;
+        }
+        Ok(Arcs::from_parts(labels, arcs))
+    }
+
     // Equal origins, in file order.
     fn copy_origins(&self, alloc: Global) -> Result<Vec<Origin>, NoMemory>
         ensures { IfOk result (λ origins. map pure_origin origins.items ≡ self.now.origins) }
@@ -228,7 +257,7 @@ impl Net {
         requires { MayChange self.now (pure_change change.now) }
         ensures { IfOk result (λ net. net ≡ changed self.now (pure_change change.now)) }
     {
-        let arcs = changed_arcs(alloc, self, change)?;
+        let arcs = self.copy_arcs(alloc)?.changed(alloc, change)?;
         let origins = self.copy_origins(alloc)?;
         let known = self.known.copy_with(alloc, &arcs)?;
         NetDraft::from_parts(alloc, known, arcs, origins).finish()

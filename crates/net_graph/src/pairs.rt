@@ -1,7 +1,6 @@
 ghost use Rattle.std.specs.Prelude.{◌≡◌, ◌<◌, ◌++◌, ◌∷◌, [], false, length, position, IfOk, IfSome, OnOk, OnErr};
 ghost use Rattle.net_graph.specs.Pairs.{has_pair, is_pair};
 
-use crate::Arc;
 use indexmap::IndexSet;
 use meta_base::NoMemory;
 use std::alloc::Global;
@@ -22,10 +21,7 @@ impl Model for Pairs {
 }
 
 impl Pairs {
-    ghost use Rattle.std.specs.Prelude.{map};
-    ghost use Rattle.net_graph.specs.Nets.{AreDistinct, joins_same};
-    ghost use Rattle.net_graph.specs.Parts.{arc_pair};
-    ghost use Rattle.net_graph.specs.Views.{pure_arc};
+    ghost use Rattle.std.specs.Prelude.{List, ℕ};
 
     /// No pair.
     pub fn new(alloc: Global) -> Pairs
@@ -60,18 +56,6 @@ impl Pairs {
         })
     }
 
-    /// The tails and heads of the arcs.
-    pub fn of_arcs(alloc: Global, arcs: &[Arc]) -> Result<Pairs, NoMemory>
-        requires { AreDistinct joins_same (map pure_arc arcs.now) }
-        ensures { IfOk result (λ pairs. pairs ≡ map arc_pair (map pure_arc arcs.now)) }
-    {
-        let mut pairs = Pairs::new(alloc);
-        for arc in arcs {
-            pairs.add(arc.tail.0, arc.head.0)?;
-        }
-        Ok(pairs)
-    }
-
     /// Adds a pair that isn't there. After a refusal nothing has changed.
     pub fn add(&mut self, first: u32, second: u32) -> Result<(), NoMemory>
         requires { has_pair self.old first second ≡ false }
@@ -80,5 +64,12 @@ impl Pairs {
     {
         self.pairs.insert((first, second))?;
         Ok(())
+    }
+
+    /// Drops the last pair.
+    pub fn drop_last(&mut self)
+        ensures { (pairs : List (ℕ × ℕ)) (pair : ℕ × ℕ) → self.old ≡ pairs ++ pair ∷ [] → self.new ≡ pairs }
+    {
+        let _ = self.pairs.pop();
     }
 }

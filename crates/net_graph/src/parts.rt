@@ -3,21 +3,12 @@ ghost use Rattle.net_graph.specs.Nets.{CanBeNumbered, is_name, number_of};
 ghost use Rattle.net_graph.specs.Dests.{dests_with, dest_number};
 ghost use Rattle.net_graph.specs.Pairs.{has_pair};
 
+use crate::arcs::{Arcs, KeptArc};
 use crate::names::Names;
 use crate::pairs::Pairs;
-use alg_model::{Alg, Label, Value};
-use meta_base::{ArcId, DestId, NoMemory, NodeId};
+use alg_model::{Alg, Value};
+use meta_base::{DestId, NoMemory, NodeId};
 use std::alloc::Global;
-
-/// An arc: its tail may route by its head, so the tail listens and the head speaks. The label says
-/// what the arc does to the value of a route that passes it.
-#[derive(Debug, Drop)]
-pub struct Arc {
-    pub id: ArcId,
-    pub tail: NodeId,
-    pub head: NodeId,
-    pub label: Label,
-}
 
 /// An origin: the node has a value of its own for the destination.
 #[derive(Debug, Drop)]
@@ -65,7 +56,6 @@ impl Known {
     ghost use Rattle.std.specs.Prelude.{map};
     ghost use Rattle.net_graph.specs.Nets.{AreDistinct, joins_same};
     ghost use Rattle.net_graph.specs.Parts.{arc_pair};
-    ghost use Rattle.net_graph.specs.Views.{pure_arc};
 
     /// The node of that name.
     pub fn node_named(&self, name: &[u8]) -> Option<NodeId>
@@ -84,15 +74,15 @@ impl Known {
     }
 
     /// The same, with these arcs in place of those that there are.
-    pub fn copy_with(&self, alloc: Global, arcs: &[Arc]) -> Result<Known, NoMemory>
-        requires { AreDistinct joins_same (map pure_arc arcs.now) }
-        ensures { IfOk result (λ known. known ≡ record self.now { arc_pairs = map arc_pair (map pure_arc arcs.now) }) }
+    pub fn copy_with(&self, alloc: Global, arcs: &Arcs) -> Result<Known, NoMemory>
+        requires { AreDistinct joins_same arcs.now }
+        ensures { IfOk result (λ known. known ≡ record self.now { arc_pairs = map arc_pair arcs.now }) }
     {
         Ok(Known {
             alg: copy_alg(alloc, &self.alg)?,
             nodes: self.nodes.copy(alloc)?,
             dests: self.dests.copy(alloc)?,
-            arc_pairs: Pairs::of_arcs(alloc, arcs)?,
+            arc_pairs: arcs.pairs(alloc)?,
             origin_pairs: self.origin_pairs.copy()?,
         })
     }
@@ -140,7 +130,7 @@ pub(crate) trait Keyed {
 }
 
 // Arcs are filed under their tails.
-impl Keyed for Arc {
+impl Keyed for KeptArc {
     ghost key = { λ a. a.tail.0 };
 
     fn key(&self) -> usize {

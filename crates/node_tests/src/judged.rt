@@ -1,10 +1,11 @@
 // Tests of `report_check`: which reports are read, what the tables that they mean are judged to be, and which next hops
 // are equally good.
+use alg_model::TreeAlgebra;
 use meta_base::{DestId, NodeId};
 use net_graph::Net;
 use report_check::{
     MAX_REPORT_BYTES, ManyHops, OptimalFinding, ReportError, StableFinding, best_hops, judge,
-    read_report,
+    out_labels, read_report,
 };
 use stable_check::is_table_of;
 use std::alloc::Global;
@@ -112,7 +113,8 @@ fn is_judged(
         return Err("the report is too long".into());
     }
     let tables = read_report(alloc, net, report)?;
-    let judgement = judge(alloc, net, tables.as_slice())?;
+    let algebra = TreeAlgebra::new(net.alg());
+    let judgement = judge(alloc, &algebra, net, tables.as_slice())?;
     Ok(
         is_optimal(alloc, net, &judgement.optimal, optimal)?
             && is_stable(alloc, net, &judgement.stable, stable)?,
@@ -307,7 +309,9 @@ fn has_hops(alloc: Global, net: &Net, rows: &str, hops: &str) -> Result<bool, Fa
     if !is_table_of(net, &table) {
         return Err("no table".into());
     }
-    let many = best_hops(alloc, net, &table)?;
+    let algebra = TreeAlgebra::new(net.alg());
+    let labels = out_labels(alloc, &algebra, net)?;
+    let many = best_hops(alloc, &algebra, net, &labels, &table)?;
     let mut place = 0;
     for text in hops.split(" / ") {
         let Some(found) = many.as_slice().get(place) else {

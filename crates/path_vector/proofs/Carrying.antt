@@ -1,18 +1,16 @@
 -- The neighbours of a node that begins, which were heard before a change.
 use Rattle.std.proofs.Common.{◌≡◌, ℕ, ◌<◌, ◌==◌, zero, suc, ◌+◌, ◌≤◌, List, [], ◌∷◌, ◌++◌, Bool, true, false, cond, length, map, slice_get, Option, Some, None, refl, sym, ap, subst, ◌∙◌, arith}
-use Rattle.std.specs.Prelude.{find, option_map, option_and_then, position, get_or, IfSome}
+use Rattle.std.specs.Prelude.{find, option_map, option_and_then, position, IfSome}
 use Rattle.std.proofs.Math.ListN.{drop, set, take}
 use Rattle.std.proofs.Math.Path.{fun_ext}
 use Rattle.std.proofs.lemmas.Bool.Decides.{nat_tests}
-use Rattle.std.proofs.lemmas.Option.{slice_get-map, slice_get-get_or, slice_get_within}
+use Rattle.std.proofs.lemmas.Option.{slice_get_within}
 use Rattle.alg_model.specs.declared.edition.TheConstants.{MAX_LABEL_NUMBER}
 use Rattle.alg_model.specs.Bounds.{LabelAtMost, greatest_number}
 use Rattle.alg_model.specs.Laws.{label_at_most_more, greatest_is_bounded}
 use Rattle.alg_model.specs.Expressions.{PureLabel, PureValue}
 use Rattle.net_graph.specs.NetLaws.{found_at_place, nothing_at_place}
 use Rattle.net_graph.specs.Nets.{PureArc, PureNet, IsNet, IsArcOf, is_arc_between, arcs_from}
-use Rattle.net_graph.specs.Views.{pure_arc}
-use Rattle.net_graph.specs.declared.parts.Arc.{Arc}
 use Rattle.net_graph.specs.Routes.{PureRoute}
 use Rattle.path_vector.specs.Columns.{HasEntries}
 use Rattle.path_vector.specs.Choosing.{IsArcThere, arc_is_found, arc_stands, found_there}
@@ -63,13 +61,7 @@ module _ {L S : Type 0} (value : S → PureValue) (ns : List (Listened L S)) (n 
       by None f = rw (find_next (is_at a) ns (n ∷ []) f, e) refl
       by (Some m) f = rw (find_first (is_at a) ns (n ∷ []) m f, alone m f) refl
 
--- the arc at a place of those from a node
-pub arc_there : (arcs : List Arc) (all : List PureArc) (k : ℕ) (a : Arc) → map pure_arc arcs ≡ all → k < length arcs → a ≡ get_or arcs k a → slice_get all k ≡ Some (pure_arc a)
-arc_there arcs all k a e l is =
-    let there : slice_get arcs k ≡ Some a = slice_get-get_or arcs k a l ∙ ap (λ z. Some z) (sym is) in
-    subst (λ z. slice_get z k ≡ Some (pure_arc a)) e (slice_get-map pure_arc arcs k ∙ ap (option_map pure_arc) there)
-
--- its label may be taken into an algebra
+-- the label of an arc may be taken into an algebra
 pub small_label : (net : PureNet) (i k : ℕ) (a : PureArc) → IsNet net → slice_get (arcs_from net i) k ≡ Some a → LabelAtMost MAX_LABEL_NUMBER a.label
 small_label net i k a n e =
     let item = (item_passed (λ (b : PureArc). b.tail == i) net.arcs a (item_at (arcs_from net i) k a e)).0 in

@@ -3,12 +3,9 @@ use Rattle.std.proofs.Common.{◌≡◌, ℕ, suc, ◌*◌, ◌<◌, ◌≤◌, 
 use Rattle.std.specs.Prelude.{filter, find, option_map, option_and_then, IfOk, Result, Ok, Err}
 use Rattle.std.proofs.Math.ListN.{take}
 use Rattle.std.proofs.Math.Nat.{mul-le-mul}
-use Rattle.std.proofs.lemmas.List.{length-map}
 use Rattle.alg_model.specs.Expressions.{PureLabel, PureValue}
 use Rattle.net_graph.specs.Nets.{PureArc, PureNet, IsNet, arcs_from}
 use Rattle.net_graph.specs.Routes.{PureRoute}
-use Rattle.net_graph.specs.Views.{pure_arc}
-use Rattle.net_graph.specs.declared.parts.Arc.{Arc}
 use Rattle.net_graph.specs.declared.limits.TheConstants.{MAX_ARCS, MOST_DESTS}
 use Rattle.path_vector.specs.Columns.{AreSilent, IsSilent}
 use Rattle.path_vector.specs.Known.{entry_of, heard_by, known_route, AreNeighbours, IsNeighbour, Listened}
@@ -30,11 +27,8 @@ at_more stands_for (b ∷ arcs) [] a n are e l = absurd are
 at_more stands_for (b ∷ arcs) (m ∷ ns) a n are e l = (are.0, are.1, at_more stands_for arcs ns a n are.2 e l)
 
 -- once all arcs are done
-pub at_end : {L : Type 0} (stands_for : L → PureLabel → Type 0) (arcs : List Arc) (all : List PureArc) → map pure_arc arcs ≡ all → (k : ℕ) → length arcs ≤ k → (ns : List (Neighbour L)) → AreAt stands_for (take k all) ns
-    → AreAt stands_for all ns
-at_end stands_for arcs all e k past ns are =
-    let few : length all ≤ k = (let count = ap length (sym e) ∙ length-map arcs pure_arc in omega arith) in
-    subst (λ z. AreAt stands_for z ns) (take_whole all k few) are
+pub at_end : {L : Type 0} (stands_for : L → PureLabel → Type 0) (all : List PureArc) (k : ℕ) → length all ≤ k → (ns : List (Neighbour L)) → AreAt stands_for (take k all) ns → AreAt stands_for all ns
+at_end stands_for all k past ns are = subst (λ z. AreAt stands_for z ns) (take_whole all k past) are
 
 as_many : {L : Type 0} (stands_for : L → PureLabel → Type 0) (arcs : List PureArc) (ns : List (Neighbour L)) → AreAt stands_for arcs ns → length ns ≡ length arcs
 as_many stands_for [] [] are = refl

@@ -6,9 +6,9 @@ ghost use Rattle.path_vector.specs.Node.{choice};
 use crate::heard::Heard;
 use crate::known::Known;
 use crate::offer::{Offer, keep_better, offer_into, taken_by};
+use crate::site::Site;
 use alg_model::Algebra;
-use meta_base::{DestId, NoMemory, NodeId};
-use net_graph::Net;
+use meta_base::{DestId, NoMemory};
 use std::alloc::Global;
 
 // What the node's own origin offers it, if there is one with that value.
@@ -36,34 +36,42 @@ fn own_offer<'p, A: Algebra>(
 // for each arc that it may route by. Offers are made in the memory of the spare value.
 pub(crate) fn choose<A: Algebra>(
     alloc: Global,
-    algebra: &A,
-    net: &Net,
-    node: NodeId,
+    site: &Site<'_, A>,
     own: &Option<A::Sig>,
     neighbours: &Heard<A::Lab, A::Sig>,
     dest: DestId,
     spare: &mut Option<A::Sig>,
 ) -> Result<Option<Known<A::Sig>>, NoMemory>
-    requires algebra { A.expression algebra.now ≡ net.now.alg.expression }
-    requires net { IsNet net.now }
-    requires dest { dest.0 < length net.now.dests }
-    requires own { IfSome own.now (A.is_sig algebra.now) }
-    requires origin { option_map (A.sig_value algebra.now) own.now ≡ origin_value net.now dest.0 node.0 }
-    requires neighbours { AreNeighbours (A.stands_for algebra.now) (A.is_sig algebra.now) (A.sig_value algebra.now)
-        net.now (arcs_from net.now node.0) neighbours.now }
-    ensures sig { IfOk result (λ row. IfSome row (λ k. A.is_sig algebra.now k.sig)) }
-    ensures choice { let value = A.sig_value algebra.now in IfOk result (λ row. option_map (known_route value) row ≡
-        choice net.now dest.0 node.0 (heard_by value neighbours.now)) }
+    requires algebra { let at = site.now in A.expression at.algebra.now ≡ at.net.now.alg.expression }
+    requires net { IsNet site.now.net.now }
+    requires dest { dest.0 < length site.now.net.now.dests }
+    requires own { IfSome own.now (A.is_sig site.now.algebra.now) }
+    requires origin { let at = site.now in
+        option_map (A.sig_value at.algebra.now) own.now ≡ origin_value at.net.now dest.0 at.node.0 }
+    requires neighbours { let at = site.now in AreNeighbours (A.stands_for at.algebra.now) (A.is_sig at.algebra.now)
+        (A.sig_value at.algebra.now) at.net.now (arcs_from at.net.now at.node.0) neighbours.now }
+    ensures sig { IfOk result (λ row. IfSome row (λ k. A.is_sig site.now.algebra.now k.sig)) }
+    ensures choice { let at = site.now in let value = A.sig_value at.algebra.now in
+        IfOk result (λ row. option_map (known_route value) row ≡
+        choice at.net.now dest.0 at.node.0 (heard_by value neighbours.now)) }
 {
-    let mut best = own_offer(alloc, algebra, own)?;
+    let mut best = own_offer(alloc, site.algebra, own)?;
     for place in 0..neighbours.count() {
         let label = &neighbours.neighbour(place).label;
         let known = neighbours.route(place, dest.0 as usize);
-        let after = offer_into(alloc, algebra, net, node, label, known, spare)?;
-        keep_better(algebra, &mut best, after, spare);
+        let after = offer_into(
+            alloc,
+            site.algebra,
+            site.net,
+            site.node,
+            label,
+            known,
+            spare,
+        )?;
+        keep_better(site.algebra, &mut best, after, spare);
     }
     match best {
-        Some(offer) => Ok(Some(taken_by(alloc, node, offer)?)),
+        Some(offer) => Ok(Some(taken_by(alloc, site.node, offer)?)),
         None => Ok(None),
     }
 }

@@ -44,7 +44,7 @@ fn may_be_of(net: &Net, speaker: NodeId, route: &SharedRoute) -> bool
 
 // Whether the update may come on the arc: its destination is the network's, and its route, if it has one, may be
 // the speaker's.
-pub(crate) fn fits(net: &Net, arc: &Arc, update: &Update) -> bool
+pub(crate) fn fits(net: &Net, arc: &Arc<'_>, update: &Update) -> bool
     ensures { result ≡ fits_on net.now (pure_arc arc.now) (pure_update update.now) }
 {
     if update.dest.0 as usize >= net.dest_count() {

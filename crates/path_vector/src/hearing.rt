@@ -13,10 +13,10 @@ use crate::heard::Heard;
 use crate::known::{Known, known_of};
 use crate::rechoosing::{Change, rechoose};
 use crate::shared::Shared;
-use crate::update::{SharedRoute, Update};
+use crate::site::{Arrival, Site};
+use crate::update::SharedRoute;
 use alg_model::Algebra;
-use meta_base::{ArcId, NoMemory, NodeId};
-use net_graph::Net;
+use meta_base::NoMemory;
 use std::alloc::Global;
 
 // The route of an update in the algebra's form, if it has one.
@@ -40,52 +40,46 @@ fn heard_route<A: Algebra>(
 // choice before. After want of memory what was heard is as it was.
 pub(crate) fn hear<A: Algebra>(
     alloc: Global,
-    algebra: &A,
-    net: &Net,
-    node: NodeId,
+    site: &Site<'_, A>,
     own: &[Option<A::Sig>],
     neighbours: &mut Heard<A::Lab, A::Sig>,
     rows: &[Option<Known<A::Sig>>],
-    arc: ArcId,
-    update: &Update,
-    clock: u64,
+    arrival: &Arrival<'_>,
     spare: &mut Option<A::Sig>,
 ) -> Result<Option<Change<A::Sig>>, NoMemory>
-    requires algebra { A.expression algebra.now ≡ net.now.alg.expression }
-    requires net { IsNet net.now }
-    requires kept { IsKept (A.stands_for algebra.now) (A.is_sig algebra.now) (A.sig_value algebra.now)
-        net.now node.0 own.now neighbours.old rows.now }
-    requires fits { (a : PureArc) × (slice_get net.now.arcs arc.0 ≡ Some a) × (a.tail ≡ node.0)
-        × (fits_on net.now a (pure_update update.now) ≡ true) }
-    requires chosen { let value = A.sig_value algebra.now in row_routes value rows.now update.now.dest.0 ≡
-        choice net.now update.now.dest.0 node.0 (heard_by value neighbours.old) }
-    ensures sig { IfOk result (λ change. HasSigs (A.is_sig algebra.now) change) }
-    ensures kept { IsKept (A.stands_for algebra.now) (A.is_sig algebra.now) (A.sig_value algebra.now)
-        net.now node.0 own.now neighbours.new rows.now }
-    ensures err { let value = A.sig_value algebra.now in
+    requires algebra { let at = site.now in A.expression at.algebra.now ≡ at.net.now.alg.expression }
+    requires net { IsNet site.now.net.now }
+    requires kept { let at = site.now in IsKept (A.stands_for at.algebra.now) (A.is_sig at.algebra.now)
+        (A.sig_value at.algebra.now) at.net.now at.node.0 own.now neighbours.old rows.now }
+    requires fits { let at = site.now in
+        (a : PureArc) × (slice_get at.net.now.arcs arrival.now.arc.0 ≡ Some a) × (a.tail ≡ at.node.0)
+        × (fits_on at.net.now a (pure_update arrival.now.update.now) ≡ true) }
+    requires chosen { let at = site.now in let value = A.sig_value at.algebra.now in
+        let dest = arrival.now.update.now.dest.0 in
+        row_routes value rows.now dest ≡ choice at.net.now dest at.node.0 (heard_by value neighbours.old) }
+    ensures sig { IfOk result (λ change. HasSigs (A.is_sig site.now.algebra.now) change) }
+    ensures kept { let at = site.now in IsKept (A.stands_for at.algebra.now) (A.is_sig at.algebra.now)
+        (A.sig_value at.algebra.now) at.net.now at.node.0 own.now neighbours.new rows.now }
+    ensures err { let value = A.sig_value site.now.algebra.now in
         OnErr result (heard_by value neighbours.new ≡ heard_by value neighbours.old) }
-    ensures heard { let value = A.sig_value algebra.now in OnOk result (heard_by value neighbours.new ≡
-        heard_with (heard_by value neighbours.old) arc.0 (pure_update update.now)) }
-    ensures change { let value = A.sig_value algebra.now in
-        IfOk result (IsChange value net.now node.0 update.now.dest.0 clock
-        (row_routes value rows.now update.now.dest.0)
-        (choice net.now update.now.dest.0 node.0 (heard_by value neighbours.new))) }
+    ensures heard { let value = A.sig_value site.now.algebra.now in OnOk result (heard_by value neighbours.new ≡
+        heard_with (heard_by value neighbours.old) arrival.now.arc.0 (pure_update arrival.now.update.now)) }
+    ensures change { let at = site.now in let value = A.sig_value at.algebra.now in
+        let dest = arrival.now.update.now.dest.0 in
+        IfOk result (IsChange value at.net.now at.node.0 dest arrival.now.clock (row_routes value rows.now dest)
+        (choice at.net.now dest at.node.0 (heard_by value neighbours.new))) }
 {
-    let dest = update.dest.0 as usize;
-    let place = net.place_of(arc);
-    let route = heard_route(alloc, algebra, &update.route)?;
+    let dest = arrival.update.dest.0 as usize;
+    let place = site.net.place_of(arrival.arc);
+    let route = heard_route(alloc, site.algebra, &arrival.update.route)?;
     let earlier = neighbours.hear(place, dest, route);
     match rechoose(
         alloc,
-        algebra,
-        net,
-        node,
+        site,
         &own[dest],
         neighbours,
         &rows[dest],
-        arc,
-        update.dest,
-        clock,
+        arrival,
         spare,
     ) {
         Ok(change) => Ok(change),

@@ -20,6 +20,7 @@ mod rechoosing;
 mod reporting;
 mod rows;
 mod shared;
+mod site;
 mod update;
 
 pub use laws::{

@@ -30,11 +30,12 @@ pub(crate) fn silent_neighbours<A: Algebra>(
 {
     let dests = net.dest_count();
     let arcs = net.out_arcs(node);
-    let mut neighbours = Vec::with_capacity(alloc, arcs.len())?;
-    for arc in arcs {
+    let mut neighbours = Vec::with_capacity(alloc, arcs.count())?;
+    for place in 0..arcs.count() {
+        let arc = arcs.get(place);
         neighbours.push(Neighbour {
             arc: arc.id,
-            label: algebra.lab_of(alloc, &arc.label)?,
+            label: algebra.lab_of(alloc, arc.label)?,
         })?;
     }
     Heard::nothing(alloc, neighbours, dests)

@@ -16,6 +16,7 @@ use crate::hearing::hear;
 use crate::known::{Known, route_of};
 use crate::neighbours::{carried_neighbours, silent_neighbours};
 use crate::own::own_sigs;
+use crate::site::{Arrival, Site};
 use crate::update::Update;
 use alg_model::Algebra;
 use meta_base::{ArcId, DestId, NoMemory, NodeId};
@@ -168,17 +169,18 @@ impl<'a, A: Algebra> PvNode<'a, A> {
             (taken (state_of self.old) arc.0 (pure_update update.now) clock).1) }
         ensures err { OnErr result ((state_of self.new ≡ state_of self.old) × (out.new ≡ [])) }
     {
+        let site = Site {
+            algebra: self.algebra,
+            net: self.net,
+            node: self.number,
+        };
         let change = hear(
             *self.rows.allocator(),
-            self.algebra,
-            self.net,
-            self.number,
+            &site,
             &self.own,
             &mut self.neighbours,
             &self.rows,
-            arc,
-            update,
-            clock,
+            &Arrival { arc, update, clock },
             &mut self.spare,
         )?;
         self.last = clock;
@@ -227,12 +229,15 @@ impl<'a, A: Algebra> NodeCore for PvNode<'a, A> {
     }
 
     fn on_start(&mut self, out: &mut Outgoing<Update>) -> Result<(), NoMemory> {
+        let site = Site {
+            algebra: self.algebra,
+            net: self.net,
+            node: self.number,
+        };
         let (rows, reported) = begun_rows(
             *self.rows.allocator(),
-            self.algebra,
-            self.net,
+            &site,
             self.before,
-            self.number,
             &self.own,
             &self.neighbours,
             &self.rows,
@@ -251,7 +256,7 @@ impl<'a, A: Algebra> NodeCore for PvNode<'a, A> {
         clock: u64,
         out: &mut Outgoing<Update>,
     ) -> Result<(), NoMemory> {
-        if fits(self.net, self.net.arc(arc), update) {
+        if fits(self.net, &self.net.arc(arc), update) {
             return self.take(arc, update, clock, out);
         }
         self.last = clock;

@@ -14,10 +14,10 @@ use crate::known::{Known, are_same, reported_of};
 use crate::offer::{is_first, offer_into, take_offer, taken_by};
 use crate::paths::{after, is_second};
 use crate::reporting::reported;
+use crate::site::{Arrival, Site};
 use crate::update::Update;
 use alg_model::Algebra;
-use meta_base::{ArcId, DestId, NoMemory, NodeId};
-use net_graph::Net;
+use meta_base::{DestId, NoMemory, NodeId};
 use node_core::Outgoing;
 use std::alloc::Global;
 
@@ -69,27 +69,25 @@ pub(crate) struct Change<S> {
 // The change from the one row to the other, if they aren't one.
 fn change_of<A: Algebra>(
     alloc: Global,
-    algebra: &A,
-    net: &Net,
-    node: NodeId,
+    site: &Site<'_, A>,
     before: &Option<Known<A::Sig>>,
     row: Option<Known<A::Sig>>,
     dest: DestId,
     clock: u64,
 ) -> Result<Option<Change<A::Sig>>, NoMemory>
-    requires node { node.0 < length net.now.nodes }
-    requires before { IfSome before.now (λ k. A.is_sig algebra.now k.sig) }
-    requires row { IfSome row (λ k. A.is_sig algebra.now k.sig) }
-    ensures sig { IfOk result (λ change. HasSigs (A.is_sig algebra.now) change) }
-    ensures change { let value = A.sig_value algebra.now in
-        IfOk result (IsChange value net.now node.0 dest.0 clock
+    requires node { site.now.node.0 < length site.now.net.now.nodes }
+    requires before { IfSome before.now (λ k. A.is_sig site.now.algebra.now k.sig) }
+    requires row { IfSome row (λ k. A.is_sig site.now.algebra.now k.sig) }
+    ensures sig { IfOk result (λ change. HasSigs (A.is_sig site.now.algebra.now) change) }
+    ensures change { let at = site.now in let value = A.sig_value at.algebra.now in
+        IfOk result (IsChange value at.net.now at.node.0 dest.0 clock
         (option_map (known_route value) before.now) (option_map (known_route value) row)) }
 {
-    if is_same_row(alloc, algebra, &row, before)? {
+    if is_same_row(alloc, site.algebra, &row, before)? {
         return Ok(None);
     }
-    let update = update_of(alloc, algebra, dest, &row, clock)?;
-    let reported = reported(alloc, net, node, update)?;
+    let update = update_of(alloc, site.algebra, dest, &row, clock)?;
+    let reported = reported(alloc, site.net, site.node, update)?;
     Ok(Some(Change { row, reported }))
 }
 
@@ -133,49 +131,57 @@ fn is_worse<A: Algebra>(
 // the row; the other neighbours are asked only where that was the row's own arc and the row is lost.
 pub(crate) fn rechoose<A: Algebra>(
     alloc: Global,
-    algebra: &A,
-    net: &Net,
-    node: NodeId,
+    site: &Site<'_, A>,
     own: &Option<A::Sig>,
     neighbours: &Heard<A::Lab, A::Sig>,
     before: &Option<Known<A::Sig>>,
-    arc: ArcId,
-    dest: DestId,
-    clock: u64,
+    arrival: &Arrival<'_>,
     spare: &mut Option<A::Sig>,
 ) -> Result<Option<Change<A::Sig>>, NoMemory>
-    requires algebra { A.expression algebra.now ≡ net.now.alg.expression }
-    requires net { IsNet net.now }
-    requires node { node.0 < length net.now.nodes }
-    requires dest { dest.0 < length net.now.dests }
-    requires own { IfSome own.now (A.is_sig algebra.now) }
-    requires origin { option_map (A.sig_value algebra.now) own.now ≡ origin_value net.now dest.0 node.0 }
-    requires neighbours { AreNeighbours (A.stands_for algebra.now) (A.is_sig algebra.now) (A.sig_value algebra.now)
-        net.now (arcs_from net.now node.0) neighbours.now }
-    requires before { IfSome before.now (λ k. A.is_sig algebra.now k.sig) }
-    requires begins { IfSome before.now (λ k. begins_with node.0 (numbers k.path) ≡ true) }
-    requires settles { let value = A.sig_value algebra.now in
-        (a : PureArc) × (slice_get net.now.arcs arc.0 ≡ Some a) × (a.tail ≡ node.0)
-        × Settles net.now dest.0 node.0 (heard_by value neighbours.now) a (option_map (known_route value) before.now) }
-    ensures sig { IfOk result (λ change. HasSigs (A.is_sig algebra.now) change) }
-    ensures change { let value = A.sig_value algebra.now in
-        IfOk result (IsChange value net.now node.0 dest.0 clock (option_map (known_route value) before.now)
-        (choice net.now dest.0 node.0 (heard_by value neighbours.now))) }
+    requires algebra { let at = site.now in A.expression at.algebra.now ≡ at.net.now.alg.expression }
+    requires net { IsNet site.now.net.now }
+    requires node { site.now.node.0 < length site.now.net.now.nodes }
+    requires dest { arrival.now.update.now.dest.0 < length site.now.net.now.dests }
+    requires own { IfSome own.now (A.is_sig site.now.algebra.now) }
+    requires origin { let at = site.now in option_map (A.sig_value at.algebra.now) own.now ≡
+        origin_value at.net.now arrival.now.update.now.dest.0 at.node.0 }
+    requires neighbours { let at = site.now in AreNeighbours (A.stands_for at.algebra.now) (A.is_sig at.algebra.now)
+        (A.sig_value at.algebra.now) at.net.now (arcs_from at.net.now at.node.0) neighbours.now }
+    requires before { IfSome before.now (λ k. A.is_sig site.now.algebra.now k.sig) }
+    requires begins { IfSome before.now (λ k. begins_with site.now.node.0 (numbers k.path) ≡ true) }
+    requires settles { let at = site.now in let value = A.sig_value at.algebra.now in
+        (a : PureArc) × (slice_get at.net.now.arcs arrival.now.arc.0 ≡ Some a) × (a.tail ≡ at.node.0)
+        × Settles at.net.now arrival.now.update.now.dest.0 at.node.0 (heard_by value neighbours.now) a
+        (option_map (known_route value) before.now) }
+    ensures sig { IfOk result (λ change. HasSigs (A.is_sig site.now.algebra.now) change) }
+    ensures change { let at = site.now in let value = A.sig_value at.algebra.now in
+        let dest = arrival.now.update.now.dest.0 in
+        IfOk result (IsChange value at.net.now at.node.0 dest arrival.now.clock
+        (option_map (known_route value) before.now) (choice at.net.now dest at.node.0 (heard_by value neighbours.now))) }
 {
-    let place = net.place_of(arc);
+    let dest = arrival.update.dest;
+    let place = site.net.place_of(arrival.arc);
     let label = &neighbours.neighbour(place).label;
     let known = neighbours.route(place, dest.0 as usize);
-    let after_offer = offer_into(alloc, algebra, net, node, label, known, spare)?;
-    if is_worse(algebra, node, after_offer, spare, before) {
-        if !goes_by(algebra, before, net.arc(arc).head) {
+    let after_offer = offer_into(
+        alloc,
+        site.algebra,
+        site.net,
+        site.node,
+        label,
+        known,
+        spare,
+    )?;
+    if is_worse(site.algebra, site.node, after_offer, spare, before) {
+        if !goes_by(site.algebra, before, site.net.arc(arrival.arc).head) {
             return Ok(None);
         }
-        let row = choose(alloc, algebra, net, node, own, neighbours, dest, spare)?;
-        return change_of(alloc, algebra, net, node, before, row, dest, clock);
+        let row = choose(alloc, site, own, neighbours, dest, spare)?;
+        return change_of(alloc, site, before, row, dest, arrival.clock);
     }
     let Some(offer) = take_offer(after_offer, spare) else {
         return Ok(None);
     };
-    let row = Some(taken_by(alloc, node, offer)?);
-    change_of(alloc, algebra, net, node, before, row, dest, clock)
+    let row = Some(taken_by(alloc, site.node, offer)?);
+    change_of(alloc, site, before, row, dest, arrival.clock)
 }

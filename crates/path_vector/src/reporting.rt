@@ -38,7 +38,7 @@ fn report_all(alloc: Global, arcs: &[ArcId], update: Update) -> Result<Outgoing<
 }
 
 // Whether the node spoke on the arc in the network that it comes from, if it was carried.
-fn spoke_on(before: Option<&Net>, arc: &Arc) -> bool
+fn spoke_on(before: Option<&Net>, arc: &Arc<'_>) -> bool
     ensures { result ≡ spoken_in (option_map (λ n. n.now) before.entry) arc.now.tail.0 arc.now.head.0 }
 {
     match before {
@@ -48,7 +48,7 @@ fn spoke_on(before: Option<&Net>, arc: &Arc) -> bool
 }
 
 // Whether the listener on an arc doesn't know the row yet that the update tells of.
-fn is_news(before: Option<&Net>, arc: &Arc, is_other: bool, update: &Update) -> bool
+fn is_news(before: Option<&Net>, arc: &Arc<'_>, is_other: bool, update: &Update) -> bool
     ensures { result ≡ cond (spoken_in (option_map (λ n. n.now) before.entry) arc.now.tail.0 arc.now.head.0)
         is_other (is_some update.now.route) }
 {
@@ -89,11 +89,11 @@ pub(crate) fn report_begun(
     requires net { IsNet net.now }
     requires node { node.0 < length net.now.nodes }
     ensures { OnOk result (map noted out.new ≡ map noted out.old ++
-        reported_on (filter (λ (a : PureArc). cond (spoken_in (option_map (λ n. n.now) before.entry) a.tail a.head) is_other
-        (is_some update.now.route)) (arcs_to net.now node.0)) (pure_update update.now)) }
+        reported_on (filter (λ (a : PureArc). cond (spoken_in (option_map (λ n. n.now) before.entry) a.tail a.head)
+        is_other (is_some update.now.route)) (arcs_to net.now node.0)) (pure_update update.now)) }
 {
     for id in net.listeners(node) {
-        let is_news = is_news(before, net.arc(*id), is_other, update);
+        let is_news = is_news(before, &net.arc(*id), is_other, update);
         report_if(alloc, is_news, *id, update, out)?;
     }
     Ok(())

@@ -6,7 +6,7 @@ ghost use Rattle.net_graph.specs.Views.{pure_change};
 
 use alg_model::{Label, Value};
 use meta_base::{ArcId, DestId, List, MAX_FILE_BYTES, NoMemory, NodeId};
-use net_graph::{Change, DestTable, Net, NetDraft, Route};
+use net_graph::{Change, DestTable, LabelMarks, Net, NetDraft, Route};
 use sig_text::LitFault::{BadText, NotALabel};
 use std::alloc::Global;
 use std::test::Fail;
@@ -31,7 +31,7 @@ fn keeps_names(net: &Net) -> bool {
 fn files_arcs(net: &Net) -> bool {
     net.node_count() == 2
         && net.arc_count() == 1
-        && net.out_arcs(NodeId(0)).len() == 1
+        && net.out_arcs(NodeId(0)).count() == 1
         && net.listeners(NodeId(1)) == [ArcId(0)].as_slice()
         && net.arc(ArcId(0)).head == NodeId(1)
         && net.has_arc(NodeId(0), NodeId(1))
@@ -58,6 +58,38 @@ fn networks_are_filed(rt: HostRuntime) -> Result<(), Fail> {
     let is_filed = keeps_names(&net) && files_arcs(&net) && files_origins(&net);
     drop(net);
     assert!(rt; is_filed);
+    Ok(())
+}
+
+// Whether arcs 0 and 2 have one number, and arc 1 the other of two.
+fn are_numbered(alloc: Global, net: &Net) -> bool {
+    if net.arc_count() != 3 {
+        return false;
+    }
+    let numbers = net.label_numbers();
+    let first = numbers.of(ArcId(0));
+    let second = numbers.of(ArcId(1));
+    let mut marks = LabelMarks::new(alloc, numbers.count());
+    let is_unmarked = !marks.has(first);
+    marks.mark(first);
+    numbers.count() == 2
+        && first == numbers.of(ArcId(2))
+        && is_unmarked
+        && marks.has(first)
+        && !marks.has(second)
+}
+
+#[test]
+fn equal_labels_have_one_number(rt: HostRuntime) -> Result<(), Fail> {
+    let alloc = rt.alloc();
+    let net = network(
+        alloc,
+        "add(1..10)",
+        b"node a b c\nlink a b : 3\nlink b c : 4\nlink c a : 3\n",
+    )?;
+    let is_numbered = are_numbered(alloc, &net);
+    drop(net);
+    assert!(rt; is_numbered);
     Ok(())
 }
 
@@ -370,7 +402,7 @@ fn is_arc(net: &Net, id: usize, line: Line) -> bool {
     arc.id == id
         && arc.tail == NodeId(tail)
         && arc.head == NodeId(head)
-        && matches!(&arc.label, Label::Number(number) if *number == label)
+        && matches!(arc.label, Label::Number(number) if *number == label)
 }
 
 fn are_arcs(net: &Net, lines: &[Line]) -> bool {

@@ -1,11 +1,14 @@
 -- Hops of rows, one arc and one node after the other.
-use Rattle.std.proofs.Common.{◌≡◌, ℕ, ◌+◌, ◌<◌, zero, suc, List, [], ◌∷◌, ◌++◌, Bool, true, false, cond, map, take, filter, length, append-nil, Some, refl, sym, ap, ◌∙◌, arith}
+use Rattle.std.proofs.Common.{◌≡◌, ℕ, ◌+◌, ◌<◌, zero, suc, List, [], ◌∷◌, ◌++◌, Bool, true, false, cond, map, take, filter, length, append-nil, Some, refl, sym, ap, ◌∙◌, subst, arith}
 use Rattle.std.specs.List.{slice_get}
 use Rattle.std.proofs.Math.Seq.{take-length}
 use Rattle.std.proofs.lemmas.List.{map-append}
 use Rattle.net_graph.specs.Nets.{PureArc, PureNet}
-use Rattle.net_graph.specs.Tables.{PureRow}
-use Rattle.report_check.specs.Hops.{PureHops, hops_at, hops_from}
+use Rattle.net_graph.specs.Tables.{PureRow, carrier, value_at}
+use Rattle.net_graph.specs.Views.{rows_of}
+use Rattle.net_graph.specs.Walks.{along}
+use Rattle.net_graph.specs.declared.route.DestTable.{DestTable}
+use Rattle.report_check.specs.Hops.{PureHops, are_equivalent, hops_at, hops_from, is_hop}
 
 filter_next : {X : Type 0} (p : X → Bool) (xs : List X) (m : ℕ) (x : X) → slice_get xs m ≡ Some x → filter p (take (suc m) xs) ≡ filter p (take m xs) ++ cond (p x) (x ∷ []) []
 filter_next p [] m x e = absurd (cc)
@@ -78,3 +81,11 @@ hops_none net dest t (x ∷ xs) = refl
 pub heads_none : (p : PureArc → Bool) (arcs : List PureArc) → [] ≡ map (λ (b : PureArc). b.head) (filter p (take 0 arcs))
 heads_none p [] = refl
 heads_none p (a ∷ arcs) = refl
+
+-- the test of the arc, by its nodes
+pub hop_test : (net : PureNet) (rows : List PureRow) (i j : ℕ) (a : PureArc) (b : Bool) → a.tail ≡ i → j ≡ a.head → b ≡ are_equivalent (carrier net) (along net i j (value_at rows j)) (value_at rows i) → b ≡ is_hop net rows a
+hop_test net rows i j a b e f h = rw (e, ← f) h
+
+-- the hops of one table of a network are those of another form of both
+pub hops_same : (net other : PureNet) (t u : DestTable) (i : ℕ) (h : PureHops) → net ≡ other → t ≡ u → h ≡ hops_at net t.dest.0 (rows_of t) i → h ≡ hops_at other u.dest.0 (rows_of u) i
+hops_same net other t u i h e f g = subst (λ (n : PureNet). h ≡ hops_at n u.dest.0 (rows_of u) i) e (subst (λ (x : DestTable). h ≡ hops_at net x.dest.0 (rows_of x) i) f g)

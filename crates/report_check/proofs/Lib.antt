@@ -10,3 +10,5 @@ pub mod Reading
 pub mod Solid
 pub mod PrintedLines
 pub mod PrintedRows
+pub mod Looking
+pub mod Forms

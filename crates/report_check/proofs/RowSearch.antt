@@ -175,7 +175,7 @@ MadeSoFar net dest rows i n b =
     (b ≡ true → IsMade net dest (route_at rows) i)
     × (b ≡ false → ¬ IsMadeAlone net dest (route_at rows) i × NoneBefore net i (MadeBy net (route_at rows) i) n)
 
-alone_made : (net : PureNet) (dest i : ℕ) (reported : Reported) → IsMadeAlone net dest reported i → IsMade net dest reported i
+pub alone_made : (net : PureNet) (dest i : ℕ) (reported : Reported) → IsMadeAlone net dest reported i → IsMade net dest reported i
 alone_made net dest i reported h = by (reported i) h
   where
     by : (o : Option PureRoute) → (o ≡ None) ⊎ Makes (own_offer net dest i) o → IfSome o (Offers net dest reported i)
@@ -183,7 +183,7 @@ alone_made net dest i reported h = by (reported i) h
     by (Some r) (inl e) = absurd (cc)
     by (Some r) (inr h) = inl (own_made net dest i r h)
 
-arc_made : (net : PureNet) (dest i j : ℕ) (reported : Reported) → MadeBy net reported i j → IsMade net dest reported i
+pub arc_made : (net : PureNet) (dest i j : ℕ) (reported : Reported) → MadeBy net reported i j → IsMade net dest reported i
 arc_made net dest i j reported h = by (reported i) h
   where
     by : (o : Option PureRoute) → Makes (offer_by net reported i j) o → IfSome o (Offers net dest reported i)

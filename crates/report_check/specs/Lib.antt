@@ -5,4 +5,6 @@ pub mod Judged
 pub mod Findings
 pub mod Hops
 pub mod Views
+pub mod Compiled
+pub mod Looks
 pub mod Said

@@ -26,7 +26,7 @@ fn walk_of_arc(
     alloc: Global,
     net: &Net,
     table: &DestTable,
-    arc: &Arc,
+    arc: &Arc<'_>,
     next: &Route,
     value: &Value,
     wanted: Wanted,
@@ -61,7 +61,7 @@ fn is_worse(net: &Net, value: &Value, row: Option<&Route>) -> bool
 
 // Whether what the arc offers may be its tail's route or better: the path of its head's route doesn't pass the tail,
 // and this value, which it makes of that of its head, is no worse than the tail's.
-fn may_matter(net: &Net, table: &DestTable, arc: &Arc, next: &Route, value: &Value) -> bool
+fn may_matter(net: &Net, table: &DestTable, arc: &Arc<'_>, next: &Route, value: &Value) -> bool
     requires table { TableOf net.now table.now.dest.0 (rows_of table.now) }
     requires next { route_at (rows_of table.now) arc.now.head.0 ≡ Some (pure_route next.now) }
     requires value { along net.now arc.now.tail.0 arc.now.head.0 (value_at (rows_of table.now) arc.now.head.0) ≡
@@ -82,7 +82,7 @@ fn offer_of_arc(
     alloc: Global,
     net: &Net,
     table: &DestTable,
-    arc: &Arc,
+    arc: &Arc<'_>,
     next: &Route,
     value: Value,
     wanted: Wanted,
@@ -115,12 +115,12 @@ pub fn judge_arc(
     alloc: Global,
     net: &Net,
     table: &DestTable,
-    arc: &Arc,
+    arc: &Arc<'_>,
     wanted: Wanted,
 ) -> Result<RowFindings, NoMemory>
     requires net { IsNet net.now }
     requires table { TableOf net.now table.now.dest.0 (rows_of table.now) }
-    requires arc { label_between net.now arc.now.tail.0 arc.now.head.0 ≡ Some (pure_label arc.now.label) }
+    requires arc { label_between net.now arc.now.tail.0 arc.now.head.0 ≡ Some (pure_label arc.now.label.now) }
     ensures beating { wanted.optimal ≡ true → IfOk result (λ found. MatchOption found.beating
         (¬ ImprovedBy net.now (rows_of table.now) arc.now.tail.0 arc.now.head.0)
         (λ walk. IsBeatenBy net.now table.now.dest.0 (rows_of table.now) arc.now.tail.0 (numbers walk))) }

@@ -1,5 +1,5 @@
 // What is found of a row, and what an offer shows of one.
-ghost use Rattle.std.specs.Prelude.{◌≡◌, ◌||◌, Some, None, false, option_map, IfSome, MatchOption};
+ghost use Rattle.std.specs.Prelude.{◌≡◌, ◌||◌, ◌&&◌, not, Some, None, false, option_map, IfSome, MatchOption};
 ghost use Rattle.std.specs.Bool.{Decides};
 ghost use Rattle.std.specs.Option.{option_or};
 ghost use Rattle.alg_model.specs.Carriers.{In};
@@ -16,6 +16,19 @@ use stable_check::{makes, outdoes};
 pub struct Wanted {
     pub optimal: bool,
     pub stable: bool,
+}
+
+impl Wanted {
+    /// What of this isn't cleared.
+    pub fn without(self, clear: Wanted) -> Wanted
+        ensures optimal { result.optimal ≡ (self.optimal && not clear.optimal) }
+        ensures stable { result.stable ≡ (self.stable && not clear.stable) }
+    {
+        Wanted {
+            optimal: self.optimal && !clear.optimal,
+            stable: self.stable && !clear.stable,
+        }
+    }
 }
 
 /// What is found of a row by the offers to its node.

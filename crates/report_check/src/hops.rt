@@ -1,18 +1,22 @@
-ghost use Rattle.std.specs.Prelude.{◌≡◌, ◌<◌, Some, length, map, option_map, IfOk, IfSome};
-ghost use Rattle.alg_model.specs.Carriers.{In};
-ghost use Rattle.alg_model.specs.Views.{pure_label, pure_value};
+ghost use Rattle.std.specs.Prelude.{◌≡◌, ◌<◌, length, map, option_map, IfOk, IfSome};
+ghost use Rattle.alg_model.specs.Carriers.{carrier_of};
+ghost use Rattle.alg_model.specs.Views.{pure_value};
 ghost use Rattle.meta_base.specs.NodePaths.{numbers};
-ghost use Rattle.net_graph.specs.Nets.{IsNet, label_between};
-ghost use Rattle.net_graph.specs.Tables.{TableOf, carrier, route_at, value_at};
-ghost use Rattle.net_graph.specs.Views.{pure_arc, pure_route, rows_of};
-ghost use Rattle.report_check.specs.Hops.{are_equivalent, heads_at, hops_at, hops_of, is_hop};
+ghost use Rattle.net_graph.specs.Tables.{TableOf, carrier, value_at};
+ghost use Rattle.net_graph.specs.Views.{pure_route, rows_of};
+ghost use Rattle.net_graph.specs.Walks.{along};
+ghost use Rattle.report_check.specs.Compiled.{AreOutLabels, IsCompiled, IsHopFrom};
+ghost use Rattle.report_check.specs.Hops.{are_equivalent, heads_at, hops_at, hops_of};
 ghost use Rattle.report_check.specs.Views.{pure_hops};
-ghost use Rattle.stable_check.specs.Checks.{AreOwnValues};
 
-use alg_model::{Value, order};
+use crate::OutLabels;
+use crate::compiled::{Compiled, sig_at};
+use crate::labels::Hop;
+use crate::look::image_along;
+use alg_model::{Algebra, Value};
 use meta_base::{DestId, List, NoMemory, NodeId};
-use net_graph::{Arc, DestTable, Net, Route};
-use stable_check::{OwnValues, arc_value, route_at};
+use net_graph::{DestTable, Net, Route};
+use stable_check::route_at;
 use std::alloc::Global;
 use std::cmp::Ordering;
 
@@ -31,41 +35,52 @@ pub struct ManyHops {
 }
 
 /// For each row of the table, in order, its value and all next hops that are equally good. A row without a route has
-/// none. Each arc's label is applied once, and it is refused for want of memory alone.
-pub fn best_hops(alloc: Global, net: &Net, table: &DestTable) -> Result<List<ManyHops>, NoMemory>
+/// none. The algebra is the network's, and the labels are its arcs', made once for all tables. Each arc's label is
+/// applied once, and it is refused for want of memory alone.
+pub fn best_hops<A: Algebra>(
+    alloc: Global,
+    algebra: &A,
+    net: &Net,
+    labels: &OutLabels<A::Lab>,
+    table: &DestTable,
+) -> Result<List<ManyHops>, NoMemory>
+    requires algebra { A.expression algebra.now ≡ net.now.alg.expression }
+    requires labels { AreOutLabels (A.stands_for algebra.now) net.now labels.now }
     requires dest { table.now.dest.0 < length net.now.dests }
     requires table { TableOf net.now table.now.dest.0 (rows_of table.now) }
     ensures { IfOk result (λ many. map pure_hops many ≡ hops_of net.now table.now.dest.0 (rows_of table.now)) }
 {
-    let own = OwnValues::of(alloc, net, table.dest)?;
+    let form = Compiled::of(alloc, algebra, net, labels, table)?;
+    let mut spare = None;
     let mut many = Vec::with_capacity(alloc, net.node_count())?;
     for node in 0..net.node_count() {
-        many.push(hops_at(alloc, net, table, &own, NodeId(node as u32))?)?;
+        many.push(hops_at(alloc, &form, NodeId(node as u32), &mut spare)?)?;
     }
     Ok(List::from_vec(many))
 }
 
 // The value of the node's row, with its equally good next hops.
-fn hops_at(
+fn hops_at<A: Algebra>(
     alloc: Global,
-    net: &Net,
-    table: &DestTable,
-    own: &OwnValues<'_>,
+    form: &Compiled<'_, A>,
     node: NodeId,
+    spare: &mut Option<A::Sig>,
 ) -> Result<ManyHops, NoMemory>
-    requires net { IsNet net.now }
-    requires table { TableOf net.now table.now.dest.0 (rows_of table.now) }
-    requires own { AreOwnValues net.now table.now.dest.0 own.now.values.items }
-    requires node { node.0 < length net.now.nodes }
-    ensures { IfOk result (λ hops. pure_hops hops ≡ hops_at net.now table.now.dest.0 (rows_of table.now) node.0) }
+    requires algebra { A.expression form.now.algebra.now ≡ form.now.net.now.alg.expression }
+    requires compiled { let a = form.now.algebra.now in IsCompiled (A.is_sig a) (A.sig_value a) (A.stands_for a)
+        form.now.net.now form.now.table.now.dest.0 (rows_of form.now.table.now)
+        form.now.labels.now form.now.rows.items form.now.own.items }
+    requires node { node.0 < length form.now.net.now.nodes }
+    ensures { IfOk result (λ hops. pure_hops hops ≡
+        hops_at form.now.net.now form.now.table.now.dest.0 (rows_of form.now.table.now) node.0) }
 {
-    let row = route_at(table, node);
+    let row = sig_at(&form.rows, node);
     Ok(ManyHops {
         node,
-        dest: table.dest,
-        value: value_of(alloc, row)?,
-        here: is_as_good(net, own.at(node), row),
-        heads: heads_at(alloc, net, table, node)?,
+        dest: form.table.dest,
+        value: value_of(alloc, route_at(form.table, node))?,
+        here: is_as_good(form.algebra, sig_at(&form.own, node), row),
+        heads: heads_at(alloc, form, node, spare)?,
     })
 }
 
@@ -80,50 +95,63 @@ fn value_of(alloc: Global, route: Option<&Route>) -> Result<Option<Value>, NoMem
     }
 }
 
-// Whether both are there, and the value is equivalent to the row's.
-fn is_as_good(net: &Net, value: Option<&Value>, row: Option<&Route>) -> bool
-    requires value { IfSome (option_map (λ v. pure_value v.now) value) (In (carrier net.now)) }
-    requires row { IfSome (option_map (λ r. pure_route r.now) row) (λ r. In (carrier net.now) r.value) }
-    ensures { result ≡ are_equivalent (carrier net.now) (option_map (λ v. pure_value v.now) value.entry)
-        (option_map (λ r. r.value) (option_map (λ r. pure_route r.now) row.entry)) }
+// Whether both are there, and neither is preferred to the other.
+fn is_as_good<A: Algebra>(algebra: &A, value: Option<&A::Sig>, row: Option<&A::Sig>) -> bool
+    requires value { IfSome (option_map (λ s. s.now) value) (A.is_sig algebra.now) }
+    requires row { IfSome (option_map (λ s. s.now) row) (A.is_sig algebra.now) }
+    ensures { result ≡ are_equivalent (carrier_of (A.expression algebra.now))
+        (option_map (λ s. A.sig_value algebra.now s.now) value.entry)
+        (option_map (λ s. A.sig_value algebra.now s.now) row.entry) }
 {
     match (value, row) {
-        (Some(value), Some(row)) => order(net.alg(), value, &row.value) == Ordering::Equal,
+        (Some(value), Some(row)) => algebra.order(value, row) == Ordering::Equal,
         _ => false,
     }
 }
 
 // The heads of the node's arcs that are as good as its row.
-fn heads_at(
+fn heads_at<A: Algebra>(
     alloc: Global,
-    net: &Net,
-    table: &DestTable,
+    form: &Compiled<'_, A>,
     node: NodeId,
+    spare: &mut Option<A::Sig>,
 ) -> Result<List<NodeId>, NoMemory>
-    requires net { IsNet net.now }
-    requires table { TableOf net.now table.now.dest.0 (rows_of table.now) }
-    requires node { node.0 < length net.now.nodes }
-    ensures { IfOk result (λ heads. numbers heads ≡ heads_at net.now (rows_of table.now) node.0) }
+    requires algebra { A.expression form.now.algebra.now ≡ form.now.net.now.alg.expression }
+    requires compiled { let a = form.now.algebra.now in IsCompiled (A.is_sig a) (A.sig_value a) (A.stands_for a)
+        form.now.net.now form.now.table.now.dest.0 (rows_of form.now.table.now)
+        form.now.labels.now form.now.rows.items form.now.own.items }
+    requires node { node.0 < length form.now.net.now.nodes }
+    ensures { IfOk result (λ heads. numbers heads ≡
+        heads_at form.now.net.now (rows_of form.now.table.now) node.0) }
 {
     let mut heads = List::new(alloc);
-    for arc in net.out_arcs(node) {
-        if is_hop(alloc, net, table, arc)? {
-            heads.push(arc.head)?;
+    for hop in form.labels.hops(node) {
+        if is_hop(alloc, form, node, hop, spare)? {
+            heads.push(hop.head)?;
         }
     }
     Ok(heads)
 }
 
-// Whether what the arc makes of its head's row is as good as its tail's row.
-fn is_hop(alloc: Global, net: &Net, table: &DestTable, arc: &Arc) -> Result<bool, NoMemory>
-    requires net { IsNet net.now }
-    requires table { TableOf net.now table.now.dest.0 (rows_of table.now) }
-    requires arc { label_between net.now arc.now.tail.0 arc.now.head.0 ≡ Some (pure_label arc.now.label) }
-    ensures { IfOk result (λ r. r ≡ is_hop net.now (rows_of table.now) (pure_arc arc.now)) }
+// Whether what the arc to the hop makes of its head's row is as good as the node's row.
+fn is_hop<A: Algebra>(
+    alloc: Global,
+    form: &Compiled<'_, A>,
+    node: NodeId,
+    hop: &Hop<A::Lab>,
+    spare: &mut Option<A::Sig>,
+) -> Result<bool, NoMemory>
+    requires algebra { A.expression form.now.algebra.now ≡ form.now.net.now.alg.expression }
+    requires compiled { let a = form.now.algebra.now in IsCompiled (A.is_sig a) (A.sig_value a) (A.stands_for a)
+        form.now.net.now form.now.table.now.dest.0 (rows_of form.now.table.now)
+        form.now.labels.now form.now.rows.items form.now.own.items }
+    requires hop { IsHopFrom (A.stands_for form.now.algebra.now) form.now.net.now node.0 hop.now }
+    ensures { IfOk result (λ r. r ≡ are_equivalent (carrier form.now.net.now) (along form.now.net.now node.0
+        hop.now.head.0 (value_at (rows_of form.now.table.now) hop.now.head.0))
+        (value_at (rows_of form.now.table.now) node.0)) }
 {
-    let Some(row) = route_at(table, arc.tail) else {
+    if !image_along(alloc, form, hop, spare)? {
         return Ok(false);
-    };
-    let value = arc_value(alloc, net, table, arc)?;
-    Ok(is_as_good(net, value.as_ref(), Some(row)))
+    }
+    Ok(is_as_good(form.algebra, spare.as_ref(), sig_at(&form.rows, node)))
 }

@@ -1,17 +1,21 @@
-ghost use Rattle.std.specs.Prelude.{◌≡◌, ◌+◌, ◌<◌, ◌&&◌, ℕ, List, true, length, map, option_map, IfOk};
+ghost use Rattle.std.specs.Prelude.{◌≡◌, ◌+◌, ◌<◌, ◌&&◌, ℕ, List, cond, true, length, map, option_map, IfOk};
 ghost use Rattle.meta_base.specs.NodePaths.{numbers};
 ghost use Rattle.net_graph.specs.Nets.{IsNet};
 ghost use Rattle.net_graph.specs.Tables.{OnTablesFrom, PureRow, Relaxed, TableOf};
 ghost use Rattle.net_graph.specs.Views.{pure_route, rows_of};
+ghost use Rattle.report_check.specs.Compiled.{AreOutLabels};
 ghost use Rattle.report_check.specs.Findings.{OptimalBefore, OptimalUpTo, StableBefore, StableUpTo, beaten_or_not, is_stable, is_unbeaten, unstable_or_not};
-ghost use Rattle.report_check.specs.Judged.{Judged, JudgedOptimal, table_at};
+ghost use Rattle.report_check.specs.Judged.{Judged, JudgedOptimal, stable, table_at, unbeaten};
 ghost use Rattle.report_check.specs.Views.{AreOfDests, pure_judgement, pure_optimal, pure_stable};
 ghost use Rattle.stable_check.specs.Checks.{AreOwnValues};
 
+use crate::compiled::Compiled;
 use crate::found::{OfferFindings, Wanted};
+use crate::look::cleared;
 use crate::rows::judge_row;
-use crate::{Judgement, OptimalFinding, StableFinding};
+use crate::{Judgement, OptimalFinding, OutLabels, StableFinding, out_labels};
 use alg_classes::Property;
+use alg_model::Algebra;
 use meta_base::{DestId, List, NoMemory, NodeId};
 use net_facts::first_missing;
 use net_graph::{DestTable, Net};
@@ -22,20 +26,28 @@ use std::alloc::Global;
 /// whether each row is its node's choice from what the table says, each with the first row that shows that it isn't
 /// (Griffin and Sobrinho 2005; Sobrinho 2005). Which walk or offer of several is named isn't said.
 ///
-/// Each walk is weighed once and each arc's label is applied once for each destination. No number of an instance is
-/// above [`alg_model::MAX_INSTANCE_NUMBER`]. It is refused for want of memory alone.
-pub fn judge(alloc: Global, net: &Net, tables: &[DestTable]) -> Result<Judgement, NoMemory>
+/// The algebra is the network's. In its own form each arc's label is applied once for each destination; a table that
+/// this doesn't clear is looked at once more, and its walks are weighed. No number of an instance is above
+/// [`alg_model::MAX_INSTANCE_NUMBER`]. It is refused for want of memory alone.
+pub fn judge<A: Algebra>(
+    alloc: Global,
+    algebra: &A,
+    net: &Net,
+    tables: &[DestTable],
+) -> Result<Judgement, NoMemory>
+    requires algebra { A.expression algebra.now ≡ net.now.alg.expression }
     requires tables { OnTablesFrom (TableOf net.now) 0 (map rows_of tables.now) }
     requires dests { AreOfDests 0 tables.now }
     requires count { length tables.now ≡ length net.now.dests }
     ensures { IfOk result (λ judgement. Judged net.now (map rows_of tables.now) (pure_judgement judgement)) }
 {
+    let labels = out_labels(alloc, algebra, net)?;
     let mut found = Judgement {
         optimal: OptimalFinding::Yes,
         stable: StableFinding::Yes,
     };
     for table in tables {
-        found = judge_more(alloc, net, table, found)?;
+        found = judge_more(alloc, algebra, net, &labels, table, found)?;
     }
     if !found.optimal.is_yes() {
         return Ok(found);
@@ -61,12 +73,16 @@ fn settle(alloc: Global, net: &Net) -> Result<OptimalFinding, NoMemory>
 }
 
 // What is found with one table more. What an earlier table settled is not looked for.
-fn judge_more(
+fn judge_more<A: Algebra>(
     alloc: Global,
+    algebra: &A,
     net: &Net,
+    labels: &OutLabels<A::Lab>,
     table: &DestTable,
     before: Judgement,
 ) -> Result<Judgement, NoMemory>
+    requires algebra { A.expression algebra.now ≡ net.now.alg.expression }
+    requires labels { AreOutLabels (A.stands_for algebra.now) net.now labels.now }
     requires dest { table.now.dest.0 < length net.now.dests }
     requires table { TableOf net.now table.now.dest.0 (rows_of table.now) }
     ensures optimal { (tables : List (List PureRow)) → table_at tables table.now.dest.0 ≡ rows_of table.now →
@@ -83,15 +99,65 @@ fn judge_more(
     if !wanted.optimal && !wanted.stable {
         return Ok(before);
     }
-    let found = judge_table(alloc, net, table, wanted)?;
+    let found = judge_table(alloc, algebra, net, labels, table, wanted)?;
     Ok(Judgement {
         optimal: before.optimal.or(found.optimal),
         stable: before.stable.or(found.stable),
     })
 }
 
-// What is found of the table alone, of what is wanted.
-fn judge_table(
+// What is found of the table alone, of what is wanted: nothing where a look at it in the algebra's form clears it.
+fn judge_table<A: Algebra>(
+    alloc: Global,
+    algebra: &A,
+    net: &Net,
+    labels: &OutLabels<A::Lab>,
+    table: &DestTable,
+    wanted: Wanted,
+) -> Result<Judgement, NoMemory>
+    requires algebra { A.expression algebra.now ≡ net.now.alg.expression }
+    requires labels { AreOutLabels (A.stands_for algebra.now) net.now labels.now }
+    requires dest { table.now.dest.0 < length net.now.dests }
+    requires table { TableOf net.now table.now.dest.0 (rows_of table.now) }
+    ensures optimal { wanted.optimal ≡ true → IfOk result (λ found. OptimalUpTo net.now table.now.dest.0
+        (rows_of table.now) (length net.now.nodes) (length net.now.nodes) (pure_optimal found.optimal)) }
+    ensures stable { wanted.stable ≡ true → IfOk result (λ found. StableUpTo net.now table.now.dest.0
+        (rows_of table.now) (length net.now.nodes) (pure_stable found.stable)) }
+{
+    let form = Compiled::of(alloc, algebra, net, labels, table)?;
+    let clear = cleared(alloc, &form)?;
+    let left = wanted.without(clear);
+    if !left.optimal && !left.stable {
+        return Ok(Judgement {
+            optimal: OptimalFinding::Yes,
+            stable: StableFinding::Yes,
+        });
+    }
+    Ok(only(judge_rows(alloc, net, table, left)?, left))
+}
+
+// What is found of what was asked, and nothing of what wasn't.
+fn only(found: Judgement, asked: Wanted) -> Judgement
+    ensures optimal { pure_optimal result.optimal ≡ cond asked.optimal (pure_optimal found.optimal) unbeaten }
+    ensures stable { pure_stable result.stable ≡ cond asked.stable (pure_stable found.stable) stable }
+{
+    let Judgement { optimal, stable } = found;
+    Judgement {
+        optimal: if asked.optimal {
+            optimal
+        } else {
+            OptimalFinding::Yes
+        },
+        stable: if asked.stable {
+            stable
+        } else {
+            StableFinding::Yes
+        },
+    }
+}
+
+// What is found of the table row by row, of what is wanted.
+fn judge_rows(
     alloc: Global,
     net: &Net,
     table: &DestTable,

@@ -5,14 +5,17 @@
 #![tactic(auto)]
 
 mod arcs;
+mod compiled;
 mod draft;
 mod faults;
 mod found;
 mod hops;
 mod judgement;
 mod judging;
+mod labels;
 mod laws;
 mod lines;
+mod look;
 mod report;
 mod rows;
 
@@ -20,4 +23,5 @@ pub use faults::{ReportError, ReportFault, ReportKind};
 pub use hops::{ManyHops, best_hops};
 pub use judgement::{Judgement, OptimalFinding, StableFinding};
 pub use judging::judge;
+pub use labels::{OutLabels, out_labels};
 pub use report::{MAX_REPORT_BYTES, numbers_are_specified, read_report};

@@ -124,8 +124,9 @@ pub fn judge_row(
         (λ s. IsBetterOffer net.now table.now.dest.0 (rows_of table.now) node.0 (pure_route s))) }
 {
     let mut found = judge_origin(alloc, net, table, own, node, wanted)?;
-    for arc in net.out_arcs(node) {
-        let of_arc = judge_arc(alloc, net, table, arc, wanted)?;
+    let arcs = net.out_arcs(node);
+    for place in 0..arcs.count() {
+        let of_arc = judge_arc(alloc, net, table, &arcs.get(place), wanted)?;
         found = found.or(of_arc);
     }
     Ok(found)

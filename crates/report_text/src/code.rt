@@ -175,7 +175,7 @@ fn push_order(out: &mut String, order: &OrderCode) -> Result<(), NoMemory>
     push_operations(out, order.as_slice())
 }
 
-fn push_arc_line(out: &mut String, alg: &Alg, net: &Net, arc: &Arc) -> Result<(), NoMemory>
+fn push_arc_line(out: &mut String, alg: &Alg, net: &Net, arc: &Arc<'_>) -> Result<(), NoMemory>
     requires arc { IsArcOf net.now.alg (length net.now.nodes) (pure_arc arc.now) }
     requires algebra { net.now.alg ≡ alg.now }
     ensures { OnOk result (Gains out.old (arc_line_text alg.now.expression net.now (pure_arc arc.now)) out.new) }
@@ -183,13 +183,13 @@ fn push_arc_line(out: &mut String, alg: &Alg, net: &Net, arc: &Arc) -> Result<()
     out.push_str("arc ")?;
     push_ends(out, net, arc)?;
     out.push_str(" ")?;
-    push_label(out, alg, &arc.label)?;
+    push_label(out, alg, arc.label)?;
     Ok(out.push_str("\n")?)
 }
 
 /// For a line alone; the program appends it to a text. The line of an arc of a network over the algebra: its listener,
 /// its speaker and its label. It is refused for want of memory alone.
-pub fn arc_line(alloc: Global, alg: &Alg, net: &Net, arc: &Arc) -> Result<Text, NoMemory>
+pub fn arc_line(alloc: Global, alg: &Alg, net: &Net, arc: &Arc<'_>) -> Result<Text, NoMemory>
     requires arc { IsArcOf net.now.alg (length net.now.nodes) (pure_arc arc.now) }
     requires algebra { net.now.alg ≡ alg.now }
     ensures { IfOk result (λ text. text ≡ arc_line_text alg.now.expression net.now (pure_arc arc.now)) }
@@ -204,7 +204,7 @@ fn push_arc_code(
     out: &mut String,
     alg: &Alg,
     net: &Net,
-    arc: &Arc,
+    arc: &Arc<'_>,
     code: &LabelCode,
 ) -> Result<(), NoMemory>
     requires arc { IsArcOf net.now.alg (length net.now.nodes) (pure_arc arc.now) }
@@ -223,7 +223,7 @@ fn push_arcs(out: &mut String, alg: &Alg, net: &Net, labels: &[LabelCode]) -> Re
     ensures { OnOk result (Gains out.old (arcs_text alg.now.expression net.now net.now.arcs labels.now) out.new) }
 {
     for arc in 0..net.arc_count() {
-        push_arc_code(out, alg, net, net.arc(ArcId(arc as u32)), &labels[arc])?;
+        push_arc_code(out, alg, net, &net.arc(ArcId(arc as u32)), &labels[arc])?;
     }
     Ok(())
 }

@@ -90,11 +90,11 @@ pub(crate) fn push_arc(out: &mut String, net: &Net, arc: ArcId) -> Result<(), No
     requires { arc.0 < length net.now.arcs }
     ensures { OnOk result (Gains out.old (arc_text net.now arc.0) out.new) }
 {
-    push_ends(out, net, net.arc(arc))
+    push_ends(out, net, &net.arc(arc))
 }
 
 // The same of an arc that is lent.
-pub(crate) fn push_ends(out: &mut String, net: &Net, arc: &Arc) -> Result<(), NoMemory>
+pub(crate) fn push_ends(out: &mut String, net: &Net, arc: &Arc<'_>) -> Result<(), NoMemory>
     requires tail { arc.now.tail.0 < length net.now.nodes }
     requires head { arc.now.head.0 < length net.now.nodes }
     ensures { OnOk result (Gains out.old (ends_text net.now (Some (pure_arc arc.now))) out.new) }

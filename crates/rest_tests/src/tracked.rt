@@ -77,7 +77,7 @@ fn empty_links(alloc: Global, net: &Net) -> Result<Vec<Link>, Fail> {
     let mut links = Vec::new(alloc);
     for id in 0..net.arc_count() {
         let arc = net.arc(ArcId(id as u32));
-        let Label::Row(label) = arc.label else {
+        let &Label::Row(label) = arc.label else {
             return Err("the label isn't a table's".into());
         };
         let mut heard = Vec::new(alloc);

@@ -1,13 +1,11 @@
 -- A search among the arcs of a node, and look-ups in a network's lists.
-use Rattle.std.proofs.Common.{◌≡◌, ℕ, ◌+◌, ◌<◌, ◌≤◌, List, Option, Some, None, true, ◌==◌, map, option_map, get_or, length, refl, sym, ap, ◌∙◌, below_more, subst, arith}
+use Rattle.std.proofs.Common.{◌≡◌, ℕ, ◌+◌, ◌<◌, ◌≤◌, List, Option, Some, None, true, ◌==◌, map, option_map, length, refl, sym, ap, ◌∙◌, below_more, subst, arith}
 use Rattle.std.specs.List.{slice_get, find}
 use Rattle.std.proofs.lemmas.Bool.Decides.{nat_tests}
-use Rattle.std.proofs.lemmas.Option.{same_Some, slice_get_within, slice_get-map, slice_get_read}
-use Rattle.std.proofs.lemmas.List.{length-map}
-use Rattle.alg_model.specs.Views.{pure_label, pure_value}
+use Rattle.std.proofs.lemmas.Option.{same_Some, slice_get_within}
+use Rattle.alg_model.specs.Views.{pure_value}
 use Rattle.net_graph.specs.Nets.{PureArc, PureOrigin, PureNet, IsNet, is_arc_between, arcs_from, origins_of, has_arc, label_between, origin_value}
-use Rattle.net_graph.specs.Views.{pure_arc, pure_origin}
-use Rattle.net_graph.specs.declared.parts.Arc.{Arc}
+use Rattle.net_graph.specs.Views.{pure_origin}
 use Rattle.net_graph.specs.declared.parts.Origin.{Origin}
 use Rattle.net_graph.specs.ArcLaws.{any_find, find-filter, found_between}
 use Rattle.stable_check.specs.Lists.{IsPlaced, find_placed, filter_placed, find-map}
@@ -52,19 +50,7 @@ none_at_all net i Holds n arc all before j h =
     let head : f.0.head ≡ j = grind (arith, nat_tests) in
     before f.1.place (omega arith) f.0 f.1.there (subst Holds (sym head) h)
 
--- what is found among a node's arcs is the arc between, and among a destination's origins the one at the node
-pub between_found : (net : PureNet) (i j : ℕ) (arcs : List Arc) → map pure_arc arcs ≡ arcs_from net i
-    → option_map (λ (a : Arc). pure_label a.label) (find (λ (a : Arc). a.head.0 == j) arcs) ≡ label_between net i j
-between_found net i j arcs e =
-    let f = find-filter (λ (b : PureArc). b.tail == i) (λ (b : PureArc). b.head == j) net.arcs in
-    let g = ap (find (λ (b : PureArc). b.head == j)) e in
-    let h = find-map (λ (b : PureArc). b.head == j) pure_arc arcs in
-    rw (f, ← g, h) (by (find (λ (a : Arc). a.head.0 == j) arcs))
-  where
-    by : (o : Option Arc) → option_map (λ (a : Arc). pure_label a.label) o ≡ option_map (λ (b : PureArc). b.label) (option_map pure_arc o)
-    by None = refl
-    by (Some a) = refl
-
+-- what is found among a destination's origins is the one at the node
 pub origin_found : (net : PureNet) (dest i : ℕ) (origins : List Origin) → map pure_origin origins ≡ origins_of net dest
     → option_map (λ (o : Origin). pure_value o.value) (find (λ (o : Origin). o.node.0 == i) origins) ≡ origin_value net dest i
 origin_found net dest i origins e =
@@ -76,10 +62,3 @@ origin_found net dest i origins e =
     by : (o : Option Origin) → option_map (λ (a : Origin). pure_value a.value) o ≡ option_map (λ (b : PureOrigin). b.value) (option_map pure_origin o)
     by None = refl
     by (Some a) = refl
-
--- an arc of the program stands among those of its node
-pub arc_there : (net : PureNet) (i : ℕ) (arcs : List Arc) → map pure_arc arcs ≡ arcs_from net i → (k : ℕ) (a : Arc) → k < length arcs → a ≡ get_or arcs k a → slice_get (arcs_from net i) k ≡ Some (pure_arc a)
-arc_there net i arcs e k a within at = ap (λ xs. slice_get xs k) (sym e) ∙ (slice_get-map pure_arc arcs k ∙ ap (option_map pure_arc) (slice_get_read arcs (length arcs) k a refl within at))
-
-pub all_arcs : (net : PureNet) (i : ℕ) (arcs : List Arc) → map pure_arc arcs ≡ arcs_from net i → (n : ℕ) → length arcs ≤ n → length (arcs_from net i) ≤ n
-all_arcs net i arcs e n past = omega (arith, past, length-map arcs pure_arc, ap length e)

@@ -7,14 +7,7 @@ ghost use Rattle.net_graph.specs.Views.{pure_route, rows_of};
 
 use alg_model::{Label, Value};
 use meta_base::{DestId, NodeId};
-use net_graph::{Arc, DestTable, Net, Origin, Route};
-
-// The first of the arcs that has this head.
-fn arc_to<'a>(arcs: &'a [Arc], head: NodeId) -> Option<&'a Arc>
-    ensures { option_map (λ a. a.now) result ≡ find (λ a. a.head.0 == head.0) arcs.now }
-{
-    arcs.iter().find(|arc| arc.head.0 == head.0)
-}
+use net_graph::{DestTable, Net, Origin, Route};
 
 // The first of the origins that stands at this node.
 fn origin_in<'a>(origins: &'a [Origin], node: NodeId) -> Option<&'a Origin>
@@ -25,11 +18,10 @@ fn origin_in<'a>(origins: &'a [Origin], node: NodeId) -> Option<&'a Origin>
 
 // The label of the arc from the tail to the head, if there is one.
 pub(crate) fn label_between<'a>(net: &'a Net, tail: NodeId, head: NodeId) -> Option<&'a Label>
-    requires { tail.0 < length net.now.nodes }
     ensures { option_map (λ l. pure_label l.now) result ≡ label_between net.now tail.0 head.0 }
 {
-    let arc = arc_to(net.out_arcs(tail), head)?;
-    Some(&arc.label)
+    let arc = net.arc_between(tail, head)?;
+    Some(net.arc(arc).label)
 }
 
 // The value of the node's origin of the destination, if it has one.

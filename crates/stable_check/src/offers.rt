@@ -69,11 +69,11 @@ pub fn arc_value(
     alloc: Global,
     net: &Net,
     table: &DestTable,
-    arc: &Arc,
+    arc: &Arc<'_>,
 ) -> Result<Option<Value>, NoMemory>
     requires net { IsNet net.now }
     requires table { TableOf net.now table.now.dest.0 (rows_of table.now) }
-    requires arc { label_between net.now arc.now.tail.0 arc.now.head.0 ≡ Some (pure_label arc.now.label) }
+    requires arc { label_between net.now arc.now.tail.0 arc.now.head.0 ≡ Some (pure_label arc.now.label.now) }
     ensures value { IfOk result (λ value. option_map pure_value value ≡
         along net.now arc.now.tail.0 arc.now.head.0 (value_at (rows_of table.now) arc.now.head.0)) }
     ensures value_in { IfOk result (λ value. IfSome (option_map pure_value value) (In (carrier net.now))) }
@@ -81,7 +81,7 @@ pub fn arc_value(
     let Some(next) = route_at(table, arc.head) else {
         return Ok(None);
     };
-    apply(alloc, net.alg(), &arc.label, &next.value)
+    apply(alloc, net.alg(), arc.label, &next.value)
 }
 
 // What the arc offers of its head's route, if anything: a value, and a path that doesn't pass the tail twice.
@@ -89,11 +89,11 @@ pub(crate) fn arc_offer(
     alloc: Global,
     net: &Net,
     table: &DestTable,
-    arc: &Arc,
+    arc: &Arc<'_>,
 ) -> Result<Option<Route>, NoMemory>
     requires net { IsNet net.now }
     requires table { TableOf net.now table.now.dest.0 (rows_of table.now) }
-    requires arc { label_between net.now arc.now.tail.0 arc.now.head.0 ≡ Some (pure_label arc.now.label) }
+    requires arc { label_between net.now arc.now.tail.0 arc.now.head.0 ≡ Some (pure_label arc.now.label.now) }
     ensures { IfOk result (λ offer. option_map pure_route offer ≡
         offer_by net.now (route_at (rows_of table.now)) arc.now.tail.0 arc.now.head.0) }
 {

@@ -86,10 +86,15 @@ pub fn is_preferred(net: &Net, value: Option<&Value>, row: Option<&Route>) -> bo
 }
 
 // Whether the arc makes of its head's value one that is preferred to its tail's.
-fn arc_improves(alloc: Global, net: &Net, table: &DestTable, arc: &Arc) -> Result<bool, NoMemory>
+fn arc_improves(
+    alloc: Global,
+    net: &Net,
+    table: &DestTable,
+    arc: &Arc<'_>,
+) -> Result<bool, NoMemory>
     requires net { IsNet net.now }
     requires table { TableOf net.now table.now.dest.0 (rows_of table.now) }
-    requires arc { label_between net.now arc.now.tail.0 arc.now.head.0 ≡ Some (pure_label arc.now.label) }
+    requires arc { label_between net.now arc.now.tail.0 arc.now.head.0 ≡ Some (pure_label arc.now.label.now) }
     ensures { IfOk result (λ r. Decides r (ImprovedBy net.now (rows_of table.now) arc.now.tail.0 arc.now.head.0)) }
 {
     let value = arc_value(alloc, net, table, arc)?;
@@ -103,8 +108,9 @@ fn is_improved(alloc: Global, net: &Net, table: &DestTable, node: NodeId) -> Res
     requires node { node.0 < length net.now.nodes }
     ensures { IfOk result (λ r. Decides r (IsImproved net.now (rows_of table.now) node.0)) }
 {
-    for arc in net.out_arcs(node) {
-        if arc_improves(alloc, net, table, arc)? {
+    let arcs = net.out_arcs(node);
+    for place in 0..arcs.count() {
+        if arc_improves(alloc, net, table, &arcs.get(place))? {
             return Ok(true);
         }
     }

@@ -14,10 +14,10 @@ use net_graph::{Arc, DestTable, Net};
 use std::alloc::Global;
 
 // Whether what the arc offers outdoes the row of its tail.
-fn arc_outdoes(alloc: Global, net: &Net, table: &DestTable, arc: &Arc) -> Result<bool, NoMemory>
+fn arc_outdoes(alloc: Global, net: &Net, table: &DestTable, arc: &Arc<'_>) -> Result<bool, NoMemory>
     requires net { IsNet net.now }
     requires table { TableOf net.now table.now.dest.0 (rows_of table.now) }
-    requires arc { label_between net.now arc.now.tail.0 arc.now.head.0 ≡ Some (pure_label arc.now.label) }
+    requires arc { label_between net.now arc.now.tail.0 arc.now.head.0 ≡ Some (pure_label arc.now.label.now) }
     ensures { let reported = route_at (rows_of table.now) in IfOk result (λ r. Decides r
         (OutdoneBy net.now reported arc.now.tail.0 arc.now.head.0)) }
 {
@@ -26,10 +26,10 @@ fn arc_outdoes(alloc: Global, net: &Net, table: &DestTable, arc: &Arc) -> Result
 }
 
 // Whether what the arc offers is the route of its tail.
-fn arc_makes(alloc: Global, net: &Net, table: &DestTable, arc: &Arc) -> Result<bool, NoMemory>
+fn arc_makes(alloc: Global, net: &Net, table: &DestTable, arc: &Arc<'_>) -> Result<bool, NoMemory>
     requires net { IsNet net.now }
     requires table { TableOf net.now table.now.dest.0 (rows_of table.now) }
-    requires arc { label_between net.now arc.now.tail.0 arc.now.head.0 ≡ Some (pure_label arc.now.label) }
+    requires arc { label_between net.now arc.now.tail.0 arc.now.head.0 ≡ Some (pure_label arc.now.label.now) }
     ensures { let reported = route_at (rows_of table.now) in IfOk result (λ r. Decides r
         (MadeBy net.now reported arc.now.tail.0 arc.now.head.0)) }
 {
@@ -50,8 +50,9 @@ fn is_outdone_by_arc(
     ensures { let reported = route_at (rows_of table.now) in IfOk result (λ r. Decides r
         ((j : ℕ) × OutdoneBy net.now reported node.0 j)) }
 {
-    for arc in net.out_arcs(node) {
-        if arc_outdoes(alloc, net, table, arc)? {
+    let arcs = net.out_arcs(node);
+    for place in 0..arcs.count() {
+        if arc_outdoes(alloc, net, table, &arcs.get(place))? {
             return Ok(true);
         }
     }
@@ -71,8 +72,9 @@ fn is_made_by_arc(
     ensures { let reported = route_at (rows_of table.now) in IfOk result (λ r. Decides r
         ((j : ℕ) × MadeBy net.now reported node.0 j)) }
 {
-    for arc in net.out_arcs(node) {
-        if arc_makes(alloc, net, table, arc)? {
+    let arcs = net.out_arcs(node);
+    for place in 0..arcs.count() {
+        if arc_makes(alloc, net, table, &arcs.get(place))? {
             return Ok(true);
         }
     }

@@ -5,5 +5,6 @@ pub mod Faults
 pub mod NetText
 pub mod LineErrors
 pub mod Views
+pub mod LabelTexts
 pub mod LineTexts
 pub mod LineLaws

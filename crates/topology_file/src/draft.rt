@@ -15,6 +15,7 @@ ghost use Rattle.topology_file.specs.declared.faults.What.TheVariants.{Arcs};
 
 use crate::errors::{LineError, label_of};
 use crate::forms::{Line, NetLine, line_form};
+use crate::label_texts::LabelTexts;
 use crate::lines::{add_net_line, fault_after, nodes_of};
 use crate::texts::said;
 use crate::{MAX_LINE_BYTES, NetFile, NetKind, What};
@@ -27,16 +28,18 @@ use std::marker::Model;
 /// What the lines so far give. Contracts see the network of the lines without `then`, and the changes of
 /// the others.
 #[derive(Debug, Drop)]
-pub struct FileDraft {
+pub struct FileDraft<'a> {
     alloc: Global,
     draft: NetDraft,
+    texts: LabelTexts<'a>,
     changes: List<Change>,
     // How many arcs there are after the changes.
     arc_count: usize,
 }
 
-impl Model for FileDraft {
+impl<'a> Model for FileDraft<'a> {
     ghost use Rattle.topology_file.specs.NetText.{PureNetFile};
+    ghost use Rattle.topology_file.specs.LabelTexts.{AreSpelled};
     ghost use Rattle.topology_file.specs.Views.{coded_file, file_with, IsDraft};
 
     ghost Value = { PureNetFile };
@@ -45,17 +48,19 @@ impl Model for FileDraft {
 
     ghost view = { λ d. file_with d.draft d.changes };
 
-    ghost invariant = { λ d. IsDraft (file_with d.draft d.changes) d.arc_count };
+    ghost invariant = { λ d. IsDraft (file_with d.draft d.changes) d.arc_count
+        × AreSpelled d.draft d.texts.arcs.entries };
 }
 
-impl FileDraft {
+impl<'a> FileDraft<'a> {
     /// What no line gives.
-    pub fn new(alloc: Global, alg: Alg) -> FileDraft
+    pub fn new(alloc: Global, alg: Alg) -> FileDraft<'a>
         ensures { result ≡ empty_file alg }
     {
         FileDraft {
             alloc,
             draft: NetDraft::new(alloc, alg),
+            texts: LabelTexts::new(alloc),
             changes: List::new(alloc),
             arc_count: 0,
         }
@@ -63,8 +68,8 @@ impl FileDraft {
 
     /// The network and its changes.
     pub fn finish(self) -> Result<NetFile, NoMemory>
-        ensures file { IfOk result (λ file. pure_file file ≡ self) }
-        ensures changes { AreChanges self.net self.changes }
+        ensures file { IfOk result (λ file. pure_file file ≡ self.entry) }
+        ensures changes { AreChanges self.entry.net self.entry.changes }
     {
         let FileDraft { draft, changes, .. } = self;
         Ok(NetFile {
@@ -74,7 +79,7 @@ impl FileDraft {
     }
 
     /// Adds what the line asks for. After an error some of it may have been added.
-    pub fn add_line(&mut self, line: &[u8]) -> Result<(), LineError>
+    pub fn add_line(&mut self, line: &'a [u8]) -> Result<(), LineError>
         ensures ok { OnOk result (after_line spelled self.old line.now ≡ Ok self.new) }
         ensures bad { IfErr result (IsRefusedAs (after_line spelled self.old line.now)) }
     {
@@ -96,7 +101,7 @@ impl FileDraft {
 
     // A line of the network, which stands before all changes.
     #[tactic(auto, using(crate::proofs::Steps::late, crate::proofs::Steps::early_ok, crate::proofs::Steps::early_bad))]
-    fn add_to_network(&mut self, line: NetLine<'_>) -> Result<(), LineError>
+    fn add_to_network(&mut self, line: NetLine<'a>) -> Result<(), LineError>
         requires { NamesDest line }
         ensures ok { OnOk result (after_form spelled self.old (pure_net_line line.entry) ≡ Ok self.new) }
         ensures bad { IfErr result (IsRefusedAs (after_form spelled self.old (pure_net_line line.entry))) }
@@ -105,7 +110,7 @@ impl FileDraft {
             return Err(late_fault(line));
         }
         // The arcs are counted after a refusal too: of two, one may have been added.
-        let added = add_net_line(self.alloc, &mut self.draft, line);
+        let added = add_net_line(self.alloc, &mut self.draft, &mut self.texts, line);
         self.arc_count = self.draft.arc_count();
         added
     }

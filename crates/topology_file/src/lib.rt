@@ -7,6 +7,7 @@ mod draft;
 mod errors;
 mod faults;
 mod forms;
+mod label_texts;
 mod laws;
 mod lines;
 mod names;

@@ -1,30 +1,42 @@
 // What the lines of the network add to it: nodes, arcs and origins.
-ghost use Rattle.std.specs.Prelude.{◌≡◌, ◌<◌, ◌≤◌, ◌∷◌, true, None, Ok, length, option_map, IfOk, IfErr, OnOk};
+ghost use Rattle.std.specs.Prelude.{◌≡◌, ◌<◌, ◌≤◌, ◌∷◌, true, false, None, Ok, length, option_map, IfOk, IfErr, OnOk, OnErr};
 ghost use Rattle.alg_model.specs.Bounds.{AtMost, greatest_number};
 ghost use Rattle.alg_model.specs.Carriers.{carrier_of, In};
 ghost use Rattle.alg_model.specs.Views.{pure_value};
-ghost use Rattle.net_graph.specs.Nets.{number_of, is_name};
+ghost use Rattle.alg_model.specs.Expressions.{PureLabel};
+ghost use Rattle.net_graph.specs.Nets.{PureNet, number_of, is_name, has_arc};
 ghost use Rattle.net_graph.specs.Limits.{max_nodes};
 ghost use Rattle.sig_text.specs.Spelled.{spelled};
 ghost use Rattle.topology_file.specs.Texts.{words_of};
-ghost use Rattle.topology_file.specs.NetText.{ends_in, node_in, names_twice, has_origin_of, one_origin, after_link, after_both, after_origin};
+ghost use Rattle.topology_file.specs.LabelTexts.{AreSpelled, HasSameArcs, IsLinked, has_room_for_arcs};
+ghost use Rattle.topology_file.specs.NetText.{and_then, if_room, label_in, ends_in, node_in, names_twice, has_origin_of, one_origin, after_link, after_both, after_origin};
 ghost use Rattle.topology_file.specs.LineErrors.{AreEnds, IsRefusedAs, fault_after as fault_after_names, after_names, after_net_line};
 ghost use Rattle.topology_file.specs.Views.{NamesDest};
 ghost use Rattle.topology_file.specs.declared.errors.LineError.TheVariants.{Bad};
+ghost use Rattle.topology_file.specs.declared.faults.NetKind.TheVariants.{TooMany};
+ghost use Rattle.topology_file.specs.declared.faults.What.TheVariants.{Arcs};
 
 use crate::errors::{LineError, label_of, value_of};
 use crate::forms::NetLine;
+use crate::label_texts::LabelTexts;
 use crate::names::{are_all_names, has_word, is_name};
 use crate::texts::split_word;
 use crate::{NetKind, What};
 use alg_model::Value;
-use meta_base::{DestId, NodeId};
+use meta_base::{ArcId, DestId, NodeId};
 use net_graph::{MAX_ARCS, NetDraft, max_dests, max_nodes};
 use std::alloc::Global;
 
 /// Adds what a line of the network asks for. After an error some of it may have been added.
-pub fn add_net_line(alloc: Global, draft: &mut NetDraft, line: NetLine<'_>) -> Result<(), LineError>
-    requires { NamesDest line }
+pub fn add_net_line<'a>(
+    alloc: Global,
+    draft: &mut NetDraft,
+    texts: &mut LabelTexts<'a>,
+    line: NetLine<'a>,
+) -> Result<(), LineError>
+    requires dest { NamesDest line }
+    requires texts { AreSpelled draft.old texts.old.arcs.entries }
+    ensures texts { AreSpelled draft.new texts.new.arcs.entries }
     ensures ok { OnOk result (after_net_line draft.old line.entry ≡ Ok draft.new) }
     ensures bad { IfErr result (IsRefusedAs (after_net_line draft.old line.entry)) }
 {
@@ -34,12 +46,12 @@ pub fn add_net_line(alloc: Global, draft: &mut NetDraft, line: NetLine<'_>) -> R
             listener,
             speaker,
             label,
-        } => add_link(alloc, draft, listener, speaker, label),
+        } => add_link(alloc, draft, texts, listener, speaker, label),
         NetLine::Both {
             listener,
             speaker,
             label,
-        } => add_both(alloc, draft, listener, speaker, label),
+        } => add_both(alloc, draft, texts, listener, speaker, label),
         NetLine::Origin { dest, node, value } => add_origin(alloc, draft, dest, node, value),
     }
 }
@@ -118,6 +130,7 @@ fn fault_of_full(draft: &NetDraft, name: &[u8], others: &[u8]) -> LineError
 // Adds a node of the first name of a line. The others are those after it.
 #[tactic(auto, using(crate::proofs::NameLists::names_more, crate::proofs::NameLists::names_there))]
 fn add_first(draft: &mut NetDraft, name: &[u8], others: &[u8]) -> Result<(), LineError>
+    ensures arcs { HasSameArcs draft.old draft.new }
     ensures ok { OnOk result (
         after_names draft.old (name.now ∷ words_of others.now) ≡ after_names draft.new (words_of others.now)) }
     ensures bad { IfErr result (IsRefusedAs (after_names draft.old (name.now ∷ words_of others.now))) }
@@ -137,6 +150,7 @@ fn add_first(draft: &mut NetDraft, name: &[u8], others: &[u8]) -> Result<(), Lin
 
 // Adds nodes of the names that are the words of the text.
 fn add_nodes(draft: &mut NetDraft, names: &[u8]) -> Result<(), LineError>
+    ensures arcs { HasSameArcs draft.old draft.new }
     ensures ok { OnOk result (after_names draft.old (words_of names.now) ≡ Ok draft.new) }
     ensures bad { IfErr result (IsRefusedAs (after_names draft.old (words_of names.now))) }
 {
@@ -150,14 +164,64 @@ fn add_nodes(draft: &mut NetDraft, names: &[u8]) -> Result<(), LineError>
     Ok(())
 }
 
-// Adds an arc between the nodes of two names, with the label that the text spells.
-fn add_link(
+// Adds an arc, with the label that the text spells, where so many arcs may be added. After an error it may have
+// been added.
+fn add_arc<'a>(
     alloc: Global,
     draft: &mut NetDraft,
+    texts: &mut LabelTexts<'a>,
+    ends: (NodeId, NodeId),
+    text: &'a [u8],
+    count: usize,
+) -> Result<(), LineError>
+    requires ends { AreEnds draft.old ends.0.0 ends.1.0 }
+    requires absent { has_arc draft.old ends.0.0 ends.1.0 ≡ false }
+    requires count { 0 < count × count ≤ 2 }
+    requires texts { AreSpelled draft.old texts.old.arcs.entries }
+    ensures texts { AreSpelled draft.new texts.new.arcs.entries }
+    ensures ok { OnOk result (IsLinked draft.old text.now ends.0.0 ends.1.0 count draft.new) }
+    ensures bad { (made : PureLabel → PureNet) → IfErr result (IsRefusedAs
+        (and_then (label_in spelled draft.old.alg text.now)
+        (λ l. if_room (has_room_for_arcs draft.old count) Arcs (made l)))) }
+{
+    let (tail, head) = ends;
+    let id = ArcId(draft.arc_count() as u32);
+    if let Some(like) = texts.arc_of(text) {
+        check_room(draft, count)?;
+        draft.add_arc_like(tail, head, like)?;
+        return Ok(());
+    }
+    let label = label_of(alloc, draft.alg(), text)?;
+    check_room(draft, count)?;
+    draft.add_arc(tail, head, label)?;
+    texts.note(text, id)?;
+    Ok(())
+}
+
+// There is room for so many arcs more.
+fn check_room(draft: &NetDraft, count: usize) -> Result<(), LineError>
+    requires { count ≤ 2 }
+    ensures room { OnOk result (has_room_for_arcs draft.now count ≡ true) }
+    ensures full { OnErr result (has_room_for_arcs draft.now count ≡ false) }
+    ensures fault { IfErr result (λ e. e ≡ Bad (TooMany Arcs)) }
+{
+    if draft.arc_count() + count > MAX_ARCS {
+        return Err(LineError::Bad(NetKind::TooMany(What::Arcs)));
+    }
+    Ok(())
+}
+
+// Adds an arc between the nodes of two names, with the label that the text spells.
+fn add_link<'a>(
+    alloc: Global,
+    draft: &mut NetDraft,
+    texts: &mut LabelTexts<'a>,
     listener: &[u8],
     speaker: &[u8],
-    label: &[u8],
+    label: &'a [u8],
 ) -> Result<(), LineError>
+    requires texts { AreSpelled draft.old texts.old.arcs.entries }
+    ensures texts { AreSpelled draft.new texts.new.arcs.entries }
     ensures ok { OnOk result (after_link spelled draft.old listener.now speaker.now label.now ≡ Ok draft.new) }
     ensures bad { IfErr result (IsRefusedAs (after_link spelled draft.old listener.now speaker.now label.now)) }
 {
@@ -165,22 +229,20 @@ fn add_link(
     if draft.has_arc(tail, head) {
         return Err(LineError::Bad(NetKind::ArcTwice));
     }
-    let label = label_of(alloc, draft.alg(), label)?;
-    if draft.arc_count() + 1 > MAX_ARCS {
-        return Err(LineError::Bad(NetKind::TooMany(What::Arcs)));
-    }
-    draft.add_arc(tail, head, label)?;
-    Ok(())
+    add_arc(alloc, draft, texts, (tail, head), label, 1)
 }
 
 // Adds that arc, and the one back.
-fn add_both(
+fn add_both<'a>(
     alloc: Global,
     draft: &mut NetDraft,
+    texts: &mut LabelTexts<'a>,
     listener: &[u8],
     speaker: &[u8],
-    label: &[u8],
+    label: &'a [u8],
 ) -> Result<(), LineError>
+    requires texts { AreSpelled draft.old texts.old.arcs.entries }
+    ensures texts { AreSpelled draft.new texts.new.arcs.entries }
     ensures ok { OnOk result (after_both spelled draft.old listener.now speaker.now label.now ≡ Ok draft.new) }
     ensures bad { IfErr result (IsRefusedAs (after_both spelled draft.old listener.now speaker.now label.now)) }
 {
@@ -188,13 +250,9 @@ fn add_both(
     if draft.has_arc(tail, head) || draft.has_arc(head, tail) {
         return Err(LineError::Bad(NetKind::ArcTwice));
     }
-    let label = label_of(alloc, draft.alg(), label)?;
-    if draft.arc_count() + 2 > MAX_ARCS {
-        return Err(LineError::Bad(NetKind::TooMany(What::Arcs)));
-    }
-    let back = label.copy(alloc)?;
-    draft.add_arc(tail, head, label)?;
-    draft.add_arc(head, tail, back)?;
+    let like = ArcId(draft.arc_count() as u32);
+    add_arc(alloc, draft, texts, (tail, head), label, 2)?;
+    draft.add_arc_like(head, tail, like)?;
     Ok(())
 }
 
@@ -207,6 +265,7 @@ fn add_origin(
     value: &[u8],
 ) -> Result<(), LineError>
     requires { is_name dest.now ≡ true }
+    ensures arcs { HasSameArcs draft.old draft.new }
     ensures ok { OnOk result (after_origin spelled draft.old dest.now node.now value.now ≡ Ok draft.new) }
     ensures bad { IfErr result (IsRefusedAs (after_origin spelled draft.old dest.now node.now value.now)) }
 {
@@ -245,6 +304,7 @@ fn add_first_origin(
     requires node { node.0 < length draft.old.nodes }
     requires value { In (carrier_of draft.old.alg.expression) (pure_value value) }
     requires small { AtMost (greatest_number draft.old.alg.edition) (pure_value value) }
+    ensures arcs { HasSameArcs draft.old draft.new }
     ensures ok { OnOk result (one_origin draft.old dest.now node.0 (pure_value value) ≡ Ok draft.new) }
     ensures bad { IfErr result (IsRefusedAs (one_origin draft.old dest.now node.0 (pure_value value))) }
 {

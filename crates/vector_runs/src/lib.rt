@@ -12,3 +12,4 @@ pub use laws::{
 };
 pub use nodes::carried_nodes;
 pub use run::{Phase, Run, run_phases};
+pub use weave::Budget;

@@ -15,7 +15,7 @@ use path_vector::{PvNode, rows_of};
 use std::alloc::Global;
 use std::sync::Wait;
 use std::thread::Threads;
-use weave::{WeaveEnd, weave};
+use weave::{Budget, WeaveEnd, weave};
 
 /// A phase of a run.
 #[derive(Debug, Drop)]
@@ -87,19 +87,17 @@ fn keeps_rules(net: &Net)
 }
 
 /// Runs the new nodes of a network until nothing is on its way, and then carries them to each of the networks that it
-/// changes to, one after another, and runs them there; it ends before that where all turns are used up. The turns are
-/// one budget of deliveries for all phases, at most [`node_core::MAX_CLOCK`]. In each phase 1 to
-/// [`quiet_ledger::MAX_WORKERS`] workers make the deliveries, at once, on threads of their own, so which are made in
-/// which order is theirs; the gate gets a report of each. The algebra is that of all networks, which differ in their
-/// arcs alone. It is refused for want of memory alone.
+/// changes to, one after another, and runs them there; it ends before that where all turns are used up. The budget's
+/// turns are for all phases together. In each phase its workers make the deliveries, at once, on threads of their own,
+/// so which are made in which order is theirs; the gate gets a report of each. The algebra is that of all networks,
+/// which differ in their arcs alone. It is refused for want of memory alone.
 pub fn run_phases<A: Algebra + Sync, G: Gate, R: Threads + Wait + Sync>(
     rt: &R,
     alloc: Global,
     algebra: &A,
     net: &Net,
     changed: &[Net],
-    workers: u32,
-    turns: u64,
+    budget: Budget,
     gate: &G,
 ) -> Result<Run, NoMemory>
 where
@@ -107,11 +105,12 @@ where
     A::Lab: Send,
     requires algebra { A.expression algebra.now ≡ net.now.alg.expression }
     requires changed { AreLater net.now changed.now }
-    requires workers { (0 < workers) × (workers ≤ MAX_WORKERS) }
-    requires turns { turns ≤ MAX_CLOCK }
-    ensures { IfOk result (λ run. IsRun net.now changed.now turns
+    requires workers { (0 < budget.workers) × (budget.workers ≤ MAX_WORKERS) }
+    requires turns { budget.turns ≤ MAX_CLOCK }
+    ensures { IfOk result (λ run. IsRun net.now changed.now budget.turns
         (map pure_phase run.past) (pure_phase run.last) run.is_quiet) }
 {
+    let Budget { workers, turns } = budget;
     let mut past = List::new(alloc);
     let mut left = turns;
     let nodes = new_nodes(alloc, algebra, net)?;

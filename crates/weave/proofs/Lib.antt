@@ -12,3 +12,4 @@ mod OneRound
 mod Waiting
 mod Returns
 mod Ending
+pub mod Sent

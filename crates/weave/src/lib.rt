@@ -19,4 +19,4 @@ mod seating;
 mod sending;
 mod worker;
 
-pub use phase::{WeaveEnd, weave};
+pub use phase::{Budget, WeaveEnd, weave};

@@ -28,6 +28,15 @@ use std::sync::Wait;
 use std::thread::Threads;
 use woven_laws::{histories_count, histories_replay, replays_count};
 
+/// What a run may use.
+#[derive(Clone, Copy, Debug)]
+pub struct Budget {
+    /// How many workers make deliveries, 1 to [`quiet_ledger::MAX_WORKERS`].
+    pub workers: u32,
+    /// How many deliveries they make at most, no more than [`node_core::MAX_CLOCK`].
+    pub turns: u64,
+}
+
 /// What a phase came to.
 #[derive(Drop)]
 pub struct WeaveEnd<N: NodeCore> {
@@ -76,7 +85,8 @@ where
         taken: 0,
     };
     let blocks = blocks_of(alloc, net, nodes, links, block_count(net, workers))?;
-    let (blocks, totals) = run_rounds(rt, alloc, net, blocks, totals, workers, turns, gate)?;
+    let budget = Budget { workers, turns };
+    let (blocks, totals) = run_rounds(rt, alloc, net, blocks, totals, budget, gate)?;
     let (nodes, logs) = take_apart(alloc, net, blocks)?;
     let journal = merge(alloc, logs)?;
     Ok(WeaveEnd {
@@ -115,25 +125,25 @@ fn run_rounds<N: NodeCore + Send, G: Gate, R: Threads + Wait + Sync>(
     net: &Net,
     blocks: Vec<Block<N>>,
     totals: Totals,
-    workers: u32,
-    turns: u64,
+    budget: Budget,
     gate: &G,
 ) -> Result<(Vec<Block<N>>, Totals), NoMemory>
 where
     N::Message: Send,
     requires net { IsNet net.now }
     requires count { (0 < vec_len blocks) × (vec_len blocks ≤ MAX_WORKERS) }
-    requires turns { turns ≤ MAX_CLOCK }
+    requires turns { budget.turns ≤ MAX_CLOCK }
     requires begun { (c : Machine N.State N.Note) × IsRunning N.kind net.now c × (waiting_on net.now c ≤ 2 ^ 20)
-        × HasCome N.kind net.now (vec_len blocks) turns c (view_at N.state N.note blocks.items) totals
+        × HasCome N.kind net.now (vec_len blocks) budget.turns c (view_at N.state N.note blocks.items) totals
         × AreUpTo N.kind c 0 }
     ensures count { IfOk result (λ r. vec_len r.0 ≡ vec_len blocks) }
     ensures come { IfOk result (λ r. (c : Machine N.State N.Note)
         → IsRunning N.kind net.now c → waiting_on net.now c ≤ 2 ^ 20
-        → HasCome N.kind net.now (vec_len blocks) turns c (view_at N.state N.note blocks.items) totals
-        → HasCome N.kind net.now (vec_len blocks) turns c (view_at N.state N.note r.0.items) r.1) }
-    ensures over { IfOk result (λ r. IsOver turns r.1) }
+        → HasCome N.kind net.now (vec_len blocks) budget.turns c (view_at N.state N.note blocks.items) totals
+        → HasCome N.kind net.now (vec_len blocks) budget.turns c (view_at N.state N.note r.0.items) r.1) }
+    ensures over { IfOk result (λ r. IsOver budget.turns r.1) }
 {
+    let Budget { workers, turns } = budget;
     keeps_laws::<N>();
     histories_count::<N>();
     if totals.sent == totals.taken || totals.taken == turns {

@@ -105,8 +105,8 @@ where
     requires fresh { All (λ part. part.refused ≡ false) parts.old.items }
     ensures count { vec_len parts.new ≡ vec_len parts.old }
     ensures worked { (w : ℕ) (d : _) → w < vec_len parts.old → (slice_index_or parts.new.items w d).refused ≡ false
-        → HasWorked N.state N.note N.kind net.now (slice_index_or parts.old.items w d) (slice_index_or parts.new.items w d)
-        × IsEntered (slice_index_or parts.new.items w d) }
+        → HasWorked N.state N.note N.kind net.now (slice_index_or parts.old.items w d)
+        (slice_index_or parts.new.items w d) × IsEntered (slice_index_or parts.new.items w d) }
 {
     let count = parts.len();
     thread::for_each_mut(

@@ -20,7 +20,7 @@ arc-arc-requires g c =
 pub lab_of-requires-clause-small : goal.lab_of-requires-clause-small
 lab_of-requires-clause-small g c =
     let id : ArcId = get_or c.listeners-ids.result.now c.loop-id.id-index record { 0 = 0 } in
-    arc_label_small c.args.net.now c.requires.net id.0 (pure_arc c.arc-arc.result.now) c.arc-arc.ensures.arc
+    arc_label_small c.args.net.now c.requires.net id.0 (pure_arc c.arc-arc.result) c.arc-arc.ensures.arc
 
 pub loop-id-preserved : goal.loop-id-preserved
 loop-id-preserved g c =
@@ -30,17 +30,17 @@ loop-id-preserved g c =
     let m = c.loop-id.id-index in
     let id : ArcId = get_or ids m record { 0 = 0 } in
     let done = c.loop-id.listeners.items in
-    let arc = pure_arc c.arc-arc.result.now in
-    let there = heard_place net node m id.0 (pure_arc c.arc-arc.result.now)
+    let arc = pure_arc c.arc-arc.result in
+    let there = heard_place net node m id.0 (pure_arc c.arc-arc.result)
     (heard_id net c.requires.net node ids c.listeners-ids.ensures m id (slice_get-get_or ids m record { 0 = 0 } c.loop-id-test.true)) c.arc-arc.ensures.arc in
     let place : m ≡ length done = let e = c.loop-id.invariant.count in omega arith in
     let stands_for = g.A.Algebra.stands_for c.args.algebra.now in
     let P = λ (k : ℕ) (listener : Listener g.row.A-Lab.Denot). (a : PureArc) → slice_get (arcs_to net node) k ≡ Some a → IsListener stands_for a listener in
-    let listener : Listener g.row.A-Lab.Denot = record { node = c.arc-arc.result.now.tail; label = c.in_ok-lab_of.field-0 } in
-    let heard : IsListener stands_for (pure_arc c.arc-arc.result.now) listener = record { node = refl; label = c.in_ok-lab_of.ensures } in
+    let listener : Listener g.row.A-Lab.Denot = record { node = c.arc-arc.result.tail; label = c.in_ok-lab_of.field-0 } in
+    let heard : IsListener stands_for (pure_arc c.arc-arc.result) listener = record { node = refl; label = c.in_ok-lab_of.ensures } in
     record {
       count = omega (arith, c.in_ok-push.ensures.len, c.loop-id.invariant.count);
-      each = rw c.in_ok-push.ensures.items (each-push P done listener (rw place at (the_one (λ a. IsListener stands_for a listener) (slice_get (arcs_to net node) m) (pure_arc c.arc-arc.result.now) there heard)) c.loop-id.invariant.each);
+      each = rw c.in_ok-push.ensures.items (each-push P done listener (rw place at (the_one (λ a. IsListener stands_for a listener) (slice_get (arcs_to net node) m) (pure_arc c.arc-arc.result) there heard)) c.loop-id.invariant.each);
     }
 
 pub returns : goal.returns

@@ -10,7 +10,7 @@ use Rattle.metacli.proofs.coding.arc_listing.Goals as goal
 pub loop-arc-preserved : goal.loop-arc-preserved
 loop-arc-preserved c =
     let net = c.args.net.now in
-    let arc = pure_arc c.arc.result.now in
+    let arc = pure_arc c.arc.result in
     c.in_ok-push.ensures.ok
     ∙ made_at (CompileLabel net.alg.expression) net c.loop-arc.arc arc c.loop-arc.labels c.in_ok-compile_label.field-0 c.loop-arc.invariant c.arc.ensures.arc
     (c.in_ok-compile_label.ensures ∙ ap (λ (a : PureAlg). CompileLabel a.expression arc.label) c.alg-in-loop-arc.ensures.alg)

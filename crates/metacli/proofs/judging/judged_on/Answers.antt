@@ -6,12 +6,12 @@ use Rattle.report_check.specs.Views.{pure_judgement}
 use Rattle.metacli.proofs.Judgements.{judgement_printed}
 use Rattle.metacli.proofs.judging.judged_on.Goals as goal
 
-pub returns-in-Ok-judge-clause-found : goal.returns-in-Ok-judge-clause-found
-returns-in-Ok-judge-clause-found c =
+pub returns-in-Ok-judgement_of-clause-found : goal.returns-in-Ok-judgement_of-clause-found
+returns-in-Ok-judgement_of-clause-found c =
     let net = c.args.net.now in
     let tables = map rows_of c.in-Ok.tables in
-    let judgement = pure_judgement c.in-Ok-judge.judgement in
-    let judged : Judged net tables judgement = subst (λ ts. Judged net (map rows_of ts) judgement) c.as_slice.ensures c.in-Ok-judge.ensures in
+    let judgement = pure_judgement c.in-Ok-judgement_of.judgement in
+    let judged : Judged net tables judgement = subst (λ ts. Judged net (map rows_of ts) judgement) c.as_slice.ensures c.in-Ok-judgement_of.ensures in
     let count : length tables ≡ length net.dests = length-map c.in-Ok.tables rows_of ∙ c.in-Ok.ensures.count in
     record {
       means = c.in-Ok.ensures.tables;

@@ -7,7 +7,7 @@ use Rattle.net_facts.proofs.missing.first_missing.Goals as goal
 
 pub returns-clause-first : goal.returns-clause-first
 returns-clause-first c =
-    let arc = pure_arc c.arc.result.now in
+    let arc = pure_arc c.arc.result in
     let p = pure_property c.in-Some.property in
     let x = pure_instance c.in_ok-instance.instance in
     let shown : IsMissingOf c.args.net.now.alg p arc.label x = rw c.alg.ensures.alg at c.in_ok-instance.ensures in

@@ -12,18 +12,18 @@ use Rattle.path_vector.proofs.choosing.choose.Goals as goal
 pub loop-place-init : goal.loop-place-init
 loop-place-init g c =
     let A = g.A.Algebra in
-    let s = c.args.algebra.now in
+    let s = c.args.site.now.algebra.now in
     record {
       sig = c.in_ok-best.ensures.sig;
-      best = c.in_ok-best.ensures.offer c.args.node.0
-          ∙ own_best (A.stands_for s) (A.is_sig s) (A.sig_value s) c.args.net.now c.requires.net c.args.node.0 c.args.dest.0 c.args.neighbours.now c.requires.neighbours c.args.own.now c.requires.origin;
+      best = c.in_ok-best.ensures.offer c.args.site.now.node.0
+          ∙ own_best (A.stands_for s) (A.is_sig s) (A.sig_value s) c.args.site.now.net.now c.requires.net c.args.site.now.node.0 c.args.dest.0 c.args.neighbours.now c.requires.neighbours c.args.own.now c.requires.origin;
     }
 
 pub route-known-requires : goal.route-known-requires
 route-known-requires g c =
     let A = g.A.Algebra in
-    let s = c.args.algebra.now in
-    let net = c.args.net.now in
+    let s = c.args.site.now.algebra.now in
+    let net = c.args.site.now.net.now in
     let ns = c.args.neighbours.now in
     let k = c.loop-place.place in
     let m = item_there ns k (rw c.count-place-end.ensures at c.loop-place-test.true) in
@@ -33,8 +33,8 @@ route-known-requires g c =
 pub offer_into-requires-clause-said : goal.offer_into-requires-clause-said
 offer_into-requires-clause-said g c =
     let A = g.A.Algebra in
-    let s = c.args.algebra.now in
-    let net = c.args.net.now in
+    let s = c.args.site.now.algebra.now in
+    let net = c.args.site.now.net.now in
     let ns = c.args.neighbours.now in
     let k = c.loop-place.place in
     let m = item_there ns k (rw c.count-place-end.ensures at c.loop-place-test.true) in
@@ -44,13 +44,13 @@ offer_into-requires-clause-said g c =
 pub loop-place-preserved : goal.loop-place-preserved
 loop-place-preserved g c =
     let A = g.A.Algebra in
-    let s = c.args.algebra.now in
-    let net = c.args.net.now in
+    let s = c.args.site.now.algebra.now in
+    let net = c.args.site.now.net.now in
     let ns = c.args.neighbours.now in
     let k = c.loop-place.place in
     let m = item_there ns k (rw c.count-place-end.ensures at c.loop-place-test.true) in
     let there = neighbour_at (A.stands_for s) (A.is_sig s) (A.sig_value s) net _ ns k m.0 c.requires.neighbours m.1 in
-    let i = c.args.node.0 in
+    let i = c.args.site.now.node.0 in
     let may = may_offer (A.stands_for s) (A.is_sig s) (A.sig_value s) net there.0 m.0 c.args.dest.0 _ _ there.2 (c.neighbour.ensures m.0 m.1).1 (c.route-known.ensures m.0 m.1) in
     let offered = placed c.in_ok-after.after c.offer_into.new.place in
     let offer = c.in_ok-after.ensures.offer there.0 (tail_is net i k there.0 there.1) may
@@ -70,21 +70,21 @@ loop-place-preserved g c =
 pub returns-in_ok-taken_by-in-Some-clause-choice : goal.returns-in_ok-taken_by-in-Some-clause-choice
 returns-in_ok-taken_by-in-Some-clause-choice g c =
     let A = g.A.Algebra in
-    let s = c.args.algebra.now in
+    let s = c.args.site.now.algebra.now in
     let ns = c.args.neighbours.now in
     let k = c.loop-place.place in
     let past : length ns ≤ k = rw c.count-place-end.ensures at c.loop-place-test.false in
-    let taken : known_route (A.sig_value s) c.in_ok-taken_by-in-Some.field-0 ≡ offered_route (A.sig_value s) c.args.node.0 c.in-Some.offer =
+    let taken : known_route (A.sig_value s) c.in_ok-taken_by-in-Some.field-0 ≡ offered_route (A.sig_value s) c.args.site.now.node.0 c.in-Some.offer =
     rw (c.in_ok-taken_by-in-Some.ensures.sig, c.in_ok-taken_by-in-Some.ensures.path) refl in
     ap (λ z. Some z) taken ∙ rw c.in-Some.is at c.loop-place.invariant.best
-    ∙ chosen_at_end (A.stands_for s) (A.is_sig s) (A.sig_value s) c.args.net.now c.requires.net c.args.node.0 c.args.dest.0 ns c.requires.neighbours k past
+    ∙ chosen_at_end (A.stands_for s) (A.is_sig s) (A.sig_value s) c.args.site.now.net.now c.requires.net c.args.site.now.node.0 c.args.dest.0 ns c.requires.neighbours k past
 
 pub returns-in-None-clause-choice : goal.returns-in-None-clause-choice
 returns-in-None-clause-choice g c =
     let A = g.A.Algebra in
-    let s = c.args.algebra.now in
+    let s = c.args.site.now.algebra.now in
     let ns = c.args.neighbours.now in
     let k = c.loop-place.place in
     let past : length ns ≤ k = rw c.count-place-end.ensures at c.loop-place-test.false in
     rw c.in-None.is at c.loop-place.invariant.best
-    ∙ chosen_at_end (A.stands_for s) (A.is_sig s) (A.sig_value s) c.args.net.now c.requires.net c.args.node.0 c.args.dest.0 ns c.requires.neighbours k past
+    ∙ chosen_at_end (A.stands_for s) (A.is_sig s) (A.sig_value s) c.args.site.now.net.now c.requires.net c.args.site.now.node.0 c.args.dest.0 ns c.requires.neighbours k past

@@ -9,8 +9,8 @@ use Rattle.path_vector.proofs.choosing.choose.Given as goal
 -- the best of the offers of the own origin and of the neighbours so far
 abbrev pub invariant-loop-place : goal.invariant-loop-place
 invariant-loop-place g l =
-    let value = g.A.Algebra.sig_value l.fn.algebra in
+    let value = g.A.Algebra.sig_value l.fn.site.algebra.now in
     record {
-      sig : IfSome l.best (λ o. g.A.Algebra.is_sig l.fn.algebra o.sig);
-      best : option_map (offered_route value l.fn.node.0) l.best ≡ best_of (carrier l.fn.net) (firsts value l.fn.net l.fn.node.0 l.fn.dest.0 l.fn.neighbours l.place);
+      sig : IfSome l.best (λ o. g.A.Algebra.is_sig l.fn.site.algebra.now o.sig);
+      best : option_map (offered_route value l.fn.site.node.0) l.best ≡ best_of (carrier l.fn.site.net.now) (firsts value l.fn.site.net.now l.fn.site.node.0 l.fn.dest.0 l.fn.neighbours l.place);
     }

@@ -33,8 +33,8 @@ place_of-place-requires g c =
     let x = item_there c.args.old k (rw c.count-at-end.ensures at c.loop-at-test.true) in
     let here : slice_get c.loop-at.old k ≡ Some x.0 = c.loop-at.invariant.left k (omega arith) ∙ x.1 in
     let arc_is = (c.neighbour.ensures x.0 here).0 in
-    let stands : slice_get before.arcs x.0.arc.0 ≡ Some (pure_arc c.arc-arc.result.now) = subst (λ (z : ArcId). slice_get before.arcs z.0 ≡ Some (pure_arc c.arc-arc.result.now)) arc_is c.arc-arc.ensures.arc in
-    id_within (A.stands_for s) (A.is_sig s) (A.sig_value s) before net c.requires.before c.in_ok-neighbours.ensures.net c.requires.net c.args.node.0 c.args.old k x.0 c.requires.old x.1 (pure_arc c.arc-arc.result.now) c.in-Some.id.0 c.in-Some.ensures
+    let stands : slice_get before.arcs x.0.arc.0 ≡ Some (pure_arc c.arc-arc.result) = subst (λ (z : ArcId). slice_get before.arcs z.0 ≡ Some (pure_arc c.arc-arc.result)) arc_is c.arc-arc.ensures.arc in
+    id_within (A.stands_for s) (A.is_sig s) (A.sig_value s) before net c.requires.before c.in_ok-neighbours.ensures.net c.requires.net c.args.node.0 c.args.old k x.0 c.requires.old x.1 (pure_arc c.arc-arc.result) c.in-Some.id.0 c.in-Some.ensures
 
 pub hear_all_at-requires-clause-here : goal.hear_all_at-requires-clause-here
 hear_all_at-requires-clause-here g c =
@@ -46,10 +46,10 @@ hear_all_at-requires-clause-here g c =
     let x = item_there c.args.old k (rw c.count-at-end.ensures at c.loop-at-test.true) in
     let here : slice_get c.loop-at.old k ≡ Some x.0 = c.loop-at.invariant.left k (omega arith) ∙ x.1 in
     let arc_is = (c.neighbour.ensures x.0 here).0 in
-    let stands : slice_get before.arcs x.0.arc.0 ≡ Some (pure_arc c.arc-arc.result.now) = subst (λ (z : ArcId). slice_get before.arcs z.0 ≡ Some (pure_arc c.arc-arc.result.now)) arc_is c.arc-arc.ensures.arc in
+    let stands : slice_get before.arcs x.0.arc.0 ≡ Some (pure_arc c.arc-arc.result) = subst (λ (z : ArcId). slice_get before.arcs z.0 ≡ Some (pure_arc c.arc-arc.result)) arc_is c.arc-arc.ensures.arc in
     subst (λ z. HasEntries c.place_of-place.result z c.loop-at.neighbours) (sym c.dest_count-dests.ensures.count)
     (entries_there (A.stands_for s) (A.is_sig s) (A.sig_value s) before net c.requires.before c.in_ok-neighbours.ensures.net c.requires.net c.args.node.0 c.args.old k x.0 c.requires.old x.1
-    (pure_arc c.arc-arc.result.now) stands c.in-Some.id.0 c.place_of-place.result c.in-Some.ensures c.place_of-place.ensures c.loop-at.neighbours c.loop-at.invariant.neighbours)
+    (pure_arc c.arc-arc.result) stands c.in-Some.id.0 c.place_of-place.result c.in-Some.ensures c.place_of-place.ensures c.loop-at.neighbours c.loop-at.invariant.neighbours)
 
 pub hear_all_at-requires-clause-there : goal.hear_all_at-requires-clause-there
 hear_all_at-requires-clause-there g c =
@@ -73,21 +73,21 @@ loop-at-preserved g c =
     let x = item_there c.args.old k (rw c.count-at-end.ensures at c.loop-at-test.true) in
     let here : slice_get c.loop-at.old k ≡ Some x.0 = c.loop-at.invariant.left k (omega arith) ∙ x.1 in
     let arc_is = (c.neighbour.ensures x.0 here).0 in
-    let stands : slice_get before.arcs x.0.arc.0 ≡ Some (pure_arc c.arc-arc.result.now) = subst (λ (z : ArcId). slice_get before.arcs z.0 ≡ Some (pure_arc c.arc-arc.result.now)) arc_is c.arc-arc.ensures.arc in
+    let stands : slice_get before.arcs x.0.arc.0 ≡ Some (pure_arc c.arc-arc.result) = subst (λ (z : ArcId). slice_get before.arcs z.0 ≡ Some (pure_arc c.arc-arc.result)) arc_is c.arc-arc.ensures.arc in
     let value = A.sig_value s in
     elim c.match-arc_between.branch [
       | in-Some w ↦
           let heard = heard_so_far (A.stands_for s) (A.is_sig s) (A.sig_value s) before net c.requires.before c.in_ok-neighbours.ensures.net c.requires.net c.args.node.0 c.args.old k x.0 c.requires.old x.1
-          (pure_arc c.arc-arc.result.now) stands w.in-Some.id.0 w.place_of-place.result w.in-Some.ensures w.place_of-place.ensures c.loop-at.neighbours c.loop-at.invariant.neighbours w.hear_all_at.new.neighbours (λ n e. w.hear_all_at.ensures.heard n x.0 e here) c.loop-at.invariant.heard in
+          (pure_arc c.arc-arc.result) stands w.in-Some.id.0 w.place_of-place.result w.in-Some.ensures w.place_of-place.ensures c.loop-at.neighbours c.loop-at.invariant.neighbours w.hear_all_at.new.neighbours (λ n e. w.hear_all_at.ensures.heard n x.0 e here) c.loop-at.invariant.heard in
           rw (w.neighbours-is, w.old-is) record {
             neighbours = still_neighbours (A.stands_for s) (A.is_sig s) (A.sig_value s) before net c.requires.before c.in_ok-neighbours.ensures.net c.requires.net c.args.node.0 c.args.old k x.0 c.requires.old x.1
-                (pure_arc c.arc-arc.result.now) stands w.in-Some.id.0 w.place_of-place.result w.in-Some.ensures w.place_of-place.ensures c.loop-at.neighbours c.loop-at.invariant.neighbours w.hear_all_at.new.neighbours (λ n e. w.hear_all_at.ensures.heard n x.0 e here);
+                (pure_arc c.arc-arc.result) stands w.in-Some.id.0 w.place_of-place.result w.in-Some.ensures w.place_of-place.ensures c.loop-at.neighbours c.loop-at.invariant.neighbours w.hear_all_at.new.neighbours (λ n e. w.hear_all_at.ensures.heard n x.0 e here);
             heard = one_more (λ z. (a dest : ℕ) → heard_by value w.hear_all_at.new.neighbours a dest ≡ heard_before before net (heard_by value z) a dest) c.args.old k x.0 x.1 heard;
             left = λ j l. w.hear_all_at.ensures.after j (omega arith) ∙ c.loop-at.invariant.left j (omega arith);
             many = w.hear_all_at.ensures.count ∙ c.loop-at.invariant.many;
           }
       | in_default w ↦
-          let none = nothing_joins (A.stands_for s) (A.is_sig s) (A.sig_value s) before net c.requires.before c.in_ok-neighbours.ensures.net c.requires.net c.args.node.0 c.args.old k x.0 c.requires.old x.1 (pure_arc c.arc-arc.result.now) stands w.in_default.ensures in
+          let none = nothing_joins (A.stands_for s) (A.is_sig s) (A.sig_value s) before net c.requires.before c.in_ok-neighbours.ensures.net c.requires.net c.args.node.0 c.args.old k x.0 c.requires.old x.1 (pure_arc c.arc-arc.result) stands w.in_default.ensures in
           let heard = none_joins (A.stands_for s) (A.is_sig s) (A.sig_value s) before net c.requires.before c.in_ok-neighbours.ensures.net c.requires.net c.args.node.0 c.args.old k x.0 c.requires.old x.1 (heard_by value c.loop-at.neighbours) none c.loop-at.invariant.heard in
           rw (w.neighbours-is, w.old-is) record {
             neighbours = c.loop-at.invariant.neighbours;

@@ -18,7 +18,7 @@ loop-id-preserved c =
     let k = c.loop-id.id-index in
     let there = listener_at net c.args.node.0 _ k _ c.requires.net c.loop-id.invariant.ids c.loop-id-test.true in
     let p : PureArc → Bool = λ (a : PureArc). cond (spoken_in (option_map (λ n. n.now) c.args.before) a.tail a.head) c.args.is_other (is_some c.args.update.now.route) in
-    let same : pure_arc c.arc.result.now ≡ there.0 = (let e = sym c.arc.ensures.arc ∙ there.3 in cc) in
+    let same : pure_arc c.arc.result ≡ there.0 = (let e = sym c.arc.ensures.arc ∙ there.3 in cc) in
     record {
       ids = c.loop-id.invariant.ids;
       reported = one_reported p (arcs_to net c.args.node.0) (pure_update c.args.update.now) k _ there.0 c.is_news-is_news.result _ _ _ there.1 there.2 (c.is_news-is_news.ensures ∙ ap p same) c.loop-id.invariant.reported c.in_ok-report_if.ensures;

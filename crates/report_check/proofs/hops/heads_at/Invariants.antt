@@ -6,5 +6,7 @@ use Rattle.report_check.specs.Hops.{is_hop}
 use Rattle.report_check.proofs.hops.heads_at.Given as goal
 
 -- the heads of the arcs so far
-abbrev pub invariant-loop-arc : goal.invariant-loop-arc
-invariant-loop-arc l = numbers l.heads ≡ map (λ (a : PureArc). a.head) (filter (is_hop l.net (rows_of l.table)) (take l.arc-index (arcs_from l.net l.fn.node.0)))
+abbrev pub invariant-loop-hop : goal.invariant-loop-hop
+invariant-loop-hop g l =
+    let net = l.form.net.now in
+    numbers l.heads ≡ map (λ (a : PureArc). a.head) (filter (is_hop net (rows_of l.form.table.now)) (take l.hop-index (arcs_from net l.fn.node.0)))

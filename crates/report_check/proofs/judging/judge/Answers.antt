@@ -9,16 +9,16 @@ use Rattle.report_check.proofs.TableFindings.{all_relaxed_tables, dest_there, ho
 use Rattle.report_check.proofs.judging.judge.Goals as goal
 
 pub judge_more-requires-clause-dest : goal.judge_more-requires-clause-dest
-judge_more-requires-clause-dest c =
+judge_more-requires-clause-dest g c =
     let d = dest_there c.args.tables.now c.loop-table.table-index c.table-item.result c.requires.dests c.loop-table-test.true c.table-item.is in
     omega (arith, d, c.requires.count, c.loop-table-test.true)
 
 pub judge_more-requires-clause-table : goal.judge_more-requires-clause-table
-judge_more-requires-clause-table c =
+judge_more-requires-clause-table g c =
     holds_there (TableOf c.args.net.now) c.args.tables.now c.loop-table.table-index c.table-item.result c.requires.dests c.requires.tables c.loop-table-test.true c.table-item.is
 
 pub loop-table-preserved : goal.loop-table-preserved
-loop-table-preserved c =
+loop-table-preserved g c =
     let net = c.args.net.now in
     let tables = map rows_of c.args.tables.now in
     let k = c.loop-table.table-index in
@@ -33,7 +33,7 @@ loop-table-preserved c =
     }
 
 pub returns-then-not-is_yes : goal.returns-then-not-is_yes
-returns-then-not-is_yes c =
+returns-then-not-is_yes g c =
     let net = c.args.net.now in
     let tables = map rows_of c.args.tables.now in
     let all : c.loop-table.table-index ≡ length tables = omega (arith, length-map c.args.tables.now rows_of, c.loop-table-test.false, c.loop-table.auto.table-index-end) in
@@ -43,7 +43,7 @@ returns-then-not-is_yes c =
     }
 
 pub returns : goal.returns
-returns c =
+returns g c =
     let net = c.args.net.now in
     let tables = map rows_of c.args.tables.now in
     let all : c.loop-table.table-index ≡ length tables = omega (arith, length-map c.args.tables.now rows_of, c.loop-table-test.false, c.loop-table.auto.table-index-end) in

@@ -6,7 +6,7 @@ use Rattle.report_check.proofs.judging.judge.Given as goal
 
 -- what the tables so far show
 abbrev pub invariant-loop-table : goal.invariant-loop-table
-invariant-loop-table l = record {
+invariant-loop-table g l = record {
   optimal : OptimalBefore l.net (map rows_of l.tables) l.table-index (pure_optimal l.found.optimal);
   stable : StableBefore l.net (map rows_of l.tables) l.table-index (pure_stable l.found.stable);
 }

@@ -7,13 +7,13 @@ use Rattle.report_check.proofs.RowSearch.{MadeSoFar, NotBeatenYet, NotOutdoneYet
 use Rattle.report_check.proofs.rows.judge_row.Given as goal
 
 -- what the origin and the arcs so far show
-abbrev pub invariant-loop-arc : goal.invariant-loop-arc
-invariant-loop-arc l = record {
+abbrev pub invariant-loop-place : goal.invariant-loop-place
+invariant-loop-place l = record {
   beating : l.wanted.optimal ≡ true → MatchOption l.found.beating
-      (NotBeatenYet l.net l.table.dest.0 (rows_of l.table) l.fn.node.0 l.arc-index)
+      (NotBeatenYet l.net l.table.dest.0 (rows_of l.table) l.fn.node.0 l.place)
       (λ walk. IsBeatenBy l.net l.table.dest.0 (rows_of l.table) l.fn.node.0 (numbers walk));
-  made : l.wanted.stable ≡ true → MadeSoFar l.net l.table.dest.0 (rows_of l.table) l.fn.node.0 l.arc-index l.found.offers.is_made;
+  made : l.wanted.stable ≡ true → MadeSoFar l.net l.table.dest.0 (rows_of l.table) l.fn.node.0 l.place l.found.offers.is_made;
   better : l.wanted.stable ≡ true → MatchOption l.found.offers.better
-      (NotOutdoneYet l.net l.table.dest.0 (rows_of l.table) l.fn.node.0 l.arc-index)
+      (NotOutdoneYet l.net l.table.dest.0 (rows_of l.table) l.fn.node.0 l.place)
       (λ s. IsBetterOffer l.net l.table.dest.0 (rows_of l.table) l.fn.node.0 (pure_route s));
 }

@@ -12,13 +12,13 @@ use Rattle.stable_check.proofs.offers.arc_value.Goals as goal
 pub apply-requires-clause-label : goal.apply-requires-clause-label
 apply-requires-clause-label c =
     let a = c.args.arc.now in
-    let is = of_some (IsArc c.args.net.now a.tail.0 a.head.0) (label_between c.args.net.now a.tail.0 a.head.0) (pure_label a.label) (arcs_are c.args.net.now c.requires.net a.tail.0 a.head.0) c.requires.arc in
+    let is = of_some (IsArc c.args.net.now a.tail.0 a.head.0) (label_between c.args.net.now a.tail.0 a.head.0) (pure_label a.label.now) (arcs_are c.args.net.now c.requires.net a.tail.0 a.head.0) c.requires.arc in
     rw c.alg.ensures.alg is.label_in
 
 pub apply-requires-clause-small_label : goal.apply-requires-clause-small_label
 apply-requires-clause-small_label c =
     let a = c.args.arc.now in
-    (of_some (IsArc c.args.net.now a.tail.0 a.head.0) (label_between c.args.net.now a.tail.0 a.head.0) (pure_label a.label) (arcs_are c.args.net.now c.requires.net a.tail.0 a.head.0) c.requires.arc).small
+    (of_some (IsArc c.args.net.now a.tail.0 a.head.0) (label_between c.args.net.now a.tail.0 a.head.0) (pure_label a.label.now) (arcs_are c.args.net.now c.requires.net a.tail.0 a.head.0) c.requires.arc).small
 
 pub apply-requires-clause-value : goal.apply-requires-clause-value
 apply-requires-clause-value c =

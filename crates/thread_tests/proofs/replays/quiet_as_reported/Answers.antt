@@ -1,6 +1,6 @@
 use denote.Param.Send.{sendable}
 use Rattle.std.proofs.Crossing.{crosses}
-use Rattle.thread_tests.proofs.Sent.{net_sync}
+use Rattle.weave.proofs.Sent.{net_sync}
 use Rattle.thread_tests.proofs.replays.quiet_as_reported.Goals as goal
 
 pub run-requires-sync-G : goal.run-requires-sync-G

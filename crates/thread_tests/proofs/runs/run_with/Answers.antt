@@ -1,7 +1,7 @@
 use denote.Param.Send.{sendable}
 use Rattle.std.proofs.Crossing.{crosses}
 use Rattle.thread_tests.proofs.Ends.{ended_nets}
-use Rattle.thread_tests.proofs.Sent.{net_sync}
+use Rattle.weave.proofs.Sent.{net_sync}
 use Rattle.thread_tests.proofs.runs.run_with.Goals as goal
 
 pub weave-requires-send-N : goal.weave-requires-send-N

@@ -2,7 +2,7 @@ use denote.Param.Send.{sendable}
 use Rattle.std.proofs.Common.{refl}
 use Rattle.std.proofs.Crossing.{crosses}
 use Rattle.vector_runs.proofs.Phases.{begun_nets, ended_begun, ended_phase}
-use Rattle.vector_runs.proofs.Sent.{net_sync}
+use Rattle.weave.proofs.Sent.{net_sync}
 use Rattle.vector_runs.proofs.run.run_nodes.Goals as goal
 
 pub weave-requires-send-N : goal.weave-requires-send-N

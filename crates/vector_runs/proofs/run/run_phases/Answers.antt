@@ -20,8 +20,8 @@ run_nodes-requires-in-loop-next-clause-nodes g c _ _ =
     let k = c.loop-next.next-index in
     let now = c.loop-next.now in
     let there : slice_get nets k ≡ Some m = slice_get-get_or nets k m c.loop-next-test.true ∙ ap (λ z. Some z) (sym c.next-item.is) in
-    let is : IsSoFar c.args.net.now nets c.args.turns (map pure_phase c.loop-next.past) (m ∷ drop (k + 1) nets) c.loop-next.left (pure_phase now.phase) now.is_quiet (map state_of now.nodes) =
-    subst (λ z. IsSoFar c.args.net.now nets c.args.turns (map pure_phase c.loop-next.past) z c.loop-next.left (pure_phase now.phase) now.is_quiet (map state_of now.nodes)) (drop_next nets k m there) c.loop-next.invariant.so_far in
+    let is : IsSoFar c.args.net.now nets c.args.budget.turns (map pure_phase c.loop-next.past) (m ∷ drop (k + 1) nets) c.loop-next.left (pure_phase now.phase) now.is_quiet (map state_of now.nodes) =
+    subst (λ z. IsSoFar c.args.net.now nets c.args.budget.turns (map pure_phase c.loop-next.past) z c.loop-next.left (pure_phase now.phase) now.is_quiet (map state_of now.nodes)) (drop_next nets k m there) c.loop-next.invariant.so_far in
     subst (AreUnbegun path_vector m 0) (sym c.in_ok-nodes-2.ensures) (carried_are_unbegun is.net m is.later.0 0 (map state_of now.nodes) is.begun)
 
 pub loop-next-preserved : goal.loop-next-preserved
@@ -35,12 +35,12 @@ loop-next-preserved g c =
     let past = map pure_phase c.loop-next.past in
     let states = map state_of now.nodes in
     let there : slice_get nets k ≡ Some m = slice_get-get_or nets k m c.loop-next-test.true ∙ ap (λ z. Some z) (sym c.next-item.is) in
-    let at : IsSoFar c.args.net.now nets c.args.turns past (m ∷ drop (k + 1) nets) left (pure_phase now.phase) now.is_quiet states =
-    subst (λ z. IsSoFar c.args.net.now nets c.args.turns past z left (pure_phase now.phase) now.is_quiet states) (drop_next nets k m there) c.loop-next.invariant.so_far in
+    let at : IsSoFar c.args.net.now nets c.args.budget.turns past (m ∷ drop (k + 1) nets) left (pure_phase now.phase) now.is_quiet states =
+    subst (λ z. IsSoFar c.args.net.now nets c.args.budget.turns past z left (pure_phase now.phase) now.is_quiet states) (drop_next nets k m there) c.loop-next.invariant.so_far in
     let quiet : now.is_quiet ≡ true = (let f = c.in-true in cc) in
-    let is : IsSoFar c.args.net.now nets c.args.turns past (m ∷ drop (k + 1) nets) left (pure_phase now.phase) true states =
-    subst (λ q. IsSoFar c.args.net.now nets c.args.turns past (m ∷ drop (k + 1) nets) left (pure_phase now.phase) q states) quiet at in
-    let ran = next_so_far c.args.net.now nets c.args.turns past m (drop (k + 1) nets) left (pure_phase now.phase) states is (map state_of c.in_ok-nodes-2.nodes) c.in_ok-nodes-2.ensures
+    let is : IsSoFar c.args.net.now nets c.args.budget.turns past (m ∷ drop (k + 1) nets) left (pure_phase now.phase) true states =
+    subst (λ q. IsSoFar c.args.net.now nets c.args.budget.turns past (m ∷ drop (k + 1) nets) left (pure_phase now.phase) q states) quiet at in
+    let ran = next_so_far c.args.net.now nets c.args.budget.turns past m (drop (k + 1) nets) left (pure_phase now.phase) states is (map state_of c.in_ok-nodes-2.nodes) c.in_ok-nodes-2.ensures
     (pure_phase next.phase) next.is_quiet (map state_of next.nodes) (rw c.as_slice.ensures at c.in_ok-now-2.ensures.phase) c.in_ok-now-2.ensures.begun in
     record {
       few = let few = c.loop-next.invariant.few in omega arith;
@@ -50,7 +50,7 @@ loop-next-preserved g c =
 pub returns : goal.returns
 returns g c =
     let now = c.loop-next.now in
-    so_far_is_run c.args.net.now c.args.changed.now c.args.turns (map pure_phase c.loop-next.past) _ c.loop-next.left (pure_phase now.phase) now.is_quiet (map state_of now.nodes) c.loop-next.invariant.so_far
+    so_far_is_run c.args.net.now c.args.changed.now c.args.budget.turns (map pure_phase c.loop-next.past) _ c.loop-next.left (pure_phase now.phase) now.is_quiet (map state_of now.nodes) c.loop-next.invariant.so_far
     (elim c.loop-next-test.branch [
       | else-loop-next-test w ↦ λ e. drop_all c.args.changed.now c.loop-next.next-index w.loop-next-test.false
       | then-loop-next-test+in_default w ↦ λ e. absurd (let f = w.in_default in cc)

@@ -14,7 +14,7 @@ pub take_waiting-requires-clause-whole : goal.take_waiting-requires-clause-whole
 take_waiting-requires-clause-whole g c =
     let k = g.N.NodeCore in
     let blocks = c.args.blocks.now in
-    let arc = pure_arc c.arc.result.now in
+    let arc = pure_arc c.arc.result in
     let old = view_at k.state k.note blocks.items in
     let stands = stands_at c.block_at-heard.result c.len.result (vec_len blocks) arc.tail c.block_at-heard.ensures.block c.len.ensures in
     rw stands (c.requires.gathered.whole c.args.arc.0 arc.tail (ap (option_map (λ (a : PureArc). a.tail)) c.arc.ensures.arc))
@@ -23,7 +23,7 @@ pub returns-clause-put : goal.returns-clause-put
 returns-clause-put g c =
     let k = g.N.NodeCore in
     let blocks = c.args.blocks.now in
-    let arc = pure_arc c.arc.result.now in
+    let arc = pure_arc c.arc.result in
     let view = view_at k.state k.note in
     let waits = waiting_of c.in_ok-queue.queue in
     let m = c.args.message in

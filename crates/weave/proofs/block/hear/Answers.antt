@@ -10,7 +10,7 @@ pub take-requires-clause-begun : goal.take-requires-clause-begun
 take-requires-clause-begun g c =
     let seats = c.args.seats.now in
     let seat = c.in-Some.seat in
-    let at = c.arc.result.now.tail.0 in
+    let at = c.arc.result.tail.0 in
     let here = slice_get_read seats.items seats.len at (Some seat) seats.ok.0 (rw (← c.len-else-at-len.ensures) c.if-listener-len.false) (rw (← c.in-Some.is) c.index_mut.ensures.value) in
     (seated_at g.N.NodeCore.state g.N.NodeCore.note g.N.NodeCore.kind c.args.net.now seats.items c.args.lanes.now.items at seat here c.requires.seated).begun
 
@@ -18,7 +18,7 @@ pub take-requires-clause-last : goal.take-requires-clause-last
 take-requires-clause-last g c =
     let seats = c.args.seats.now in
     let seat = c.in-Some.seat in
-    let at = c.arc.result.now.tail.0 in
+    let at = c.arc.result.tail.0 in
     let here = slice_get_read seats.items seats.len at (Some seat) seats.ok.0 (rw (← c.len-else-at-len.ensures) c.if-listener-len.false) (rw (← c.in-Some.is) c.index_mut.ensures.value) in
     (seated_at g.N.NodeCore.state g.N.NodeCore.note g.N.NodeCore.kind c.args.net.now seats.items c.args.lanes.now.items at seat here c.requires.seated).last_is
 
@@ -26,7 +26,7 @@ pub take-requires-clause-listens : goal.take-requires-clause-listens
 take-requires-clause-listens g c =
     let seats = c.args.seats.now in
     let seat = c.in-Some.seat in
-    let at = c.arc.result.now.tail.0 in
+    let at = c.arc.result.tail.0 in
     let here = slice_get_read seats.items seats.len at (Some seat) seats.ok.0 (rw (← c.len-else-at-len.ensures) c.if-listener-len.false) (rw (← c.in-Some.is) c.index_mut.ensures.value) in
     let seated = seated_at g.N.NodeCore.state g.N.NodeCore.note g.N.NodeCore.kind c.args.net.now seats.items c.args.lanes.now.items at seat here c.requires.seated in
     rw (seated.net_is, seated.number_is) (ap (option_map (λ (a : PureArc). a.tail)) c.arc.ensures.arc)
@@ -37,7 +37,7 @@ returns-then-not-branch-clause-none g c =
     let lanes = c.args.lanes.now in
     let seat = c.in-Some.seat in
     let lane = c.index_mut-2.result.now in
-    let at = c.arc.result.now.tail.0 in
+    let at = c.arc.result.tail.0 in
     let here = slice_get_read seats.items seats.len at (Some seat) seats.ok.0 (rw (← c.len-else-at-len.ensures) c.if-listener-len.false) (rw (← c.in-Some.is) c.index_mut.ensures.value) in
     let there = slice_get_read lanes.items lanes.len c.args.arc.0 lane lanes.ok.0 (rw (← c.len.ensures) c.if-at-len.false) c.index_mut-2.ensures.value in
     let none = c.in_ok-take.ensures.none c.if-not-branch.true in
@@ -49,7 +49,7 @@ returns-then-not-branch-clause-late g c =
     let lanes = c.args.lanes.now in
     let seat = c.in-Some.seat in
     let lane = c.index_mut-2.result.now in
-    let at = c.arc.result.now.tail.0 in
+    let at = c.arc.result.tail.0 in
     let here = slice_get_read seats.items seats.len at (Some seat) seats.ok.0 (rw (← c.len-else-at-len.ensures) c.if-listener-len.false) (rw (← c.in-Some.is) c.index_mut.ensures.value) in
     let there = slice_get_read lanes.items lanes.len c.args.arc.0 lane lanes.ok.0 (rw (← c.len.ensures) c.if-at-len.false) c.index_mut-2.ensures.value in
     late_here g.N.NodeCore.state g.N.NodeCore.note g.N.NodeCore.kind c.args.net.now seats.items lanes.items at c.args.arc.0 seat lane here there (ap (option_map (λ (a : PureArc). a.tail)) c.arc.ensures.arc)
@@ -61,7 +61,7 @@ returns-clause-some g c =
     let lanes = c.args.lanes.now in
     let seat = c.in-Some.seat in
     let lane = c.index_mut-2.result.now in
-    let at = c.arc.result.now.tail.0 in
+    let at = c.arc.result.tail.0 in
     let here = slice_get_read seats.items seats.len at (Some seat) seats.ok.0 (rw (← c.len-else-at-len.ensures) c.if-listener-len.false) (rw (← c.in-Some.is) c.index_mut.ensures.value) in
     let there = slice_get_read lanes.items lanes.len c.args.arc.0 lane lanes.ok.0 (rw (← c.len.ensures) c.if-at-len.false) c.index_mut-2.ensures.value in
     let took = c.in_ok-take.ensures.taken c.if-not-branch.false in

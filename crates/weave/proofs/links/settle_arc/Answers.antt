@@ -9,7 +9,7 @@ use Rattle.weave.proofs.links.settle_arc.Goals as goal
 
 pub settle_between-requires-clause-ends : goal.settle_between-requires-clause-ends
 settle_between-requires-clause-ends g c =
-    let arc = pure_arc c.arc-ends.result.now in
+    let arc = pure_arc c.arc-ends.result in
     let heard : c.block_at-heard.result ≡ block_of (vec_len c.args.blocks.now) arc.tail = stands_at c.block_at-heard.result c.len.result (vec_len c.args.blocks.now) arc.tail c.block_at-heard.ensures.block c.len.ensures in
     let spoken : c.block_at-spoken.result ≡ block_of (vec_len c.args.blocks.now) arc.head = stands_at c.block_at-spoken.result c.len-2.result (vec_len c.args.blocks.now) arc.head c.block_at-spoken.ensures.block c.len-2.ensures in
     rw (heard, spoken)
@@ -18,7 +18,7 @@ settle_between-requires-clause-ends g c =
 
 pub returns-else-heard-spoken-clause-settled : goal.returns-else-heard-spoken-clause-settled
 returns-else-heard-spoken-clause-settled g c =
-    let arc = pure_arc c.arc-ends.result.now in
+    let arc = pure_arc c.arc-ends.result in
     let views = view_at g.N.NodeCore.state g.N.NodeCore.note in
     let count = vec_len c.args.blocks.now in
     let old = views c.args.blocks.now.items in

@@ -2,6 +2,7 @@ use Rattle.std.proofs.Common.{ap, ◌∙◌}
 use Rattle.net_graph.specs.Groups.{items_at}
 use Rattle.net_graph.specs.ChangeLaws.{changed_is_net}
 use Rattle.net_graph.specs.Changes.{changed}
+use Rattle.net_graph.specs.Kept.{arcs_of}
 use Rattle.net_graph.specs.NetParts.{net_of}
 use Rattle.net_graph.specs.Views.{pure_change}
 use Rattle.net_graph.proofs.CopyLemmas.{changed_draft, changed_parts}
@@ -9,27 +10,27 @@ use Rattle.net_graph.proofs.net.Net.changed.Goals as goal
 
 pub copy_with-requires : goal.copy_with-requires
 copy_with-requires c =
-    let arcs = rw (← c.self.view_is) at c.in_ok-arcs.ensures in
+    let arcs = rw (c.in_ok-copy_arcs.ensures.arcs, ← c.self.view_is) at c.in_ok-arcs.ensures in
     let may = rw (← c.self.view_is) at c.requires in
-    rw (c.deref.ensures.value, arcs) (changed_is_net (net_of c.self.inside) (pure_change c.args.change.now) c.self.invariant.known.is_net may).arc_apart
+    rw arcs (changed_is_net (net_of c.self.inside) (pure_change c.args.change.now) c.self.invariant.known.is_net may).arc_apart
 
 pub from_parts-requires : goal.from_parts-requires
 from_parts-requires c =
     let inside = c.self.inside in
-    let arcs = rw (← c.self.view_is) at c.in_ok-arcs.ensures in
+    let arcs = rw (c.in_ok-copy_arcs.ensures.arcs, ← c.self.view_is) at c.in_ok-arcs.ensures in
     let origins = rw (← c.self.view_is) at c.in_ok-origins.ensures in
     let may = rw (← c.self.view_is) at c.requires in
-    let known = rw c.deref.ensures.value at c.in_ok-known.ensures in
-    changed_draft inside.known c.in_ok-known.known (items_at inside.out inside.arc_spots.items) c.in_ok-arcs.arcs.items (items_at inside.homes inside.origin_spots.items) c.in_ok-origins.origins.items
+    let known = c.in_ok-known.ensures in
+    changed_draft inside.known c.in_ok-known.known (arcs_of inside.labels.items (items_at inside.out inside.arc_spots.items)) c.in_ok-arcs.arcs (items_at inside.homes inside.origin_spots.items) c.in_ok-origins.origins.items
     (pure_change c.args.change.now) c.self.invariant.known may arcs origins known
 
 pub returns : goal.returns
 returns c =
     let inside = c.self.inside in
-    let arcs = rw (← c.self.view_is) at c.in_ok-arcs.ensures in
+    let arcs = rw (c.in_ok-copy_arcs.ensures.arcs, ← c.self.view_is) at c.in_ok-arcs.ensures in
     let origins = rw (← c.self.view_is) at c.in_ok-origins.ensures in
-    let known = rw c.deref.ensures.value at c.in_ok-known.ensures in
-    let parts = changed_parts inside.known c.in_ok-known.known (items_at inside.out inside.arc_spots.items) c.in_ok-arcs.arcs.items (items_at inside.homes inside.origin_spots.items) c.in_ok-origins.origins.items
+    let known = c.in_ok-known.ensures in
+    let parts = changed_parts inside.known c.in_ok-known.known (arcs_of inside.labels.items (items_at inside.out inside.arc_spots.items)) c.in_ok-arcs.arcs (items_at inside.homes inside.origin_spots.items) c.in_ok-origins.origins.items
     (pure_change c.args.change.now) arcs origins known in
     let whole = c.from_parts.ensures ∙ parts ∙ ap (λ net. changed net (pure_change c.args.change.now)) c.self.view_is in
     rw (← whole) c.finish.ensures
