@@ -1,4 +1,5 @@
 pub mod Forms
+pub mod FormLaws
 pub mod Neighbours
 pub mod Images
 pub mod Growing
