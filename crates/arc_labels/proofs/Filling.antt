@@ -1,12 +1,12 @@
 -- Forms of labels that are made one after another, as the labels' numbers come up.
-use Rattle.std.proofs.Common.{◌≡◌, ◌≢◌, ◌⊎◌, inl, inr, arith, ℕ, zero, suc, ◌+◌, ◌<◌, ◌≤◌, List, true, Option, Some, None, is_some, length, option_map, get_or, set, replicate, slice_get, refl, ap, sym, subst, ◌∙◌}
+use Rattle.std.proofs.Common.{◌≡◌, ◌≢◌, ◌⊎◌, inl, inr, arith, ℕ, zero, suc, ◌+◌, ◌<◌, ◌≤◌, List, [], ◌∷◌, true, Option, Some, None, is_some, length, map, option_map, get_or, set, replicate, slice_get, refl, ap, sym, subst, ◌∙◌}
 use Rattle.std.proofs.lemmas.Bool.{cases_order}
 use Rattle.std.proofs.lemmas.List.{get_or-set_other, get_or-set_same, length-replicate}
-use Rattle.std.proofs.lemmas.Option.{same_Some, slice_get-map, slice_get_read, slice_get_within, get_or_from_slice_get}
+use Rattle.std.proofs.lemmas.Option.{same_Some, slice_get-map, slice_get_cases, slice_get_read, slice_get_within, get_or_from_slice_get}
 use Rattle.alg_model.specs.Expressions.{PureLabel}
 use Rattle.net_graph.specs.LabelNumbers.{AreLabelNumbers}
 use Rattle.net_graph.specs.Nets.{PureArc, PureNet}
-use Rattle.arc_labels.specs.Forms.{AreForms, HasPlace, form_at}
+use Rattle.arc_labels.specs.Forms.{AreForms, HasForm, HasPlace, form_at, forms_at}
 
 -- each form stands for the label of its number, and that of each arc so far was made
 pub record AreMade {L : Type 0} (stands_for : L → PureLabel → Type 0) (net : PureNet) (numbers : List ℕ) (upto : ℕ) (forms : List (Option L)) : Type 0 where
@@ -87,9 +87,35 @@ pub some_place : {L : Type 0} (forms : List (Option L)) (n : ℕ) (o : Option L)
 some_place forms n None within at some = absurd (cc)
 some_place forms n (Some form) within at some = record { form = form; at = get_or_from_slice_get forms n (Some form) None (slice_get_read forms (length forms) n (Some form) refl within at) }
 
+-- what stands at an arc, by the number of its label
+pub at_number : {L : Type 0} (forms : List (Option L)) (numbers : List ℕ) (k n : ℕ) → slice_get numbers k ≡ Some n → form_at (forms_at forms numbers) k ≡ get_or forms n None
+at_number {L} forms numbers k n number =
+    let form : ℕ → Option L = λ m. get_or forms m None in
+    get_or_from_slice_get (map form numbers) k (form n) None (slice_get-map form numbers k ∙ ap (option_map form) number)
+
+-- what is read at a number
+pub read_at : {L : Type 0} (forms : List (Option L)) (n : ℕ) (o : Option L) → n < length forms → o ≡ get_or forms n o → get_or forms n None ≡ o
+read_at forms n o within at = get_or_from_slice_get forms n o None (slice_get_read forms (length forms) n o refl within at)
+
+-- what has a form is within
+pub place_within : {L : Type 0} (forms : List (Option L)) (k : ℕ) → HasPlace forms k → k < length forms
+place_within [] k place = absurd (let at = place.at in cc)
+place_within (form ∷ forms) zero place = omega arith
+place_within (form ∷ forms) (suc k) place = let more = place_within forms k (record { form = place.form; at = place.at }) in omega (arith, more)
+
 -- once those of all arcs were made
 pub all_made : {L : Type 0} (stands_for : L → PureLabel → Type 0) (net : PureNet) (numbers : List ℕ) (upto : ℕ) (forms : List (Option L)) → length net.arcs ≤ upto
-    → AreMade stands_for net numbers upto forms → AreForms stands_for net numbers forms
-all_made stands_for net numbers upto forms all m k n arc number at =
-    let place = m.made k n (let within = slice_get_within net.arcs k arc at in omega (arith, within, all)) number in
-    record { form = place.form; at = place.at; stands = m.stand n place.form arc.label place.at (label_at net numbers m.numbered k n arc number at) }
+    → AreMade stands_for net numbers upto forms → AreForms stands_for net (forms_at forms numbers)
+all_made {L} stands_for net numbers upto forms all m k arc at = by (slice_get_cases numbers k).1
+  where
+    within : k < length net.arcs
+    within = slice_get_within net.arcs k arc at
+
+    numbered : (n : ℕ) → slice_get numbers k ≡ Some n → HasForm stands_for (forms_at forms numbers) k arc.label
+    numbered n number =
+        let place = m.made k n (omega (arith, within, all)) number in
+        record { form = place.form; at = at_number forms numbers k n number ∙ place.at; stands = m.stand n place.form arc.label place.at (label_at net numbers m.numbered k n arc number at) }
+
+    by : ((n : ℕ) × (k < length numbers) × (slice_get numbers k ≡ Some n) × (get_or numbers k n ≡ n)) ⊎ ((length numbers ≤ k) × (slice_get numbers k ≡ None)) → HasForm stands_for (forms_at forms numbers) k arc.label
+    by (inl (n, less, number, same)) = numbered n number
+    by (inr (past, none)) = absurd (let count = m.numbered.count in omega (arith, within, past, count))

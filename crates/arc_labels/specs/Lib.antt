@@ -1,5 +1,4 @@
 pub mod Forms
-pub mod FormLaws
 pub mod Neighbours
 pub mod Images
 pub mod Growing

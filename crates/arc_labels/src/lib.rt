@@ -6,5 +6,6 @@ mod forms;
 mod image;
 mod neighbours;
 
+pub use forms::{LabelForms, label_forms};
 pub use image::image_into;
 pub use neighbours::{Neighbour, NeighbourLabels, listener_labels, speaker_labels};
