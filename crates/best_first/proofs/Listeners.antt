@@ -127,17 +127,17 @@ heard_all net i r m k e = rw (e, take-length (arcs_to net i)) (by (list_any (λ 
     by false f = rw (none_between net.arcs k i f) refl
 
 -- the arc that a listener hears on
-pub record IsHeardBy {L : Type 0} (stands_for : L → PureLabel → Type 0) (net : PureNet) (forms : List (Option L)) (i m : ℕ) (listener : Neighbour) : Type 0 where
+pub record IsHeardBy {L : Type 0} (stands_for : L → PureLabel → Type 0) (net : PureNet) (i m : ℕ) (listener : Neighbour L) : Type 0 where
   pub arc : PureArc
   pub heard : IsHeard net i m arc
-  pub is_listener : IsNeighbour stands_for forms tail_of arc listener
+  pub is_listener : IsNeighbour stands_for tail_of arc listener
 
-pub heard_by : {L : Type 0} (stands_for : L → PureLabel → Type 0) (net : PureNet) → IsNet net → (forms : List (Option L)) (i m : ℕ) (listeners : List Neighbour) (listener : Neighbour)
-    → AreNeighbours stands_for forms tail_of (arcs_to net i) listeners → slice_get listeners m ≡ Some listener → IsHeardBy stands_for net forms i m listener
-heard_by stands_for net n forms i m listeners listener are e = elim (slice_get_cases (arcs_to net i) m).1 [
+pub heard_by : {L : Type 0} (stands_for : L → PureLabel → Type 0) (net : PureNet) → IsNet net → (i m : ℕ) (listeners : List (Neighbour L)) (listener : Neighbour L)
+    → AreNeighbours stands_for tail_of (arcs_to net i) listeners → slice_get listeners m ≡ Some listener → IsHeardBy stands_for net i m listener
+heard_by stands_for net n i m listeners listener are e = elim (slice_get_cases (arcs_to net i) m).1 [
   | inl (a, l, f, g) ↦ record { arc = a; heard = heard_at net n i m a f; is_listener = are.each m listener e a f }
   | inr (l, f) ↦ absurd (omega (arith, slice_get_within listeners m listener e, are.count))
 ]
 
-pub listener_within : {L : Type 0} (stands_for : L → PureLabel → Type 0) (net : PureNet) (forms : List (Option L)) (i m : ℕ) (listener : Neighbour) → IsHeardBy stands_for net forms i m listener → listener.node.0 < length net.nodes
-listener_within stands_for net forms i m listener h = omega (arith, h.heard.facts.tail_in, h.is_listener.node)
+pub listener_within : {L : Type 0} (stands_for : L → PureLabel → Type 0) (net : PureNet) (i m : ℕ) (listener : Neighbour L) → IsHeardBy stands_for net i m listener → listener.node.0 < length net.nodes
+listener_within stands_for net i m listener h = omega (arith, h.heard.facts.tail_in, h.is_listener.node)

@@ -102,7 +102,7 @@ pub(crate) fn relax<A: Algebra, L: Ledger>(
     alloc: Global,
     algebra: &A,
     _net: &Net,
-    labels: &NeighbourLabels<A::Lab>,
+    labels: &NeighbourLabels<'_, A::Lab>,
     fixed: &Fixed<A::Sig>,
     search: &mut Open<A, L>,
     node: NodeId,
@@ -132,21 +132,14 @@ pub(crate) fn relax<A: Algebra, L: Ledger>(
 {
     let next = fixed.route(node);
     let size = fixed.paths.path(next.path).len() as u32 + 1;
-    for listener in labels.neighbours(node) {
+    for listener in labels.of(node) {
         if fixed.rows[listener.node.0 as usize].is_none() {
             let place = Place {
                 size,
                 node: listener.node,
                 next: node,
             };
-            offer_image(
-                alloc,
-                algebra,
-                labels.label(listener),
-                &next.sig,
-                place,
-                search,
-            )?;
+            offer_image(alloc, algebra, listener.label, &next.sig, place, search)?;
         }
     }
     Ok(())

@@ -10,7 +10,7 @@ use crate::fixed::{Fixed, FixedRoute};
 use crate::open::Open;
 use crate::search::{fix_next, offer_own, relax};
 use alg_model::Algebra;
-use arc_labels::{NeighbourLabels, listener_labels};
+use arc_labels::{NeighbourLabels, label_forms, listener_labels};
 use meta_base::{DestId, List, NoMemory, NodeId};
 use net_graph::{DestTable, Net, Route, RouteRow};
 use path_store::Paths;
@@ -85,7 +85,8 @@ pub fn solve<A: Algebra>(
     ensures rows { IfOk result (λ table. BestFirst net.now dest.0 (rows_of table)) }
     ensures dest { IfOk result (λ table. table.dest ≡ dest) }
 {
-    let labels = listener_labels(alloc, algebra, net)?;
+    let forms = label_forms(alloc, algebra, net)?;
+    let labels = listener_labels(alloc, algebra, net, &forms)?;
     solve_with(alloc, algebra, net, &labels, dest)
 }
 
@@ -95,7 +96,7 @@ pub fn solve_with<A: Algebra>(
     alloc: Global,
     algebra: &A,
     net: &Net,
-    labels: &NeighbourLabels<A::Lab>,
+    labels: &NeighbourLabels<'_, A::Lab>,
     dest: DestId,
 ) -> Result<DestTable, NoMemory>
     requires algebra { A.expression algebra.now ≡ net.now.alg.expression }
@@ -112,7 +113,7 @@ fn solve_counted<A: Algebra, L: Ledger>(
     alloc: Global,
     algebra: &A,
     net: &Net,
-    labels: &NeighbourLabels<A::Lab>,
+    labels: &NeighbourLabels<'_, A::Lab>,
     dest: DestId,
     blank: Blank,
 ) -> Result<DestTable, NoMemory>

@@ -4,7 +4,6 @@ use Rattle.std.proofs.lemmas.Option.{slice_get_read}
 use Rattle.meta_base.specs.declared.ids.NodeId.{NodeId}
 use Rattle.net_graph.specs.Nets.{arcs_to}
 use Rattle.net_graph.specs.Tables.{carrier}
-use Rattle.arc_labels.specs.FormLaws.{lent_stands, was_made}
 use Rattle.path_store.specs.PathOf.{path_of}
 use Rattle.best_first.specs.declared.route.Place.{Place}
 use Rattle.best_first.specs.Found.{found-map, found_at}
@@ -19,48 +18,37 @@ use Rattle.best_first.proofs.search.relax.Goals.{then-is_none+in_ok-offer_image,
 
 pub index-requires : goal.index-requires
 index-requires g c =
-    let listeners = c.neighbours-listener-items.result.now in
+    let listeners = c.of-listener-items.result.now in
     let listener = c.listener-item.result in
     let m = c.loop-listener.listener-index in
     let read = slice_get_read listeners (length listeners) m listener refl c.loop-listener-test.true c.listener-item.is in
-    let by = heard_by (g.A.Algebra.stands_for c.args.algebra.now) c.args._net.now c.requires.net c.args.labels.now.forms.items c.args.node.0 m listeners listener
-    (c.requires.labels.each c.args.node.0 listeners c.neighbours-listener-items.ensures) read in
-    let within = listener_within (g.A.Algebra.stands_for c.args.algebra.now) c.args._net.now c.args.labels.now.forms.items c.args.node.0 m listener by in
+    let by = heard_by (g.A.Algebra.stands_for c.args.algebra.now) c.args._net.now c.requires.net c.args.node.0 m listeners listener
+    (c.requires.labels.each c.args.node.0 listeners c.of-listener-items.ensures) read in
+    let within = listener_within (g.A.Algebra.stands_for c.args.algebra.now) c.args._net.now c.args.node.0 m listener by in
     let n = c.requires.rows in
     omega arith
 
 pub offer_image-requires-clause-node : goal.offer_image-requires-clause-node
 offer_image-requires-clause-node g c =
-    let listeners = c.neighbours-listener-items.result.now in
+    let listeners = c.of-listener-items.result.now in
     let listener = c.listener-item.result in
     let m = c.loop-listener.listener-index in
     let read = slice_get_read listeners (length listeners) m listener refl c.loop-listener-test.true c.listener-item.is in
-    let by = heard_by (g.A.Algebra.stands_for c.args.algebra.now) c.args._net.now c.requires.net c.args.labels.now.forms.items c.args.node.0 m listeners listener
-    (c.requires.labels.each c.args.node.0 listeners c.neighbours-listener-items.ensures) read in
-    let within = listener_within (g.A.Algebra.stands_for c.args.algebra.now) c.args._net.now c.args.labels.now.forms.items c.args.node.0 m listener by in
+    let by = heard_by (g.A.Algebra.stands_for c.args.algebra.now) c.args._net.now c.requires.net c.args.node.0 m listeners listener
+    (c.requires.labels.each c.args.node.0 listeners c.of-listener-items.ensures) read in
+    let within = listener_within (g.A.Algebra.stands_for c.args.algebra.now) c.args._net.now c.args.node.0 m listener by in
     let n = c.loop-listener.invariant.count in
     omega arith
 
-pub label-requires : goal.label-requires
-label-requires g c =
-    let stands_for = g.A.Algebra.stands_for c.args.algebra.now in
-    let forms = c.args.labels.now.forms.items in
-    let listeners = c.neighbours-listener-items.result.now in
-    let listener = c.listener-item.result in
-    let m = c.loop-listener.listener-index in
-    let read = slice_get_read listeners (length listeners) m listener refl c.loop-listener-test.true c.listener-item.is in
-    let by = heard_by stands_for c.args._net.now c.requires.net forms c.args.node.0 m listeners listener (c.requires.labels.each c.args.node.0 listeners c.neighbours-listener-items.ensures) read in
-    was_made stands_for forms listener.label by.arc.label by.is_listener.label
-
 pub offer_image-requires-clause-lab : goal.offer_image-requires-clause-lab
 offer_image-requires-clause-lab g c =
-    let listeners = c.neighbours-listener-items.result.now in
+    let listeners = c.of-listener-items.result.now in
     let listener = c.listener-item.result in
     let m = c.loop-listener.listener-index in
     let read = slice_get_read listeners (length listeners) m listener refl c.loop-listener-test.true c.listener-item.is in
-    let by = heard_by (g.A.Algebra.stands_for c.args.algebra.now) c.args._net.now c.requires.net c.args.labels.now.forms.items c.args.node.0 m listeners listener
-    (c.requires.labels.each c.args.node.0 listeners c.neighbours-listener-items.ensures) read in
-    (by.arc.label, lent_stands (g.A.Algebra.stands_for c.args.algebra.now) c.args.labels.now.forms.items listener.label by.arc.label by.is_listener.label c.label.result.now c.label.ensures)
+    let by = heard_by (g.A.Algebra.stands_for c.args.algebra.now) c.args._net.now c.requires.net c.args.node.0 m listeners listener
+    (c.requires.labels.each c.args.node.0 listeners c.of-listener-items.ensures) read in
+    (by.arc.label, by.is_listener.label)
 
 pub offer_image-requires-clause-small : goal.offer_image-requires-clause-small
 offer_image-requires-clause-small g c =
@@ -83,12 +71,12 @@ loop-listener-preserved g c =
     let r = fixed_route value paths c.route-next.result.now in
     let reported : reported_by value paths rows node ≡ Some r = found-map (fixed_route value paths) rows node ∙ ap (option_map (fixed_route value paths)) c.route-next.ensures in
     let can : CanSpeak net node r = rw reported at c.requires.next in
-    let listeners = c.neighbours-listener-items.result.now in
+    let listeners = c.of-listener-items.result.now in
     let listener = c.listener-item.result in
     let m = c.loop-listener.listener-index in
     let read = slice_get_read listeners (length listeners) m listener refl c.loop-listener-test.true c.listener-item.is in
-    let by = heard_by (g.A.Algebra.stands_for c.args.algebra.now) net c.requires.net c.args.labels.now.forms.items node m listeners listener
-    (c.requires.labels.each node listeners c.neighbours-listener-items.ensures) read in
+    let by = heard_by (g.A.Algebra.stands_for c.args.algebra.now) net c.requires.net node m listeners listener
+    (c.requires.labels.each node listeners c.of-listener-items.ensures) read in
     let arc = by.arc in
     let heard = by.heard in
     let tail = arc.tail in
@@ -101,7 +89,7 @@ loop-listener-preserved g c =
           let none : reported_by value paths rows tail ≡ None = row ∙ mapped_none (fixed_route value paths) c.index.result.now (rw w.if-is_none.true at c.is_none.ensures) in
           let place : Place = record { size = length c.path.result.now + 1; node = listener.node; next = c.args.node } in
           let size : length c.path.result.now + 1 ≡ length r.path + 1 = rw c.path.ensures (let l = length-map (path_of paths c.route-next.result.now.path) (λ (n : NodeId). n.0) in omega arith) in
-          let offered = rw c.requires.algebra at (w.in_ok-offer_image.ensures.offered arc.label (lent_stands (g.A.Algebra.stands_for c.args.algebra.now) c.args.labels.now.forms.items listener.label arc.label by.is_listener.label w.label.result.now w.label.ensures)) in
+          let offered = rw c.requires.algebra at (w.in_ok-offer_image.ensures.offered arc.label by.is_listener.label) in
           let new_best = w.offer_image.new.search.best.items in
           let new_t = w.offer_image.new.search.standing in
           let ranked = rw c.requires.algebra at w.in_ok-offer_image.ensures.ranked in
@@ -139,7 +127,7 @@ returns-clause-routes g c = λ k.
     let r = fixed_route value paths c.route-next.result.now in
     let reported : reported_by value paths rows node ≡ Some r = found-map (fixed_route value paths) rows node ∙ ap (option_map (fixed_route value paths)) c.route-next.ensures in
     let m = c.loop-listener.listener-index in
-    let are = c.requires.labels.each node c.neighbours-listener-items.result.now c.neighbours-listener-items.ensures in
+    let are = c.requires.labels.each node c.of-listener-items.result.now c.of-listener-items.ensures in
     let all : m ≡ length (arcs_to net node) = omega (arith, are.count, c.loop-listener-test.false, c.loop-listener.auto.listener-index-end) in
     let found = rw reported at (c.loop-listener.invariant.found k) in
     rw reported (found ∙ ap (λ o. relaxed (carrier net) (reported_by value paths rows k) (found_at (open_routes value paths rows c.args.search.now.best.items) k) o) (heard_all net node r m k all))
