@@ -1,5 +1,6 @@
 -- A network is seen from several threads at once, so what refers to one may go to another thread.
 use denote.Param.Send.{IsSync, sendable}
+use denote.Ref.{NamedLft}
 use denote.RattleType.{RattleType}
 use Rattle.std.proofs.Crossing.{crosses}
 use Rattle.alg_model.proofs.tree.Label.TheLaws.TheKnot as label
@@ -12,5 +13,5 @@ pub net_sync : IsSync the_row
 net_sync = search (crosses, label.crosses, tree.crosses, value.crosses, sendable) depth 60 fits 20000
 
 -- and so are the labels of its arcs, where labels are
-pub labels_sync : (L : RattleType) → IsSync L → IsSync (labels.the_row L)
-labels_sync L l = search (crosses, sendable) depth 60 fits 20000
+pub labels_sync : (f : NamedLft) (L : RattleType) → IsSync L → IsSync (labels.the_row f L)
+labels_sync f L l = search (crosses, sendable) depth 60 fits 20000
