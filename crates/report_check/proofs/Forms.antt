@@ -1,5 +1,5 @@
 -- Labels and values in an algebra's own form, in lists that grow by one at the end.
-use Rattle.std.proofs.Common.{◌≡◌, ℕ, ◌<◌, ◌≤◌, zero, suc, List, [], ◌∷◌, ◌++◌, Option, Some, None, IfSome, option_map, option_and_then, length, map, get_or, ◌⊎◌, inl, inr, refl, sym, ap, ◌∙◌, lit≤, slice_get, arith}
+use Rattle.std.proofs.Common.{◌≡◌, ℕ, ◌<◌, ◌≤◌, List, Option, Some, None, IfSome, option_map, option_and_then, length, map, get_or, inl, inr, refl, sym, ap, ◌∙◌, lit≤, slice_get, arith}
 use Rattle.std.proofs.lemmas.List.{length-map}
 use Rattle.std.proofs.lemmas.Option.{slice_get-map, slice_get_cases, slice_get_past, slice_get_read, slice_get_within}
 use Rattle.alg_model.specs.Application.{App}

@@ -1,7 +1,7 @@
 -- Labels and values of a network and a table in an algebra's own form.
-use Rattle.std.specs.Prelude.{◌≡◌, ℕ, List, Option, Some, IfSome, length, option_map, slice_get}
+use Rattle.std.specs.Prelude.{◌≡◌, ℕ, List, Option, Some, IfSome, option_map}
 use Rattle.alg_model.specs.Expressions.{PureLabel, PureValue}
-use Rattle.net_graph.specs.Nets.{PureArc, PureNet, IsNet, arcs_from, label_between, origin_value}
+use Rattle.net_graph.specs.Nets.{PureNet, IsNet, label_between, origin_value}
 use Rattle.net_graph.specs.Tables.{PureRow, TableOf, value_at}
 use Rattle.stable_check.specs.Checks.{own_at}
 use Rattle.arc_labels.specs.declared.neighbours.Neighbour.{Neighbour}

@@ -1,7 +1,6 @@
 -- What a look at a table shows.
-use Rattle.std.specs.Prelude.{◌≡◌, ℕ, List, [], ◌∷◌, Bool, true, false, Option, Some, None, IsSomeAnd, option_map, option_and_then, if◌then◌else◌}
+use Rattle.std.specs.Prelude.{◌≡◌, ℕ, List, [], ◌∷◌, true, false, Option, Some, None, IsSomeAnd, option_map, if◌then◌else◌}
 use Rattle.std.specs.declared.cmp.Ordering.TheVariants.{Equal}
-use Rattle.alg_model.specs.Actions.{held}
 use Rattle.alg_model.specs.Carriers.{IsPreferred, Order}
 use Rattle.alg_model.specs.Expressions.{PureCarrier, PureValue}
 use Rattle.net_graph.specs.Routes.{PureRoute}
