@@ -1,5 +1,5 @@
 // What `hops` decides.
-ghost use Rattle.std.specs.Prelude.{◌≡◌, ◌++◌, Ok, map, IfOk, OnOk};
+ghost use Rattle.std.specs.Prelude.{◌≡◌, Ok, map, IfOk};
 ghost use Rattle.alg_model.specs.Carriers.{carrier_of};
 ghost use Rattle.code_gen.specs.Widths.{HoldValues};
 ghost use Rattle.link_state.specs.Tables.{AreTablesOf};
@@ -120,18 +120,18 @@ fn best_hops_on<R: AllocGlobal + Threads + Sync>(
     best_first_is_optimal();
     let tables = tables_of(rt, net, ONE_WORKER)?;
     let room = net.node_count().saturating_mul(net.dest_count());
-    hops_of(rt.alloc(), net, tables.as_slice(), room)
+    hops_of(rt.alloc(), net, tables, room)
 }
 
 // The next hops of the tables, by code over rows that are as narrow as the algebra allows.
 fn hops_of(
     alloc: Global,
     net: &Net,
-    tables: &[DestTable],
+    tables: List<DestTable>,
     room: usize,
 ) -> Result<List<ManyHops>, NoMemory>
-    requires { AreTablesOf net.now tables.now }
-    ensures { IfOk result (λ many. map pure_hops many ≡ all_hops net.now 0 (map rows_of tables.now)) }
+    requires { AreTablesOf net.now tables }
+    ensures { IfOk result (λ many. map pure_hops many ≡ all_hops net.now 0 (map rows_of tables)) }
 {
     rows_have_their_width();
     match row_width(net.alg()) {
@@ -143,33 +143,25 @@ fn hops_of(
     }
 }
 
-// The same over rows of this kind, one table after another, in a list that has room for so many at once.
+// The same over rows of this kind, in a list that has room for so many at once. A table is dropped before the next one is
+// looked at.
 fn hops_over<W: HeldRow>(
     alloc: Global,
     net: &Net,
-    tables: &[DestTable],
+    tables: List<DestTable>,
     room: usize,
 ) -> Result<List<ManyHops>, NoMemory>
     requires rows { HoldValues W.can_hold (carrier_of net.now.alg.expression) }
-    requires tables { AreTablesOf net.now tables.now }
-    ensures { IfOk result (λ many. map pure_hops many ≡ all_hops net.now 0 (map rows_of tables.now)) }
+    requires tables { AreTablesOf net.now tables }
+    ensures { IfOk result (λ many. map pure_hops many ≡ all_hops net.now 0 (map rows_of tables)) }
 {
     let algebra = CodeAlgebra::<W>::new(alloc, net.alg())?;
     let forms = label_forms(alloc, &algebra, net)?;
     let labels = speaker_labels(alloc, &algebra, net, &forms)?;
     let mut many = Vec::with_capacity(alloc, room)?;
-    for table in tables {
-        append_hops(&mut many, best_hops(alloc, &algebra, net, &labels, table)?)?;
+    for table in tables.into_vec() {
+        let more = best_hops(alloc, &algebra, net, &labels, &table)?;
+        many.append(&mut more.into_vec())?;
     }
     Ok(List::from_vec(many))
-}
-
-// Moves these after those that are there.
-fn append_hops(many: &mut Vec<ManyHops>, more: List<ManyHops>) -> Result<(), NoMemory>
-    ensures { OnOk result (many.new.items ≡ many.old.items ++ more) }
-{
-    for hops in more.into_vec() {
-        many.push(hops)?;
-    }
-    Ok(())
 }
