@@ -1,0 +1,1 @@
+-- The tests have no lemmas of their own.
