@@ -132,6 +132,12 @@ begun_all net nodes b = let count = begun_count net 0 nodes b in omega (arith, c
 
 module _ (net : PureNet) (nodes : List FloodState) (leaders : List ℕ) (leading : AreLeaders nodes leaders) where
   module _ (leader : ℕ) (is_leader : slice_get leaders leader ≡ Some leader) (begun : AreBegun net 0 nodes) (t : FloodState) (there : slice_get nodes leader ≡ Some t) (told : PureNet) (is_told : IsAsTold net (holds t) told) where
+    -- a table has a row for each node
+    pub table_count : (dest : ℕ) (table : List PureRow) → BestFirst told dest table → length table ≡ length leaders
+    table_count dest table best =
+        let all = begun_all net nodes begun in
+        best.table_of.count ∙ (ap (λ (n : PureNet). length n.nodes) is_told.but_origins ∙ (sym all ∙ sym leading.count))
+
     -- the rows of a leader more for a destination
     pub found_more : (dest : ℕ) (table : List PureRow) (old new : List (Option PureRow)) → BestFirst told dest table → length new ≡ length old
         → ((i l : ℕ) → slice_get leaders i ≡ Some l → placed_at new i ≡ cond (l == leader) (slice_get table i) (placed_at old i))
@@ -143,11 +149,6 @@ module _ (net : PureNet) (nodes : List FloodState) (leaders : List ℕ) (leading
           there = λ i l e below. by_leader i l e below (l == leader) refl;
         }
       where
-        rows_are : length table ≡ length leaders
-        rows_are =
-            let all = begun_all net nodes begun in
-            best.table_of.count ∙ (ap (λ (n : PureNet). length n.nodes) is_told.but_origins ∙ (sym all ∙ sym leading.count))
-
         rows : (i : ℕ) (s : FloodState) (row : PureRow) → slice_get nodes i ≡ Some s → slice_get new i ≡ Some (Some row) → IsToldRow net dest s row
         rows i s row e f =
             let within = slice_get_within nodes i s e in
@@ -172,6 +173,7 @@ module _ (net : PureNet) (nodes : List FloodState) (leaders : List ℕ) (leading
         by_leader : (i l : ℕ) → slice_get leaders i ≡ Some l → l < leader + 1 → (b : Bool) → (l == leader) ≡ b → (row : PureRow) × (slice_get new i ≡ Some (Some row))
         by_leader i l e below true h =
             let within = slice_get_within leaders i l e in
+            let rows_are = table_count dest table best in
             let row = within_or_past table i (omega (arith, within, rows_are)) in
             (row.0, placed_there new i row.0 (so i l e ∙ rw h row.1))
         by_leader i l e below false h =

@@ -94,9 +94,11 @@ all_there net nodes leaders dest found leading so i l =
     at (x ∷ xs) zero h = (x, refl)
     at (x ∷ xs) (suc k) h = at xs k (omega (arith, h))
 
+-- a vector of rows, as contracts see it
+abbrev pub seen_rows : Vec (Option RouteRow) Global → List (Option PureRow)
+seen_rows rows = map (option_map pure_row) rows.items
+
 -- what was found for the destination at a place
-pub found_at : (net : PureNet) (nodes : List FloodState) (leaders : List ℕ) (done : ℕ) (found : List (Vec (Option RouteRow) Global)) (k : ℕ) (rows : Vec (Option RouteRow) Global) → AreAllFound net nodes leaders done done 0 (found_rows found) → slice_get found k ≡ Some rows
-    → AreFound net nodes leaders done k (map (option_map pure_row) rows.items)
-found_at net nodes leaders done found k rows so at =
-    so.after k (map (option_map pure_row) rows.items)
-    (slice_get-map (λ (v : Vec (Option RouteRow) Global). map (option_map pure_row) v.items) found k ∙ ap (option_map (λ (v : Vec (Option RouteRow) Global). map (option_map pure_row) v.items)) at)
+pub found_at : (net : PureNet) (nodes : List FloodState) (leaders : List ℕ) (done bound dest k : ℕ) (found : List (Vec (Option RouteRow) Global)) (rows : Vec (Option RouteRow) Global) → AreAllFound net nodes leaders done bound dest (found_rows found)
+    → slice_get found k ≡ Some rows → AreFound net nodes leaders bound k (seen_rows rows)
+found_at net nodes leaders done bound dest k found rows so at = so.after k (seen_rows rows) (slice_get-map seen_rows found k ∙ ap (option_map seen_rows) at)

@@ -11,3 +11,4 @@ mod AsTold
 mod Leading
 mod Finding
 mod Joining
+mod Solved

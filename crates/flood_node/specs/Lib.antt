@@ -22,4 +22,5 @@ pub mod Partial
 pub mod Parts
 pub mod ToldLaws
 pub mod QuietRows
+pub mod Ready
 pub mod Runs

@@ -16,8 +16,8 @@ pub struct CardOrigin {
     pub value: Value,
 }
 
-/// What a node tells all others of itself: the arcs that it may route by in file order, and its origins in the order of
-/// the destinations.
+/// What a node tells all others of itself, as a link-state advertisement does (RFC 2328, section 12): the arcs that it may
+/// route by in file order, and its origins in the order of the destinations.
 #[derive(Debug, Drop)]
 pub struct Card {
     pub node: NodeId,

@@ -9,9 +9,9 @@ ghost use Rattle.rest_laws.specs.Ways.{left};
 ghost use Rattle.flood_node.specs.Cards.{PureFlooded};
 ghost use Rattle.flood_node.specs.Node.{FloodState, flooding, holds};
 ghost use Rattle.flood_node.specs.Reach.{Reach, reaches, cards_told};
-ghost use Rattle.flood_node.specs.Knowing.{IsReachedCard};
+ghost use Rattle.flood_node.specs.Knowing.{IsFlood, IsReachedCard};
 ghost use Rattle.flood_node.specs.Lacking.{card_budgets};
-ghost use Rattle.flood_node.specs.Told.{AreFloodRows};
+ghost use Rattle.flood_node.specs.Told.{AreBegun, AreFloodRows, AreTrueCards};
 
 use best_first::best_first_is_unique;
 
@@ -20,6 +20,27 @@ pub fn cards_are_true()
     ensures { (net : PureNet) (nodes : List FloodState) (journal : List Delivery)
         (c : Machine FloodState PureFlooded) (i : ℕ) (s : FloodState) → IsNet net → AreUnbegun flooding net 0 nodes
         → Replay flooding net nodes journal ≡ Some c → c.node i ≡ Some s → AllByRecursion (IsReachedCard net i) s.cards }
+{}
+
+/// The nodes of a machine that floods, whose start and whose deliveries keep it so, are begun, one for each of the network
+/// in order, and the cards that they hold are true. So `flood_rows` can be called on them at any time.
+pub fn machines_hold_true_cards()
+    ensures begun { (net : PureNet) (c : Machine FloodState PureFlooded) (states : List FloodState) → IsFlood net c
+        → ((i : ℕ) → c.node i ≡ slice_get states i) → AreBegun net 0 states }
+    ensures cards { (net : PureNet) (c : Machine FloodState PureFlooded) (states : List FloodState) → IsFlood net c
+        → ((i : ℕ) → c.node i ≡ slice_get states i) → AllByRecursion (λ s. AreTrueCards net s.cards) states }
+{}
+
+/// And so are the nodes that a replay leads to.
+pub fn replayed_nodes_are_ready()
+    ensures begun { (net : PureNet) (nodes states : List FloodState) (journal : List Delivery)
+        (c : Machine FloodState PureFlooded) → IsNet net → AreUnbegun flooding net 0 nodes
+        → Replay flooding net nodes journal ≡ Some c → ((i : ℕ) → c.node i ≡ slice_get states i)
+        → AreBegun net 0 states }
+    ensures cards { (net : PureNet) (nodes states : List FloodState) (journal : List Delivery)
+        (c : Machine FloodState PureFlooded) → IsNet net → AreUnbegun flooding net 0 nodes
+        → Replay flooding net nodes journal ≡ Some c → ((i : ℕ) → c.node i ≡ slice_get states i)
+        → AllByRecursion (λ s. AreTrueCards net s.cards) states }
 {}
 
 /// Once nothing is on its way it holds the cards of exactly the nodes that it reaches.

@@ -16,8 +16,10 @@ use std::alloc::Global;
 use std::marker::Model;
 use std::sync::Arc;
 
-/// A node that floods: at the start it sends its card to all that listen to it, and it keeps each card that it didn't
-/// hold before and sends it on to them. Contracts see its state.
+/// A node that floods, as a router of OSPF does (RFC 2328, section 13): at the start it sends its card to all that listen
+/// to it, and it keeps each card that it didn't hold before and sends it on to them. Since a network stays as it is while
+/// its nodes flood, a card needs neither age nor sequence number: one of a node whose card is held already is let go.
+/// So a node holds at most one card for each node of the network. Contracts see its state.
 #[derive(Drop)]
 pub struct FloodNode<'a> {
     net: &'a Net,

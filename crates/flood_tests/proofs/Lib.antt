@@ -1,1 +1,1 @@
--- The tests have no lemmas of their own.
+mod Kept

@@ -15,7 +15,7 @@ push_rows-requires c = λ i l.
     let k = length c.loop-table.yielded in
     let turn = YieldsList-turn (YieldsList-from_vec found (cc) (cc)) c.loop-table.yielded c.loop-table.table-iterator c.loop-table.yielded_by c.next.result c.next.new.self c.in-Some.table c.in-Some.is c.next.ensures.steps in
     let at : slice_get found k ≡ Some c.in-Some.table = slice_get_read found (length found) k c.in-Some.table refl turn.0 turn.1 in
-    let are = found_at c.args.net.now c.args.nodes.now c.requires.0 (length c.args.nodes.now) found k c.in-Some.table c.requires.2 at in
+    let are = found_at c.args.net.now c.args.nodes.now c.requires.0 (length c.args.nodes.now) (length c.args.nodes.now) 0 k found c.in-Some.table c.requires.2 at in
     let count = length-map c.in-Some.table.items (option_map pure_row) in
     sym (placed_view pure_row c.in-Some.table.items i) ∙ all_there c.args.net.now c.args.nodes.now c.requires.0 k (map (option_map pure_row) c.in-Some.table.items) c.requires.1 are i (omega (arith, count, l))
 
@@ -25,6 +25,6 @@ loop-table-preserved c =
     let k = length c.loop-table.yielded in
     let turn = YieldsList-turn (YieldsList-from_vec found (cc) (cc)) c.loop-table.yielded c.loop-table.table-iterator c.loop-table.yielded_by c.next.result c.next.new.self c.in-Some.table c.in-Some.is c.next.ensures.steps in
     let at : slice_get found k ≡ Some c.in-Some.table = slice_get_read found (length found) k c.in-Some.table refl turn.0 turn.1 in
-    let are = found_at c.args.net.now c.args.nodes.now c.requires.0 (length c.args.nodes.now) found k c.in-Some.table c.requires.2 at in
+    let are = found_at c.args.net.now c.args.nodes.now c.requires.0 (length c.args.nodes.now) (length c.args.nodes.now) 0 k found c.in-Some.table c.requires.2 at in
     subst (λ z. AreJoined c.args.net.now c.args.nodes.now z (map pure_row c.push_rows.new.rows)) (sym (length_push c.loop-table.yielded c.in-Some.table))
     (joined_next c.args.net.now c.args.nodes.now c.requires.0 (length c.args.nodes.now) k (map pure_row c.loop-table.rows) (map pure_row c.push_rows.new.rows) (map (option_map pure_row) c.in-Some.table.items) c.loop-table.invariant are c.in_ok-push_rows.ensures)

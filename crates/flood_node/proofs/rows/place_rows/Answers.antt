@@ -2,7 +2,7 @@ use Rattle.std.proofs.Common.{◌≡◌, ◌<◌, ◌+◌, ◌∷◌, [], Some, 
 use Rattle.std.specs.Prelude.{option_map}
 use Rattle.std.proofs.lemmas.Iterator.Adapters.{YieldsList-from_vec}
 use Rattle.std.proofs.lemmas.Iterator.Consumers.{YieldsList-turn, YieldsList-end}
-use Rattle.std.proofs.lemmas.List.{length-map, length_push, map-append}
+use Rattle.std.proofs.lemmas.List.{length-map, length_push, map-append, map-id}
 use Rattle.std.proofs.lemmas.Option.{slice_get-get_or}
 use Rattle.net_graph.specs.Views.{pure_row}
 use Rattle.flood_node.proofs.Finding.{ArePlaced, placed_all, placed_either}
@@ -32,4 +32,12 @@ loop-row-preserved c =
     }
 
 pub returns-clause-placed : goal.returns-clause-placed
-returns-clause-placed c = let x = c in ?
+returns-clause-placed c =
+    let rows = c.args.rows in
+    let done = c.loop-row.yielded in
+    let so = c.loop-row.invariant in
+    let end = YieldsList-end (YieldsList-from_vec rows (cc) (cc)) done c.loop-row.row-iterator c.loop-row.yielded_by c.next.result c.next.new.self c.in-None.is c.next.ensures.steps in
+    let whole : done ≡ rows = sym (map-id done) ∙ end.0 in
+    placed_all c.args.leaders.now c.args.leader (map pure_row rows) (map (option_map pure_row) c.args.found.now.items) (map (option_map pure_row) c.loop-row.found.items)
+    (length-map rows pure_row ∙ c.requires.leaders)
+    (subst (λ z. ArePlaced c.args.leaders.now c.args.leader (map pure_row z) (map (option_map pure_row) c.args.found.now.items) (map (option_map pure_row) c.loop-row.found.items)) whole so.placed)
