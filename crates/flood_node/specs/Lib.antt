@@ -14,7 +14,7 @@ pub mod Steps
 pub mod Deliveries
 pub mod Truth
 pub mod Reaching
-pub mod Lacking
+pub mod Missing
 pub mod Budgets
 pub mod Counting
 pub mod Totals

@@ -11,7 +11,7 @@ use Rattle.flood_node.specs.Cards.{PureFlooded}
 use Rattle.flood_node.specs.Node.{FloodState, holds, flooding}
 use Rattle.flood_node.specs.Reach.{Reach}
 use Rattle.flood_node.specs.Knowing.{IsReachedCard}
-use Rattle.flood_node.specs.Lacking.{card_budgets}
+use Rattle.flood_node.specs.Missing.{card_budgets}
 use Rattle.flood_node.specs.Lawful.{flooding_is_lawful}
 use Rattle.flood_node.specs.Told.{AreFloodRows}
 use Rattle.flood_node.specs.Truth.{replays_flood, drained_holds}

@@ -220,8 +220,8 @@ module _ (net : PureNet) (n : IsNet net) where
     told_after b li sp k x y el es ex ey h = by (was net n c f.running a d w sp y ey)
       where
         put : (sp ≡ w.number) → holds s m.card.node ≡ false → m.card.node ≡ k → is_waiting (d.link b) k ≡ true
-        put is lacks same =
-            let one : out b ≡ next ∷ [] = sent_new net n c f.running a d w lacks b (es ∙ ap (λ z. Some z) is) in
+        put is absent same =
+            let one : out b ≡ next ∷ [] = sent_new net n c f.running a d w absent b (es ∙ ap (λ z. Some z) is) in
             let test : (m.card.node == k) ≡ true = rw same (same_test k) in
             subst (λ z. is_waiting z k ≡ true) (sym (link_after net n c f.running a d w b ∙ ap (λ z. changed_at c.link a w.rest b ++ z) one))
             (any_right (λ (q : PureFlooded). q.card.node == k) (changed_at c.link a w.rest b) (next ∷ []) (any_one (λ (q : PureFlooded). q.card.node == k) next test))

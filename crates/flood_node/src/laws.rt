@@ -10,7 +10,7 @@ ghost use Rattle.flood_node.specs.Cards.{PureFlooded};
 ghost use Rattle.flood_node.specs.Node.{FloodState, flooding, holds};
 ghost use Rattle.flood_node.specs.Reach.{Reach, reaches, cards_told};
 ghost use Rattle.flood_node.specs.Knowing.{IsFlood, IsReachedCard};
-ghost use Rattle.flood_node.specs.Lacking.{card_budgets};
+ghost use Rattle.flood_node.specs.Missing.{card_budgets};
 ghost use Rattle.flood_node.specs.Told.{AreBegun, AreFloodRows, AreTrueCards};
 
 use best_first::best_first_is_unique;
