@@ -70,8 +70,8 @@ fn add_arc(
     draft: &mut NetDraft,
 ) -> Result<(), NoMemory>
     requires net { IsNet net.now }
-    requires arc { (a : PureArc) × (slice_get net.now.arcs id.0 ≡ Some a) × (pure_card card.now ≡ card_of net.now a.tail)
-        × (has_arc draft.old a.tail a.head ≡ false) }
+    requires arc { (a : PureArc) × (slice_get net.now.arcs id.0 ≡ Some a)
+        × (pure_card card.now ≡ card_of net.now a.tail) × (has_arc draft.old a.tail a.head ≡ false) }
     requires room { length draft.old.arcs < length net.now.arcs }
     requires draft { draft.old ≡ record net.now { arcs = draft.old.arcs; origins = [] } }
     ensures { OnOk result (IfSome (slice_get net.now.arcs id.0) (λ a.

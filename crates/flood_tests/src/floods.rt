@@ -73,10 +73,7 @@ fn deliver_some(config: &mut Config<'_, FloodNode<'_>>, turns: u64) -> Result<u6
 }
 
 // The rows that the machine's nodes compute as they are now.
-fn rows_now(
-    alloc: Global,
-    config: &Config<'_, FloodNode<'_>>,
-) -> Result<List<RouteRow>, NoMemory>
+fn rows_now(alloc: Global, config: &Config<'_, FloodNode<'_>>) -> Result<List<RouteRow>, NoMemory>
     requires { IsFlood (net_of config.now) (machine_of (λ n. n) pure_flooded config.now) }
 {
     let net = config.net();

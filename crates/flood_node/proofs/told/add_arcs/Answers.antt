@@ -43,11 +43,11 @@ loop-number-preserved c =
     let count = c.requires.count in
     let within : a.tail < length cards = omega (arith, tail_in, count) in
     elim c.match-cards-tail.branch [
-      in-Some+in_ok-add_arc w ↦
-        let placed : placed_at cards a.tail ≡ Some w.in-Some.card = ap (option_and_then (λ o. o)) (slice_get-get_or cards a.tail _ within) ∙ w.in-Some.is in
-        let made = of_some (λ (x : PureArc). w.add_arc.new.draft ≡ record c.loop-number.draft { arcs = arcs_with x.tail x.head x.label c.loop-number.draft.arcs }) (slice_get net.arcs k) a w.in_ok-add_arc.ensures c.arc.ensures.arc in
-        w.draft-is ∙ arc_draft_next net (is_placed cards) c.loop-number.draft w.add_arc.new.draft k a c.loop-number.invariant c.arc.ensures.arc (ap is_some placed) made
-    | in_default w ↦
-        let nothing : placed_at cards a.tail ≡ None = ap (option_and_then (λ o. o)) (slice_get-get_or cards a.tail _ within) ∙ w.in_default.is in
-        arc_draft_same net (is_placed cards) c.loop-number.draft c.match-cards-tail.draft k a c.loop-number.invariant c.arc.ensures.arc (ap is_some nothing) w.draft-is
+      | in-Some+in_ok-add_arc w ↦
+          let placed : placed_at cards a.tail ≡ Some w.in-Some.card = ap (option_and_then (λ o. o)) (slice_get-get_or cards a.tail _ within) ∙ w.in-Some.is in
+          let made = of_some (λ (x : PureArc). w.add_arc.new.draft ≡ record c.loop-number.draft { arcs = arcs_with x.tail x.head x.label c.loop-number.draft.arcs }) (slice_get net.arcs k) a w.in_ok-add_arc.ensures c.arc.ensures.arc in
+          w.draft-is ∙ arc_draft_next net (is_placed cards) c.loop-number.draft w.add_arc.new.draft k a c.loop-number.invariant c.arc.ensures.arc (ap is_some placed) made
+      | in_default w ↦
+          let nothing : placed_at cards a.tail ≡ None = ap (option_and_then (λ o. o)) (slice_get-get_or cards a.tail _ within) ∙ w.in_default.is in
+          arc_draft_same net (is_placed cards) c.loop-number.draft c.match-cards-tail.draft k a c.loop-number.invariant c.arc.ensures.arc (ap is_some nothing) w.draft-is
     ]

@@ -43,11 +43,11 @@ loop-card-preserved c =
     let k = c.loop-card.card-index in
     let slot = ap (option_and_then (λ o. o)) (slice_get_read cards (length cards) k c.card-item.result refl c.loop-card-test.true c.card-item.is) in
     elim c.match-card.branch [
-      in-Some+in_ok-add_own_origins w ↦
-        let placed : placed_at cards k ≡ Some w.in-Some.card = slot ∙ w.in-Some.is in
-        let number = ap (λ (x : PureCard). x.node) (c.requires.cards k w.in-Some.card placed) in
-        w.draft-is ∙ node_draft_next c.args.net.now (is_placed cards) c.args.draft.now c.loop-card.draft w.add_own_origins.new.draft k w.in-Some.card.now.node.0 c.loop-card.invariant number (ap is_some placed) w.in_ok-add_own_origins.ensures
-    | in_default w ↦
-        let nothing : placed_at cards k ≡ None = slot ∙ w.in_default.is in
-        node_draft_same c.args.net.now (is_placed cards) c.args.draft.now c.loop-card.draft c.match-card.draft k c.loop-card.invariant (ap is_some nothing) w.draft-is
+      | in-Some+in_ok-add_own_origins w ↦
+          let placed : placed_at cards k ≡ Some w.in-Some.card = slot ∙ w.in-Some.is in
+          let number = ap (λ (x : PureCard). x.node) (c.requires.cards k w.in-Some.card placed) in
+          w.draft-is ∙ node_draft_next c.args.net.now (is_placed cards) c.args.draft.now c.loop-card.draft w.add_own_origins.new.draft k w.in-Some.card.now.node.0 c.loop-card.invariant number (ap is_some placed) w.in_ok-add_own_origins.ensures
+      | in_default w ↦
+          let nothing : placed_at cards k ≡ None = slot ∙ w.in_default.is in
+          node_draft_same c.args.net.now (is_placed cards) c.args.draft.now c.loop-card.draft c.match-card.draft k c.loop-card.invariant (ap is_some nothing) w.draft-is
     ]
