@@ -12,3 +12,4 @@ mod Leading
 mod Finding
 mod Joining
 mod Solved
+pub mod Sent
