@@ -10,7 +10,8 @@ ghost use Rattle.flood_node.specs.Told.{AreBegun, AreFloodRows, AreTrueCards};
 use crate::node::FloodNode;
 use crate::told::told_net;
 use alg_model::Algebra;
-use best_first::{arc_labels, solve_with};
+use arc_labels::{label_forms, listener_labels};
+use best_first::solve_with;
 use meta_base::{DestId, List, NoMemory};
 use net_graph::{Net, RouteRow};
 use std::alloc::Global;
@@ -129,7 +130,8 @@ fn find_rows<A: Algebra>(
         (found_rows found.new.items)) }
 {
     let told = told_net(alloc, net, nodes[leader].cards())?;
-    let labels = arc_labels(alloc, algebra, &told)?;
+    let forms = label_forms(alloc, algebra, &told)?;
+    let labels = listener_labels(alloc, algebra, &told, &forms)?;
     for dest in 0..net.dest_count() {
         let table = solve_with(alloc, algebra, &told, &labels, DestId(dest as u32))?;
         place_rows(table.rows, leaders, leader, &mut found[dest]);
