@@ -1,5 +1,5 @@
 -- What is found on the way to a table: for each node a route, or none.
-use Rattle.std.specs.Prelude.{◌≡◌, ℕ, ◌+◌, List, [], ◌∷◌, Bool, cond, Option, Some, None, is_some, option_map, option_and_then, IfSome, slice_get, map, zero, suc}
+use Rattle.std.specs.Prelude.{◌≡◌, ℕ, ◌+◌, List, [], ◌∷◌, cond, Option, Some, None, is_some, option_map, option_and_then, IfSome, slice_get, map, zero, suc}
 use Rattle.std.proofs.Common.{refl}
 use Rattle.alg_model.specs.Expressions.{PureCarrier, PureValue}
 use Rattle.net_graph.specs.Nets.{PureNet, origin_value}
