@@ -30,4 +30,9 @@ loop-dest-preserved g c =
     let is_told = subst (λ l. IsAsTold net (has_card l) c.in_ok-told.told) c.cards.ensures c.in_ok-told.ensures in
     let dests = found_dests net nodes leaders (leader + 1) leader dest found.items c.loop-dest.invariant in
     let at = slice_get_read found.items (length found.items) dest old refl (omega (arith, dests, c.loop-dest-test.true)) c.index_mut.ensures.value in
-    ?
+    found_next net nodes leaders c.requires.leaders leader c.requires.leader c.requires.nodes node there c.in_ok-told.told is_told dest (rows_of c.in_ok-table.table) found.items old new at c.in_ok-table.ensures.rows c.place_rows.ensures.count c.place_rows.ensures.placed c.loop-dest.invariant
+
+pub returns : goal.returns
+returns g c =
+    all_found_end c.args.net.now c.args.nodes.now c.args.leaders.now c.requires.leaders (c.args.leader + 1) c.args.leader c.loop-dest.dest (found_rows c.loop-dest.found.items)
+    (let last = c.loop-dest-test.false in let count = c.dest_count-dest-end.ensures.count in let end = c.loop-dest.auto.dest-end in omega (arith, last, count, end)) c.loop-dest.invariant
