@@ -181,54 +181,6 @@ module _ (net : PureNet) (nodes : List FloodState) (leaders : List ℕ) (leading
             let row = had.there i l e (omega (arith, below, apart)) in
             (row.0, placed_there new i row.0 (so i l e ∙ rw h (ap (option_and_then (λ o. o)) row.1)))
 
-  found_less : (less more dest : ℕ) (found : List (Option PureRow)) → less ≤ more → AreFound net nodes leaders more dest found → AreFound net nodes leaders less dest found
-  found_less less more dest found l f = record { count = f.count; rows = f.rows; there = λ i k e below. f.there i k e (omega (arith, below, l)) }
-
-  -- a destination more
-  pub all_found_next : (done bound dest : ℕ) (found : List (List (Option PureRow))) (rows : List (Option PureRow)) → bound ≤ done → dest < length found → AreFound net nodes leaders done dest rows
-      → AreAllFound net nodes leaders done bound dest found → AreAllFound net nodes leaders done bound (dest + 1) (set found dest rows)
-  all_found_next done bound dest found rows less within new so =
-      record {
-        count = count;
-        before = λ d r e below. before d r below (dest == d) refl (sym (set_at found dest d rows within) ∙ e);
-        after = λ d r e. after d r (dest == d) refl (sym (set_at found dest d rows within) ∙ e);
-      }
-    where
-      count : length (set found dest rows) ≡ length net.dests
-      count = set_count found dest rows ∙ so.count
-        where
-          set_count : {X : Type 0} (xs : List X) (n : ℕ) (x : X) → length (set xs n x) ≡ length xs
-          set_count [] n x = refl
-          set_count (y ∷ xs) zero x = refl
-          set_count (y ∷ xs) (suc n) x = let rest = set_count xs n x in omega (arith, rest)
-
-      before : (d : ℕ) (r : List (Option PureRow)) → d < dest + 1 → (b : Bool) → (dest == d) ≡ b → cond (dest == d) (Some rows) (slice_get found d) ≡ Some r → AreFound net nodes leaders done d r
-      before d r below true h e =
-          let same : rows ≡ r = same_Some rows r (rw h at e) in
-          subst (λ z. AreFound net nodes leaders done z r) (eqb-true dest d h) (subst (AreFound net nodes leaders done dest) same new)
-      before d r below false h e =
-          let apart : ¬ (dest ≡ d) = grind (arith, nat_tests) in
-          so.before d r (rw h at e) (omega (arith, below, apart))
-
-      after : (d : ℕ) (r : List (Option PureRow)) → (b : Bool) → (dest == d) ≡ b → cond (dest == d) (Some rows) (slice_get found d) ≡ Some r → AreFound net nodes leaders bound d r
-      after d r true h e =
-          let same : rows ≡ r = same_Some rows r (rw h at e) in
-          found_less bound done d r less (subst (λ z. AreFound net nodes leaders done z r) (eqb-true dest d h) (subst (AreFound net nodes leaders done dest) same new))
-      after d r false h e = so.after d r (rw h at e)
-
-  -- no destination yet for a leader more
-  pub all_found_begin : (leader : ℕ) (found : List (List (Option PureRow))) → AreAllFound net nodes leaders leader leader 0 found → AreAllFound net nodes leaders (leader + 1) leader 0 found
-  all_found_begin leader found so = record { count = so.count; before = λ d r e below. absurd (omega (arith, below)); after = so.after }
-
-  -- and all of them
-  pub all_found_end : (done bound dest : ℕ) (found : List (List (Option PureRow))) → length net.dests ≤ dest → AreAllFound net nodes leaders done bound dest found → AreAllFound net nodes leaders done done 0 found
-  all_found_end done bound dest found all so =
-      record {
-        count = so.count;
-        before = λ d r e below. absurd (omega (arith, below));
-        after = λ d r e. let within = slice_get_within found d r e in let count = so.count in so.before d r e (omega (arith, within, count, all));
-      }
-
   -- a node that isn't its own leader leads none
   pub all_found_past : (leader other : ℕ) (found : List (List (Option PureRow))) → slice_get leaders leader ≡ Some other → ¬ (other ≡ leader) → AreAllFound net nodes leaders leader leader 0 found
       → AreAllFound net nodes leaders (leader + 1) (leader + 1) 0 found

@@ -12,4 +12,3 @@ mod Leading
 mod Finding
 mod Joining
 mod Solved
-pub mod Sent

@@ -1,7 +1,7 @@
 -- How the rows of nodes are found: nodes that hold the same cards share what is solved for one of them.
-use Rattle.std.specs.Prelude.{◌≡◌, ℕ, zero, suc, ◌+◌, ◌<◌, ◌≤◌, Bool, true, List, [], ◌∷◌, ◌++◌, Option, Some, None, is_some, option_map, option_and_then, length, map, cond, slice_get}
+use Rattle.std.specs.Prelude.{◌≡◌, ℕ, zero, suc, ◌+◌, ◌==◌, ◌<◌, ◌≤◌, Bool, true, List, [], ◌∷◌, ◌++◌, Option, Some, None, is_some, option_map, option_and_then, length, map, cond, slice_get}
 use Rattle.net_graph.specs.Nets.{PureOrigin, PureNet, origin_value}
-use Rattle.net_graph.specs.Tables.{PureRow}
+use Rattle.net_graph.specs.Tables.{PureRow, BestFirst}
 use Rattle.flood_node.specs.Cards.{PureCard, PureCardOrigin, card_of}
 use Rattle.flood_node.specs.Node.{FloodState, has_card, holds}
 use Rattle.flood_node.specs.Told.{Told, IsToldRow}
@@ -53,3 +53,17 @@ pub record AreAllFound (net : PureNet) (nodes : List FloodState) (leaders : List
   pub count : length found ≡ length net.dests
   pub before : (d : ℕ) (rows : List (Option PureRow)) → slice_get found d ≡ Some rows → d < dest → AreFound net nodes leaders done d rows
   pub after : (d : ℕ) (rows : List (Option PureRow)) → slice_get found d ≡ Some rows → AreFound net nodes leaders bound d rows
+
+-- the rows of the nodes with that leader are those of a table that is made best first on the network, and the other rows
+-- are as they were
+pub record ArePlacedOn (told : PureNet) (leaders : List ℕ) (leader dest : ℕ) (old new : List (Option PureRow)) : Type 0 where
+  pub table : List PureRow
+  pub best_first : BestFirst told dest table
+  pub count : length new ≡ length old
+  pub placed : (i l : ℕ) → slice_get leaders i ≡ Some l → placed_at new i ≡ cond (l == leader) (slice_get table i) (placed_at old i)
+
+-- the same for each destination below one; those of the others are as they were
+pub record AreAllPlaced (told : PureNet) (leaders : List ℕ) (leader dest : ℕ) (old new : List (List (Option PureRow))) : Type 0 where
+  pub count : length new ≡ length old
+  pub done : (d : ℕ) (before after : List (Option PureRow)) → d < dest → slice_get old d ≡ Some before → slice_get new d ≡ Some after → ArePlacedOn told leaders leader d before after
+  pub left : (d : ℕ) → dest ≤ d → slice_get new d ≡ slice_get old d

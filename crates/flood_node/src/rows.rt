@@ -1,16 +1,17 @@
 ghost use Rattle.std.specs.Prelude.{◌≡◌, ◌⊎◌, ◌++◌, ◌<◌, ◌+◌, ◌==◌, ℕ, List, Some, None, IfOk, OnOk, cond, length, map, option_map, replicate, slice_get, take, true};
 ghost use Rattle.std.proofs.Math.ListN.{set};
 ghost use Rattle.std.specs.List.{AllByRecursion};
+ghost use Rattle.arc_labels.specs.Neighbours.{AreListenerLabels};
 ghost use Rattle.net_graph.specs.Views.{pure_row};
 ghost use Rattle.flood_node.specs.FoundRows.{found_rows};
 ghost use Rattle.flood_node.specs.Node.{FloodState, holds};
-ghost use Rattle.flood_node.specs.Rows.{AreAllFound, AreLeaders, is_placed, placed_at};
+ghost use Rattle.flood_node.specs.Rows.{AreAllFound, AreAllPlaced, AreLeaders, is_placed, placed_at};
 ghost use Rattle.flood_node.specs.Told.{AreBegun, AreFloodRows, AreTrueCards};
 
 use crate::node::FloodNode;
 use crate::told::told_net;
 use alg_model::Algebra;
-use arc_labels::{label_forms, listener_labels};
+use arc_labels::{NeighbourLabels, label_forms, listener_labels};
 use best_first::solve_with;
 use meta_base::{DestId, List, NoMemory};
 use net_graph::{Net, RouteRow};
@@ -109,6 +110,52 @@ fn place_rows(
     }
 }
 
+// Puts the rows of the tables that are made on the network in their places, those of the nodes with that leader.
+fn place_tables<A: Algebra>(
+    alloc: Global,
+    algebra: &A,
+    told: &Net,
+    labels: &NeighbourLabels<'_, A::Lab>,
+    leaders: &[usize],
+    leader: usize,
+    found: &mut Vec<Vec<Option<RouteRow>>>,
+) -> Result<(), NoMemory>
+    requires algebra { A.expression algebra.now ≡ told.now.alg.expression }
+    requires labels { AreListenerLabels (A.stands_for algebra.now) told.now labels.now }
+    requires leaders { length leaders.now ≡ length told.now.nodes }
+    requires dests { length found.old.items ≡ length told.now.dests }
+    requires nodes { AllByRecursion (λ rows. length rows ≡ length leaders.now) (found_rows found.old.items) }
+    ensures { OnOk result (AreAllPlaced told.now leaders.now leader (length told.now.dests)
+        (found_rows found.old.items) (found_rows found.new.items)) }
+{
+    for dest in 0..told.dest_count() {
+        let table = solve_with(alloc, algebra, told, labels, DestId(dest as u32))?;
+        place_rows(table.rows, leaders, leader, &mut found[dest]);
+    }
+    Ok(())
+}
+
+// The same, where the labels of the network's arcs aren't in the algebra's form yet.
+fn solve_told<A: Algebra>(
+    alloc: Global,
+    algebra: &A,
+    told: &Net,
+    leaders: &[usize],
+    leader: usize,
+    found: &mut Vec<Vec<Option<RouteRow>>>,
+) -> Result<(), NoMemory>
+    requires algebra { A.expression algebra.now ≡ told.now.alg.expression }
+    requires leaders { length leaders.now ≡ length told.now.nodes }
+    requires dests { length found.old.items ≡ length told.now.dests }
+    requires nodes { AllByRecursion (λ rows. length rows ≡ length leaders.now) (found_rows found.old.items) }
+    ensures { OnOk result (AreAllPlaced told.now leaders.now leader (length told.now.dests)
+        (found_rows found.old.items) (found_rows found.new.items)) }
+{
+    let forms = label_forms(alloc, algebra, told)?;
+    let labels = listener_labels(alloc, algebra, told, &forms)?;
+    place_tables(alloc, algebra, told, &labels, leaders, leader, found)
+}
+
 // Solves the network that the leader was told of for each destination, and puts the rows of the nodes that it leads in
 // their places.
 fn find_rows<A: Algebra>(
@@ -130,13 +177,7 @@ fn find_rows<A: Algebra>(
         (found_rows found.new.items)) }
 {
     let told = told_net(alloc, net, nodes[leader].cards())?;
-    let forms = label_forms(alloc, algebra, &told)?;
-    let labels = listener_labels(alloc, algebra, &told, &forms)?;
-    for dest in 0..net.dest_count() {
-        let table = solve_with(alloc, algebra, &told, &labels, DestId(dest as u32))?;
-        place_rows(table.rows, leaders, leader, &mut found[dest]);
-    }
-    Ok(())
+    solve_told(alloc, algebra, &told, leaders, leader, found)
 }
 
 // Adds the rows of a destination, all of which were found.
