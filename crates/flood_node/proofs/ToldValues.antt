@@ -161,10 +161,10 @@ module _ (net : PureNet) where
       by false k false e = rw e (sym ((told_is_part net known).no_origins dest i k))
 
 -- a network that is made of the arcs and the origins that were told
-pub made_as_told : (net : PureNet) → IsNet net → (placed known : ℕ → Bool) (arcs draft told : PureNet) → ((i : ℕ) → placed i ≡ known i) → arcs ≡ record (Told net placed) { origins = [] }
-    → draft ≡ record arcs { origins = told_origins net placed (length net.nodes) } → told ≡ draft → IsAsTold net known told
-made_as_told net n placed known arcs draft told same a o t =
-    let whole : told ≡ record (Told net placed) { origins = told_origins net placed (length net.nodes) } = t ∙ (o ∙ ap (λ (d : PureNet). record d { origins = told_origins net placed (length net.nodes) }) a) in
+pub made_as_told : (net : PureNet) → IsNet net → (placed known : ℕ → Bool) (draft told : PureNet) → ((i : ℕ) → placed i ≡ known i) → draft ≡ record (Told net placed) { origins = told_origins net placed (length net.nodes) }
+    → told ≡ draft → IsAsTold net known told
+made_as_told net n placed known draft told same o t =
+    let whole : told ≡ record (Told net placed) { origins = told_origins net placed (length net.nodes) } = t ∙ o in
     subst (λ f. IsAsTold net f told) (fun_ext same) (record {
       but_origins = whole ∙ ap (λ l. record (Told net placed) { origins = l }) (sym (ap (λ (d : PureNet). d.origins) whole));
       origins = λ dest i. ap (λ (d : PureNet). origin_value d dest i) whole ∙ told_values net n placed dest i;

@@ -1,7 +1,7 @@
 // The network that a node was told of, from the cards that it holds.
 ghost use Rattle.std.specs.Prelude.{◌≡◌, ◌++◌, ◌<◌, [], ℕ, false, Some, IfOk, IfSome, OnOk, length, map, slice_get};
 ghost use Rattle.std.specs.Arc.{arc_value};
-ghost use Rattle.net_graph.specs.Lines.{arcs_with};
+ghost use Rattle.net_graph.specs.Lines.{arcs_with, empty_net};
 ghost use Rattle.net_graph.specs.Nets.{PureArc, IsNet, has_arc, has_origin};
 ghost use Rattle.flood_node.specs.Cards.{card_of};
 ghost use Rattle.flood_node.specs.Node.{has_card};
@@ -22,18 +22,18 @@ fn copy_alg(alloc: Global, alg: &Alg) -> Result<Alg, NoMemory>
     alg.copy_part(alloc, alg.tree())
 }
 
-// The names of a network, with no arc and no origin.
-fn names_of(alloc: Global, net: &Net) -> Result<NetDraft, NoMemory>
-    ensures { IfOk result (λ draft. draft ≡ record net.now { arcs = []; origins = [] }) }
+// Adds the names of a network.
+fn add_names(net: &Net, draft: &mut NetDraft) -> Result<(), NoMemory>
+    requires { draft.old ≡ empty_net net.now.alg }
+    ensures { OnOk result (draft.new ≡ record net.now { arcs = []; origins = [] }) }
 {
-    let mut draft = NetDraft::new(alloc, copy_alg(alloc, net.alg())?);
     for node in 0..net.node_count() {
         draft.add_node(net.node_name(NodeId(node as u32)))?;
     }
     for dest in 0..net.dest_count() {
         draft.add_dest(net.dest_name(DestId(dest as u32)))?;
     }
-    Ok(draft)
+    Ok(())
 }
 
 // For each node its card, if it is among these, which are true cards of the network.
@@ -150,14 +150,33 @@ fn add_origins(
     Ok(())
 }
 
+// Adds the names of a network, and what the cards say of it.
+fn add_told(
+    alloc: Global,
+    net: &Net,
+    cards: &[Option<&Card>],
+    draft: &mut NetDraft,
+) -> Result<(), NoMemory>
+    requires net { IsNet net.now }
+    requires count { length cards.now ≡ length net.now.nodes }
+    requires cards { AreTrueAt (λ c. pure_card c.now) net.now cards.now }
+    requires draft { draft.old ≡ empty_net net.now.alg }
+    ensures { OnOk result (draft.new ≡ record (Told net.now (is_placed cards.now)) {
+      origins = told_origins net.now (is_placed cards.now) (length net.now.nodes);
+    }) }
+{
+    add_names(net, draft)?;
+    add_arcs(alloc, net, cards, draft)?;
+    add_origins(alloc, net, cards, draft)
+}
+
 // The network of what the cards say, which are true cards of the network, with its names.
 pub(crate) fn told_net(alloc: Global, net: &Net, cards: &[Arc<Card>]) -> Result<Net, NoMemory>
     requires { AreTrueCards net.now (map (λ c. pure_card (arc_value c)) cards.now) }
     ensures { IfOk result (IsAsTold net.now (has_card (map (λ c. pure_card (arc_value c)) cards.now))) }
 {
     let placed = cards_by_node(alloc, net, cards)?;
-    let mut draft = names_of(alloc, net)?;
-    add_arcs(alloc, net, &placed, &mut draft)?;
-    add_origins(alloc, net, &placed, &mut draft)?;
+    let mut draft = NetDraft::new(alloc, copy_alg(alloc, net.alg())?);
+    add_told(alloc, net, &placed, &mut draft)?;
     draft.finish()
 }

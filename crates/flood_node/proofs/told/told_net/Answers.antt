@@ -9,7 +9,8 @@ use Rattle.flood_node.proofs.told.told_net.Goals as goal
 
 pub returns : goal.returns
 returns c =
-    let arcs = rw c.deref.ensures.value at c.in_ok-add_arcs.ensures in
-    let origins = rw c.deref-2.ensures.value at c.in_ok-add_origins.ensures in
-    IfOk-weaker c.finish.result _ _ (λ told e. made_as_told c.args.net.now c.cards_by_node.ensures.net (is_placed c.in_ok-placed.placed.items) (has_card (map (λ x. pure_card (arc_value x)) c.args.cards.now))
-    c.add_arcs.new.draft c.add_origins.new.draft told c.in_ok-placed.ensures.placed arcs origins e) c.finish.ensures
+    let net = c.args.net.now in
+    let placed = is_placed c.in_ok-placed.placed.items in
+    let made = rw c.deref.ensures.value at c.in_ok-add_told.ensures in
+    IfOk-weaker c.finish.result _ _ (λ told e. made_as_told net c.cards_by_node.ensures.net placed (has_card (map (λ x. pure_card (arc_value x)) c.args.cards.now))
+    c.add_told.new.draft told c.in_ok-placed.ensures.placed made e) c.finish.ensures

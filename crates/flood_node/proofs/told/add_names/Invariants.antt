@@ -1,5 +1,5 @@
 use Rattle.std.proofs.Common.{◌≡◌, [], take}
-use Rattle.flood_node.proofs.told.names_of.Given as goal
+use Rattle.flood_node.proofs.told.add_names.Given as goal
 
 -- the names of the nodes so far
 abbrev pub invariant-loop-node : goal.invariant-loop-node

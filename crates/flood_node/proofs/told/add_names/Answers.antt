@@ -1,7 +1,7 @@
 use Rattle.std.proofs.Common.{ap, ◌∙◌}
 use Rattle.net_graph.specs.Nets.{PureNet, number_of}
 use Rattle.flood_node.proofs.Names.{name_absent, node_named_next, dest_named_next}
-use Rattle.flood_node.proofs.told.names_of.Goals as goal
+use Rattle.flood_node.proofs.told.add_names.Goals as goal
 
 pub add_node-requires-clause-absent : goal.add_node-requires-clause-absent
 add_node-requires-clause-absent c =
