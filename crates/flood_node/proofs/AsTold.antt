@@ -1,9 +1,9 @@
 -- Tables on networks of which only the order of the origins differs are the same.
-use Rattle.std.proofs.Common.{◌≡◌, ℕ, ◌+◌, ◌<◌, ◌⊎◌, inl, inr, List, [], ◌∷◌, Bool, false, length, Option, Some, None, IfSome, refl, sym, ap, ◌∙◌, subst}
+use Rattle.std.proofs.Common.{◌≡◌, ℕ, ◌+◌, inl, inr, List, [], ◌∷◌, Bool, Option, Some, None, IfSome, sym, ap, ◌∙◌, subst}
 use mathlib.Core.Path.{fun_ext}
 use Rattle.net_graph.specs.Nets.{PureNet, PureOrigin, origin_value}
-use Rattle.net_graph.specs.Routes.{PureRoute, Better}
-use Rattle.net_graph.specs.Tables.{PureRow, AreFixed, AreRowsFrom, BestFirst, IsOfferFrom, IsRouteOf, carrier, is_among, route_at}
+use Rattle.net_graph.specs.Routes.{PureRoute}
+use Rattle.net_graph.specs.Tables.{PureRow, AreFixed, AreRowsFrom, BestFirst, IsOfferFrom, IsRouteOf, route_at}
 use Rattle.flood_node.specs.Rows.{IsAsTold}
 use Rattle.flood_node.specs.Told.{Told}
 

@@ -1,17 +1,17 @@
 -- The rows that are found, leader by leader and destination by destination.
-use Rattle.std.proofs.Common.{◌≡◌, ℕ, zero, suc, ◌+◌, ◌<◌, ◌≤◌, ◌⊎◌, inl, inr, List, [], ◌∷◌, ◌++◌, Bool, true, false, ◌==◌, ◌&&◌, ltb, length, map, cond, replicate, slice_get, get_or, set, Option, Some, None, refl, sym, ap, ◌∙◌, subst, arith}
+use Rattle.std.proofs.Common.{◌≡◌, ℕ, zero, suc, ◌+◌, ◌<◌, ◌≤◌, List, [], ◌∷◌, ◌++◌, Bool, true, false, ◌==◌, ◌&&◌, ltb, length, cond, replicate, slice_get, set, Option, Some, None, refl, sym, ap, ◌∙◌, subst, arith}
 use Rattle.std.specs.Prelude.{option_and_then}
 use Rattle.std.proofs.lemmas.Bool.{eqb-true}
 use Rattle.std.proofs.lemmas.Bool.Decides.{nat_tests}
 use Rattle.std.proofs.lemmas.List.{length_push}
-use Rattle.std.proofs.lemmas.Option.{same_Some, slice_get_within, slice_get-get_or}
+use Rattle.std.proofs.lemmas.Option.{same_Some, slice_get_within}
 use Rattle.net_graph.specs.Nets.{PureNet}
 use Rattle.net_graph.specs.Tables.{PureRow, BestFirst}
 use Rattle.flood_node.specs.Node.{FloodState, holds}
 use Rattle.flood_node.specs.Rows.{AreAllFound, AreFound, AreLeaders, IsAsTold, placed_at}
-use Rattle.flood_node.specs.Told.{Told, AreBegun, IsToldRow}
+use Rattle.flood_node.specs.Told.{AreBegun, IsToldRow}
 use Rattle.flood_node.proofs.AsTold.{best_as_told, told_alike}
-use Rattle.flood_node.proofs.Placed.{placed_set, placed_there, set_at, nothing_placed}
+use Rattle.flood_node.proofs.Placed.{placed_set, placed_there}
 
 -- a place within a list has its item
 pub within_or_past : {X : Type 0} (xs : List X) (i : ℕ) → i < length xs → (x : X) × (slice_get xs i ≡ Some x)

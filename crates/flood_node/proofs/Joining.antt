@@ -1,12 +1,12 @@
 -- The rows of all destinations, one table after another.
-use Rattle.std.proofs.Common.{◌≡◌, ℕ, zero, suc, ◌+◌, ◌<◌, ◌≤◌, List, [], ◌∷◌, ◌++◌, Bool, true, length, map, slice_get, Option, Some, None, refl, sym, ap, ◌∙◌, subst, append_assoc, arith}
+use Rattle.std.proofs.Common.{◌≡◌, ℕ, zero, suc, ◌+◌, ◌<◌, List, [], ◌∷◌, ◌++◌, true, length, map, slice_get, Option, Some, refl, sym, ap, ◌∙◌, subst, append_assoc, arith}
 use Rattle.std.specs.Prelude.{is_some, option_and_then, option_map}
 use Rattle.std.proofs.lemmas.List.{append-nil, length_push}
-use Rattle.std.proofs.lemmas.Option.{same_Some, slice_get_within, slice_get-map}
+use Rattle.std.proofs.lemmas.Option.{same_Some, slice_get-map}
 use Rattle.std.specs.declared.alloc.Global.{Global}
 use Rattle.std.specs.declared.vec.Vec.{Vec}
 use Rattle.net_graph.specs.Nets.{PureNet}
-use Rattle.net_graph.specs.Tables.{PureRow, AreRowsOfTables, OnTablesFrom, joined_rows}
+use Rattle.net_graph.specs.Tables.{PureRow, OnTablesFrom, joined_rows}
 use Rattle.net_graph.specs.Views.{pure_row}
 use Rattle.net_graph.specs.declared.route.RouteRow.{RouteRow}
 use Rattle.flood_node.specs.FoundRows.{found_rows}

@@ -1,13 +1,12 @@
 -- The network of what cards say, made line by line.
-use Rattle.std.proofs.Common.{◌≡◌, ℕ, zero, suc, ◌+◌, ◌<◌, ◌≤◌, List, [], ◌∷◌, ◌++◌, Bool, true, false, ◌&&◌, ◌||◌, length, length-append, filter, map, take, cond, slice_get, Option, Some, None, refl, sym, ap, ◌∙◌, subst, arith, append_assoc}
-use Rattle.std.specs.Prelude.{◌==◌}
+use Rattle.std.proofs.Common.{◌≡◌, ℕ, zero, suc, ◌+◌, ◌<◌, ◌≤◌, List, [], ◌∷◌, ◌++◌, Bool, true, false, ◌||◌, length, filter, take, cond, slice_get, Some, refl, sym, ap, ◌∙◌, subst, arith}
 use Rattle.std.specs.List.{AllByRecursion, list_any}
 use Rattle.std.proofs.lemmas.List.Elements.{filter-append}
 use Rattle.std.proofs.lemmas.Option.{same_Some}
 use Rattle.net_graph.specs.Changes.{numbered_from}
 use Rattle.alg_model.specs.Expressions.{PureLabel}
 use Rattle.net_graph.specs.Lines.{arcs_with, with_arc}
-use Rattle.net_graph.specs.Nets.{PureArc, PureNet, IsNet, AreDistinct, joins_same, is_arc_between, has_arc}
+use Rattle.net_graph.specs.Nets.{PureArc, PureNet, AreDistinct, joins_same, is_arc_between}
 use Rattle.flood_node.proofs.OwnCards.{take_next}
 
 module _ (known : ℕ → Bool) where

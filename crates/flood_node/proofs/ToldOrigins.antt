@@ -1,23 +1,19 @@
 -- The origins that cards tell of, added node by node.
-use Rattle.std.proofs.Common.{◌≡◌, ℕ, zero, suc, ◌+◌, ◌<◌, ◌≤◌, List, [], ◌∷◌, ◌++◌, Bool, true, false, ◌&&◌, ◌||◌, ◌==◌, ltb, length, map, filter, take, cond, slice_get, Option, Some, None, refl, sym, ap, ◌∙◌, subst, append_assoc, arith}
+use Rattle.std.proofs.Common.{◌≡◌, ℕ, zero, suc, ◌+◌, ◌<◌, List, [], ◌∷◌, ◌++◌, Bool, true, false, ◌&&◌, ◌||◌, ◌==◌, length, take, cond, slice_get, Option, Some, None, refl, sym, ap, ◌∙◌, subst, append_assoc, arith}
 use Rattle.std.specs.Prelude.{option_map}
 use Rattle.std.specs.List.{AllByRecursion, list_any, find}
-use Rattle.std.specs.Option.{option_or}
-use Rattle.std.proofs.lemmas.Bool.{eqb-true}
 use Rattle.std.proofs.lemmas.Bool.Decides.{nat_tests}
 use Rattle.std.proofs.lemmas.List.{append-nil, map-append}
-use Rattle.std.proofs.lemmas.List.Folds.{find-append, list_any-append}
+use Rattle.std.proofs.lemmas.List.Folds.{list_any-append}
 use Rattle.alg_model.specs.Bounds.{AtMost, greatest_number}
 use Rattle.alg_model.specs.Carriers.{In, carrier_of}
 use Rattle.alg_model.specs.Expressions.{PureValue}
-use Rattle.net_graph.specs.ArcLaws.{IsOrigin, all_at, find_all, of_some, origins_are}
+use Rattle.net_graph.specs.ArcLaws.{all_at, find_all}
 use Rattle.net_graph.specs.Lines.{with_origin_at}
 use Rattle.net_graph.specs.NetLaws.{all_weaker}
-use Rattle.net_graph.specs.Nets.{PureOrigin, PureNet, IsNet, IsOriginOf, AreDistinct, is_origin_at, has_origin, origin_value}
+use Rattle.net_graph.specs.Nets.{PureOrigin, PureNet, IsNet, IsOriginOf, AreDistinct, is_origin_at, origin_value}
 use Rattle.flood_node.specs.Cards.{PureCardOrigin, card_of, card_origin, card_origins}
-use Rattle.flood_node.specs.Rows.{IsAsTold, origins_on, told_origins}
-use Rattle.flood_node.specs.Told.{Told}
-use Rattle.flood_node.specs.ToldLaws.{told_is_part}
+use Rattle.flood_node.specs.Rows.{origins_on, told_origins}
 use Rattle.flood_node.proofs.OwnCards.{take_next}
 
 all_joined : {X : Type 0} (P : X → Type 0) (xs ys : List X) → AllByRecursion P xs → AllByRecursion P ys → AllByRecursion P (xs ++ ys)

@@ -3,14 +3,12 @@
 use Rattle.std.proofs.Common.{◌≡◌, ℕ, ◌+◌, ◌<◌, ◌≤◌, ◌⊎◌, inl, inr, List, [], ◌∷◌, ◌++◌, Bool, true, false, length, map, cond, Option, Some, None, refl, sym, ap, ◌∙◌, subst, arith}
 use Rattle.std.specs.Prelude.{◌==◌, nat_lt}
 use Rattle.std.specs.Option.{option_map_or}
-use Rattle.std.proofs.lemmas.Bool.{eqb-false}
 use Rattle.std.proofs.lemmas.List.{length-map}
-use Rattle.std.proofs.lemmas.Option.{same_Some}
 use Rattle.std.proofs.lemmas.Bool.Decides.{nat_tests}
 use Rattle.meta_base.specs.declared.ids.Delivery.{Delivery}
 use Rattle.net_graph.specs.Nets.{PureNet, IsNet}
 use Rattle.node_core.specs.Kinds.{on_arc, speaker}
-use Rattle.node_core.specs.Machine.{Machine, changed_at, Deliver, replay_from}
+use Rattle.node_core.specs.Machine.{Machine, changed_at, replay_from}
 use Rattle.node_core.specs.Running.{IsRunning}
 use Rattle.node_core.specs.MachineLaws.{same_test, at_each, IsDelivery, delivery_of, replay_runs}
 use Rattle.rest_laws.specs.Ways.{total, left}

@@ -1,16 +1,15 @@
 -- How many deliveries a run of flooding nodes has. Lemmas, so that proofs of other crates may cite them.
-use Rattle.std.proofs.Common.{◌≡◌, ℕ, zero, suc, ◌+◌, ◌*◌, ◌<◌, ◌≤◌, ◌⊎◌, inl, inr, List, [], ◌∷◌, ◌++◌, Bool, true, false, ◌||◌, length, length-append, cond, slice_get, Option, Some, None, option_map, refl, sym, ap, ◌∙◌, subst, arith}
+use Rattle.std.proofs.Common.{◌≡◌, ℕ, zero, suc, ◌+◌, ◌*◌, ◌<◌, ◌⊎◌, inl, inr, List, [], ◌∷◌, Bool, true, false, length, length-append, cond, slice_get, Some, refl, sym, ap, ◌∙◌, subst, arith}
 use Rattle.std.specs.Prelude.{◌==◌}
-use Rattle.std.specs.List.{AllByRecursion, list_any}
+use Rattle.std.specs.List.{AllByRecursion}
 use Rattle.std.specs.Option.{option_map_or}
-use Rattle.std.proofs.lemmas.Bool.{eqb-true, eqb-false}
 use Rattle.std.proofs.lemmas.Bool.Decides.{nat_tests}
-use Rattle.std.proofs.lemmas.Option.{same_Some, slice_get_within}
+use Rattle.std.proofs.lemmas.Option.{same_Some}
 use Rattle.meta_base.specs.declared.ids.Delivery.{Delivery}
-use Rattle.net_graph.specs.Nets.{PureArc, PureNet, IsNet, IsArcOf, AreDistinct, arcs_to}
-use Rattle.node_core.specs.Kinds.{on_arc, listener, speaker}
-use Rattle.node_core.specs.Machine.{Machine, AreUnbegun, Start, Deliver, Replay, Drained, changed_at, deliver_at, replay_from}
-use Rattle.node_core.specs.MachineLaws.{same_test, at_each, option_then, listens_within, IsDelivery, delivery_of, delivered_at}
+use Rattle.net_graph.specs.Nets.{PureArc, PureNet, IsNet, AreDistinct}
+use Rattle.node_core.specs.Kinds.{on_arc, speaker}
+use Rattle.node_core.specs.Machine.{Machine, AreUnbegun, Start, deliver_at, replay_from}
+use Rattle.node_core.specs.MachineLaws.{same_test, option_then, listens_within, IsDelivery, delivery_of, delivered_at}
 use Rattle.rest_laws.specs.Ways.{total, over_arcs}
 use Rattle.rest_laws.specs.WayLaws.{total_changed, total_zero}
 use Rattle.rest_laws.specs.Reach.{taken_on}
@@ -20,7 +19,7 @@ use Rattle.flood_node.specs.Reach.{count_nodes}
 use Rattle.flood_node.specs.Knowing.{same_node, IsFlood}
 use Rattle.flood_node.specs.Telling.{heard_by}
 use Rattle.flood_node.specs.Steps.{step_new, step_old}
-use Rattle.flood_node.specs.Deliveries.{clock, taker, sent, passed, was, sent_old, sent_new, sent_other, stayed_length, length_after}
+use Rattle.flood_node.specs.Deliveries.{clock, taker, sent, was, sent_old, sent_new, sent_other, stayed_length, length_after}
 use Rattle.flood_node.specs.Truth.{delivery_floods, waits_own, begun_is}
 
 -- the sum from its front

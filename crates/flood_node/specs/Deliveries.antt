@@ -1,15 +1,15 @@
 -- What a delivery to flooding nodes changes. Lemmas, so that proofs of other crates may cite them.
-use Rattle.std.proofs.Common.{◌≡◌, ℕ, ◌+◌, ◌<◌, ◌≤◌, ◌⊎◌, inl, inr, List, [], ◌∷◌, ◌++◌, Bool, true, false, length, length-append, cond, Option, Some, None, refl, sym, ap, ◌∙◌, subst, arith}
+use Rattle.std.proofs.Common.{◌≡◌, ℕ, ◌+◌, ◌⊎◌, inl, inr, List, [], ◌∷◌, ◌++◌, Bool, true, false, length, length-append, cond, Some, refl, sym, ap, ◌∙◌, subst, arith}
 use Rattle.std.specs.Prelude.{◌==◌}
 use Rattle.std.specs.List.{AllByRecursion}
 use Rattle.std.proofs.lemmas.Bool.{eqb-true, eqb-false}
 use Rattle.std.proofs.lemmas.Option.{same_Some}
 use Rattle.net_graph.specs.Nets.{PureNet, IsNet}
-use Rattle.node_core.specs.Kinds.{on_arc, listener, speaker}
+use Rattle.node_core.specs.Kinds.{on_arc, speaker}
 use Rattle.node_core.specs.Machine.{Machine, changed_at, clock_after}
 use Rattle.node_core.specs.Running.{IsRunning, IsNodeAt}
 use Rattle.node_core.specs.MachineLaws.{same_test, at_each, IsDelivery}
-use Rattle.flood_node.specs.Cards.{PureCard, PureFlooded}
+use Rattle.flood_node.specs.Cards.{PureFlooded}
 use Rattle.flood_node.specs.Node.{FloodState, holds, told_by, Step, flooding}
 use Rattle.flood_node.specs.Telling.{speaks, told_once}
 use Rattle.flood_node.specs.Steps.{step_new, step_old, still_holds, speaks_itself, speaks_is}

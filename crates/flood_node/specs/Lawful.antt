@@ -1,9 +1,8 @@
 -- The flooding kind is lawful. A lemma, so that proofs of other crates may cite it.
 use Rattle.std.proofs.Common.{◌≡◌, ℕ, ◌≤◌, List, [], ◌∷◌, ◌++◌, Bool, true, false, length, cond, refl, arith}
-use Rattle.std.specs.List.{AllByRecursion}
 use Rattle.net_graph.specs.Nets.{IsNet, arcs_to}
 use Rattle.node_core.specs.Numbers.{max_begun}
-use Rattle.node_core.specs.Kinds.{IsLawful, IsSentBy, IsLater, on_arc, speaker}
+use Rattle.node_core.specs.Kinds.{IsLawful, IsSentBy, IsLater, on_arc}
 use Rattle.flood_node.specs.Cards.{PureCard, PureFlooded, card_of}
 use Rattle.flood_node.specs.Node.{FloodState, holds, told_by, Begin, Step, flooding}
 use Rattle.flood_node.specs.Telling.{told_few, told_all, told_by_speaker}

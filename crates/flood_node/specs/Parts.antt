@@ -1,17 +1,15 @@
 -- A part of a network that no arc leaves has the rows of the whole. Lemmas, so that proofs of other crates may cite them.
-use Rattle.std.proofs.Common.{◌≡◌, ℕ, zero, suc, ◌+◌, ◌<◌, ◌≤◌, ◌⊎◌, inl, inr, List, [], ◌∷◌, Bool, true, false, ◌||◌, length, filter, cond, slice_get, Option, Some, None, refl, sym, ap, ◌∙◌, subst, arith}
+use Rattle.std.proofs.Common.{◌≡◌, ℕ, zero, suc, ◌+◌, ◌<◌, inl, inr, List, [], ◌∷◌, Bool, true, false, ◌||◌, length, filter, cond, slice_get, Option, Some, None, refl, sym, ap, ◌∙◌, subst, arith}
 use Rattle.std.specs.Prelude.{◌==◌, option_map, option_and_then, IfSome}
-use Rattle.std.specs.List.{list_any}
 use Rattle.std.proofs.lemmas.Bool.{eqb-true}
-use Rattle.std.proofs.lemmas.Option.{same_Some}
 use Rattle.alg_model.specs.Application.{App}
-use Rattle.alg_model.specs.Expressions.{PureAlg, PureLabel, PureValue}
+use Rattle.alg_model.specs.Expressions.{PureAlg, PureValue}
 use Rattle.alg_model.specs.Carriers.{carrier_of}
-use Rattle.net_graph.specs.Nets.{PureNet, IsNet, has_arc, label_between, origin_value}
+use Rattle.net_graph.specs.Nets.{PureNet, IsNet, label_between}
 use Rattle.net_graph.specs.ArcLaws.{along_has}
 use Rattle.net_graph.specs.Routes.{PureRoute, Better}
 use Rattle.net_graph.specs.Walks.{along}
-use Rattle.net_graph.specs.Tables.{PureRow, TableOf, IsRouteOf, AreRowsFrom, BestFirst, AreFixed, IsOfferFrom, IsOfferBy, IsOwnOffer, Reported, carrier, route_at, is_among}
+use Rattle.net_graph.specs.Tables.{PureRow, IsRouteOf, AreRowsFrom, BestFirst, AreFixed, IsOfferFrom, carrier, route_at, is_among}
 use Rattle.flood_node.specs.Partial.{IsPart, IsClosed, rows_known}
 
 -- the part of a list that is known, tested

@@ -1,14 +1,13 @@
 -- The rows that flooding nodes compute once nothing is on its way are those of the whole network. Lemmas, so that proofs
 -- of other crates may cite them.
-use Rattle.std.proofs.Common.{◌≡◌, ℕ, zero, suc, ◌+◌, ◌<◌, ◌≤◌, List, [], ◌∷◌, ◌++◌, Bool, true, false, length, slice_get, Option, Some, None, refl, sym, ap, ◌∙◌, subst, arith}
-use Rattle.std.specs.Prelude.{◌==◌}
-use Rattle.std.proofs.lemmas.Option.{same_Some, slice_get_within}
+use Rattle.std.proofs.Common.{◌≡◌, ℕ, zero, suc, ◌+◌, ◌<◌, ◌≤◌, List, [], ◌∷◌, ◌++◌, true, length, slice_get, Option, Some, None, refl, sym, ap, ◌∙◌, subst, arith}
+use Rattle.std.proofs.lemmas.Option.{same_Some}
 use Rattle.net_graph.specs.Nets.{PureNet, IsNet, has_arc}
 use Rattle.net_graph.specs.Tables.{PureRow, BestFirst, OnTablesFrom, AreRowsOfTables, joined_rows}
 use Rattle.node_core.specs.Machine.{Machine, Drained}
 use Rattle.flood_node.specs.Cards.{PureFlooded}
 use Rattle.flood_node.specs.Node.{FloodState, holds}
-use Rattle.flood_node.specs.Reach.{IsChain, Reach}
+use Rattle.flood_node.specs.Reach.{IsChain}
 use Rattle.flood_node.specs.Knowing.{IsFlood}
 use Rattle.flood_node.specs.Partial.{IsClosed, rows_known}
 use Rattle.flood_node.specs.Parts.{row_known}

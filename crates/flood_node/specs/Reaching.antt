@@ -5,7 +5,7 @@ use Rattle.std.specs.List.{list_any}
 use Rattle.std.proofs.lemmas.Bool.{eqb-true, and_parts}
 use Rattle.std.proofs.lemmas.Bool.Decides.{nat_tests}
 use Rattle.std.proofs.lemmas.Option.{same_Some}
-use Rattle.net_graph.specs.Nets.{PureArc, PureNet, IsNet, IsArcOf, is_arc_between, has_arc}
+use Rattle.net_graph.specs.Nets.{PureArc, PureNet, IsNet, IsArcOf, has_arc}
 use Rattle.net_graph.specs.ArcLaws.{all_at}
 use Rattle.node_core.specs.MachineLaws.{same_test}
 use Rattle.rest_laws.specs.Ways.{total}

@@ -1,5 +1,5 @@
 -- How the rows of nodes are found: nodes that hold the same cards share what is solved for one of them.
-use Rattle.std.specs.Prelude.{◌≡◌, ℕ, zero, suc, ◌+◌, ◌==◌, ◌<◌, ◌≤◌, Bool, true, List, [], ◌∷◌, ◌++◌, Option, Some, None, is_some, option_map, option_and_then, length, map, cond, slice_get}
+use Rattle.std.specs.Prelude.{◌≡◌, ℕ, zero, suc, ◌==◌, ◌<◌, ◌≤◌, Bool, List, [], ◌++◌, Option, Some, None, is_some, option_and_then, length, map, cond, slice_get}
 use Rattle.net_graph.specs.Nets.{PureOrigin, PureNet, origin_value}
 use Rattle.net_graph.specs.Tables.{PureRow, BestFirst}
 use Rattle.flood_node.specs.Cards.{PureCard, PureCardOrigin, card_of}

@@ -1,17 +1,17 @@
 -- What a step of a flooding node changes, and what nodes that begin put out. Lemmas, so that proofs of other crates may
 -- cite them.
-use Rattle.std.proofs.Common.{◌≡◌, ℕ, zero, suc, ◌+◌, ◌<◌, ◌≤◌, ◌⊎◌, inl, inr, List, [], ◌∷◌, ◌++◌, Bool, true, false, ◌||◌, length, length-append, cond, slice_get, Option, Some, None, refl, sym, ap, ◌∙◌, subst, arith}
+use Rattle.std.proofs.Common.{◌≡◌, ℕ, zero, suc, ◌+◌, ◌<◌, ◌⊎◌, inl, inr, List, [], ◌∷◌, ◌++◌, Bool, true, false, ◌||◌, length, cond, slice_get, Option, Some, None, refl, sym, ap, ◌∙◌, subst, arith}
 use Rattle.std.specs.Prelude.{◌==◌}
-use Rattle.std.specs.List.{AllByRecursion, list_any}
+use Rattle.std.specs.List.{list_any}
 use Rattle.std.proofs.lemmas.Bool.{eqb-true}
 use Rattle.std.proofs.lemmas.Bool.Decides.{nat_tests}
 use Rattle.std.proofs.lemmas.Option.{same_Some}
-use Rattle.net_graph.specs.Nets.{PureArc, PureNet, IsNet}
-use Rattle.node_core.specs.Kinds.{on_arc, listener, speaker}
+use Rattle.net_graph.specs.Nets.{PureNet, IsNet}
+use Rattle.node_core.specs.Kinds.{on_arc, speaker}
 use Rattle.node_core.specs.Machine.{AreUnbegun, begun_messages}
-use Rattle.node_core.specs.MachineLaws.{same_test, all_join, on_arc_join, option_from}
+use Rattle.node_core.specs.MachineLaws.{same_test, on_arc_join}
 use Rattle.flood_node.specs.Cards.{PureCard, PureFlooded, card_of}
-use Rattle.flood_node.specs.Node.{FloodState, has_card, holds, told_by, Step, flooding}
+use Rattle.flood_node.specs.Node.{FloodState, holds, told_by, Step, flooding}
 use Rattle.flood_node.specs.Telling.{speaks, told_once}
 
 -- some item of the one list or of the other passes

@@ -1,22 +1,18 @@
 -- The network that a node was told of is a network, and a part of the whole one. Lemmas, so that proofs of other crates
 -- may cite them.
-use Rattle.std.proofs.Common.{◌≡◌, ℕ, zero, suc, ◌+◌, ◌<◌, ◌≤◌, List, [], ◌∷◌, Bool, true, false, ◌&&◌, length, filter, cond, slice_get, Option, Some, None, refl, sym, ap, ◌∙◌, subst, arith}
-use mathlib.Core.Path.{fun_ext}
-use Rattle.std.specs.Prelude.{◌==◌, option_map}
+use Rattle.std.proofs.Common.{◌≡◌, ℕ, ◌+◌, ◌≤◌, List, [], ◌∷◌, Bool, true, false, length, filter, cond, Option, None, refl, sym, ap, ◌∙◌, arith}
+use Rattle.std.specs.Prelude.{option_map}
 use Rattle.std.specs.List.{AllByRecursion, find}
-use Rattle.std.proofs.lemmas.Bool.{eqb-true}
 use Rattle.std.proofs.lemmas.Bool.Decides.{nat_tests}
-use Rattle.std.proofs.lemmas.Option.{same_Some}
 use Rattle.alg_model.specs.Expressions.{PureLabel, PureValue}
 use Rattle.net_graph.specs.Changes.{numbered_from}
 use Rattle.net_graph.specs.ChangeLaws.{length-numbered_from}
-use Rattle.net_graph.specs.Limits.{max_arcs}
-use Rattle.net_graph.specs.Nets.{PureArc, PureOrigin, PureNet, IsNet, IsArcOf, IsOriginOf, AreDistinct, AreNumbered, joins_same, stands_same, is_arc_between, is_origin_at, has_arc, label_between, origin_value}
+use Rattle.net_graph.specs.Nets.{PureArc, PureOrigin, PureNet, IsNet, IsArcOf, IsOriginOf, AreDistinct, AreNumbered, joins_same, stands_same, is_arc_between, is_origin_at}
 use Rattle.net_graph.specs.NetLaws.{all_passed, other_arcs_are_a_net}
 use Rattle.net_graph.specs.Tables.{PureRow, BestFirst}
 use Rattle.flood_node.specs.Told.{Told}
 use Rattle.flood_node.specs.Partial.{IsPart, IsClosed, rows_known}
-use Rattle.flood_node.specs.Parts.{best_in_part, row_known}
+use Rattle.flood_node.specs.Parts.{best_in_part}
 
 distinct_passed : {X : Type 0} (same : X → X → Bool) (p : X → Bool) (xs : List X) → AreDistinct same xs → AreDistinct same (filter p xs)
 distinct_passed same p [] d = tt

@@ -1,6 +1,6 @@
 -- A run of flooding nodes that ends has as many deliveries as nodes are reached, each once for each arc that the node
 -- that reaches it speaks on. Lemmas, so that proofs of other crates may cite them.
-use Rattle.std.proofs.Common.{◌≡◌, ℕ, zero, suc, ◌+◌, ◌*◌, ◌<◌, ◌≤◌, ◌⊎◌, inl, inr, List, [], ◌∷◌, Bool, true, false, ◌||◌, length, cond, slice_get, Option, Some, None, option_map, refl, sym, ap, ◌∙◌, subst, arith}
+use Rattle.std.proofs.Common.{◌≡◌, ℕ, zero, suc, ◌+◌, ◌<◌, ◌≤◌, ◌⊎◌, inl, inr, List, [], ◌∷◌, Bool, true, false, ◌||◌, length, cond, slice_get, Some, option_map, refl, ap, ◌∙◌, subst, arith}
 use Rattle.std.specs.Prelude.{◌==◌, nat_lt}
 use Rattle.std.specs.List.{AllByRecursion}
 use Rattle.std.specs.Option.{option_map_or}
@@ -9,14 +9,13 @@ use Rattle.std.proofs.lemmas.Bool.Decides.{nat_tests}
 use Rattle.meta_base.specs.declared.ids.Delivery.{Delivery}
 use Rattle.net_graph.specs.Nets.{PureArc, PureNet, IsNet, IsArcOf}
 use Rattle.net_graph.specs.NetLaws.{all_weaker}
-use Rattle.net_graph.specs.ArcLaws.{all_at}
 use Rattle.node_core.specs.Kinds.{speaker}
 use Rattle.node_core.specs.Machine.{Machine, AreUnbegun, Start, Replay, Drained}
 use Rattle.rest_laws.specs.Ways.{total, over_arcs}
 use Rattle.rest_laws.specs.WayLaws.{total_more, total_plus}
 use Rattle.rest_laws.specs.Reach.{taken_on}
 use Rattle.flood_node.specs.Cards.{PureCard, PureFlooded}
-use Rattle.flood_node.specs.Node.{FloodState, has_card, holds, flooding}
+use Rattle.flood_node.specs.Node.{FloodState, has_card, flooding}
 use Rattle.flood_node.specs.Reach.{Reach, reaches, count_nodes, cards_told}
 use Rattle.flood_node.specs.Knowing.{IsReachedCard, IsFlood}
 use Rattle.flood_node.specs.Truth.{start_floods, replays_flood, drained_holds, head_in}

@@ -1,23 +1,20 @@
 -- In every run flooding nodes hold true cards of nodes that they reach, and of all of these once nothing is on its way.
 -- Lemmas, so that proofs of other crates may cite them.
-use Rattle.std.proofs.Common.{◌≡◌, ℕ, zero, suc, ◌+◌, ◌<◌, ◌≤◌, ◌⊎◌, inl, inr, List, [], ◌∷◌, ◌++◌, Bool, true, false, ◌&&◌, ◌||◌, length, cond, slice_get, Option, Some, None, option_map, refl, sym, ap, ◌∙◌, subst, arith}
+use Rattle.std.proofs.Common.{◌≡◌, ℕ, zero, suc, ◌<◌, ◌⊎◌, inl, inr, List, [], ◌∷◌, ◌++◌, Bool, true, false, ◌||◌, length, slice_get, Some, option_map, refl, sym, ap, ◌∙◌, subst, arith}
 use Rattle.std.specs.Prelude.{◌==◌}
 use Rattle.std.specs.List.{AllByRecursion, list_any}
-use Rattle.std.proofs.lemmas.Bool.{eqb-true, eqb-false}
-use Rattle.std.proofs.lemmas.Bool.Decides.{nat_tests}
+use Rattle.std.proofs.lemmas.Bool.{eqb-true}
 use Rattle.std.proofs.lemmas.Option.{same_Some, slice_get_within}
 use Rattle.meta_base.specs.declared.ids.Delivery.{Delivery}
 use Rattle.net_graph.specs.Nets.{PureArc, PureNet, IsNet, IsArcOf, AreDistinct, is_arc_between, has_arc}
 use Rattle.net_graph.specs.NetLaws.{all_push, either_false}
 use Rattle.net_graph.specs.ArcLaws.{all_at}
 use Rattle.node_core.specs.Kinds.{on_arc, listener, speaker}
-use Rattle.node_core.specs.Machine.{Machine, AreUnbegun, Start, Deliver, Replay, Drained, begun_messages, changed_at, clock_after, step_of, stepped}
-use Rattle.node_core.specs.Running.{IsRunning, IsNodeAt}
-use Rattle.node_core.specs.MachineLaws.{same_test, at_each, all_join, option_from, IsDelivery, delivery_of, deliver_runs, start_runs, replay_keeps}
+use Rattle.node_core.specs.Machine.{Machine, AreUnbegun, Start, Deliver, Replay, Drained, changed_at}
+use Rattle.node_core.specs.MachineLaws.{same_test, all_join, option_from, IsDelivery, delivery_of, deliver_runs, start_runs, replay_keeps}
 use Rattle.flood_node.specs.Cards.{PureCard, PureFlooded, card_of}
-use Rattle.flood_node.specs.Node.{FloodState, has_card, holds, told_on, told_by, Begin, Step, flooding}
+use Rattle.flood_node.specs.Node.{FloodState, has_card, holds, Begin, flooding}
 use Rattle.flood_node.specs.Reach.{IsChain, Reach}
-use Rattle.flood_node.specs.Told.{IsTrueCard}
 use Rattle.flood_node.specs.Knowing.{IsReachedCard, is_waiting, same_node, IsFlood}
 use Rattle.flood_node.specs.Lawful.{flooding_is_lawful}
 use Rattle.flood_node.specs.Steps.{any_left, any_right, any_one, any_of_one, step_new, step_old, still_holds, holds_new, held_before, own_message, begun_at, new_at, new_count}

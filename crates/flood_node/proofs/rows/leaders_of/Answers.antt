@@ -1,4 +1,4 @@
-use Rattle.std.proofs.Common.{◌<◌, length, arith}
+use Rattle.std.proofs.Common.{arith}
 use Rattle.flood_node.proofs.Finding.{within_or_past}
 use Rattle.flood_node.proofs.Leading.{leaders_next}
 use Rattle.flood_node.proofs.rows.leaders_of.Goals as goal

@@ -1,10 +1,10 @@
-use Rattle.std.proofs.Common.{◌≡◌, ◌+◌, ◌<◌, length, map, refl, sym, ap, ◌∙◌, arith}
+use Rattle.std.proofs.Common.{◌≡◌, length, refl, sym, ◌∙◌, arith}
 use Rattle.std.proofs.lemmas.List.{length-map}
 use Rattle.std.proofs.lemmas.Option.{slice_get_read}
-use Rattle.net_graph.specs.Views.{pure_row, rows_of}
+use Rattle.net_graph.specs.Views.{rows_of}
 use Rattle.flood_node.specs.FoundRows.{found_rows}
 use Rattle.flood_node.proofs.Joining.{seen_rows}
-use Rattle.flood_node.proofs.Solved.{none_solved, solved_next, still_many}
+use Rattle.flood_node.proofs.Solved.{none_solved, solved_next}
 use Rattle.flood_node.proofs.rows.place_tables.Goals as goal
 
 pub loop-dest-init : goal.loop-dest-init

@@ -1,7 +1,6 @@
-use Rattle.std.proofs.Common.{◌≡◌, ◌==◌, ◌<◌, ℕ, true, false, length, map, slice_get, Some, refl, sym, ap, ◌∙◌, arith}
+use Rattle.std.proofs.Common.{◌≡◌, ◌==◌, true, false, length, map, slice_get, Some, sym, ap, ◌∙◌, arith}
 use Rattle.std.proofs.lemmas.Bool.Decides.{nat_tests}
 use Rattle.std.proofs.lemmas.Result.{on_ok_weaker}
-use Rattle.alg_model.specs.Expressions.{PureLabel}
 use Rattle.alg_model.specs.Views.{pure_label}
 use Rattle.net_graph.specs.ArcLaws.{all_at, of_some}
 use Rattle.net_graph.specs.Nets.{PureArc, PureNet, IsArcOf, arcs_from}

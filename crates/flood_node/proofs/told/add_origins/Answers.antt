@@ -1,11 +1,10 @@
-use Rattle.std.proofs.Common.{◌≡◌, ◌<◌, ℕ, Some, None, length, slice_get, refl, sym, ap, ◌∙◌, arith}
+use Rattle.std.proofs.Common.{◌≡◌, Some, None, length, refl, sym, ap, ◌∙◌, arith}
 use Rattle.std.specs.Prelude.{is_some, option_and_then}
 use Rattle.std.specs.List.{list_any}
 use Rattle.std.proofs.lemmas.Option.{slice_get_read}
 use Rattle.net_graph.specs.Nets.{PureNet, has_origin, is_origin_at}
 use Rattle.flood_node.specs.Cards.{PureCard, card_of}
 use Rattle.flood_node.specs.Rows.{is_placed, placed_at, told_origins}
-use Rattle.flood_node.specs.Views.{pure_card}
 use Rattle.flood_node.proofs.ToldOrigins.{none_yet, node_draft_next, node_draft_same}
 use Rattle.flood_node.proofs.told.add_origins.Goals as goal
 use Rattle.flood_node.proofs.told.add_origins.Goals.{in-Some+in_ok-add_own_origins, in_default}

@@ -1,4 +1,4 @@
-use Rattle.std.proofs.Common.{◌≡◌, ◌<◌, false, length, slice_get, Some, ap, ◌∙◌, arith}
+use Rattle.std.proofs.Common.{◌≡◌, length, slice_get, Some, ap, ◌∙◌, arith}
 use Rattle.alg_model.specs.Views.{pure_value}
 use Rattle.flood_node.specs.Cards.{PureCard, card_of}
 use Rattle.flood_node.specs.Views.{pure_card_origin}

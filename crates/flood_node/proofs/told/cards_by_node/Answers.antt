@@ -4,7 +4,7 @@ use Rattle.std.specs.Prelude.{option_map}
 use Rattle.std.proofs.lemmas.List.{length-set}
 use Rattle.std.proofs.lemmas.Option.{slice_get-map, slice_get_read}
 use Rattle.net_graph.specs.ArcLaws.{all_at}
-use Rattle.flood_node.specs.Cards.{PureCard, card_of}
+use Rattle.flood_node.specs.Cards.{card_of}
 use Rattle.flood_node.specs.Told.{IsTrueCard}
 use Rattle.flood_node.specs.Views.{pure_card}
 use Rattle.flood_node.specs.declared.card.Card.{Card}
