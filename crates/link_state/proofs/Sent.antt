@@ -6,7 +6,7 @@ use Rattle.alg_model.proofs.tree.Label.TheLaws.TheKnot as label
 use Rattle.alg_model.proofs.tree.Tree.TheLaws.TheKnot as tree
 use Rattle.alg_model.proofs.tree.Value.TheLaws.TheKnot as value
 use Rattle.net_graph.specs.contracts.net.Net.{the_row}
-use Rattle.best_first.specs.contracts.labels.ArcLabels as labels
+use Rattle.arc_labels.specs.contracts.neighbours.NeighbourLabels as labels
 
 pub net_sync : IsSync the_row
 net_sync = search (crosses, label.crosses, tree.crosses, value.crosses, sendable) depth 60 fits 20000

@@ -18,13 +18,14 @@ use crate::after::{last_of, net_after};
 use crate::outcome::{Hopped, Outcome, Stop, Unfit};
 use crate::routing::{Solution, tables_of};
 use alg_model::Alg;
+use arc_labels::{label_forms, speaker_labels};
 use best_first::best_first_is_optimal;
 use code_gen::{CodeAlgebra, row_width, rows_have_their_width};
 use label_code::{FixedRow, HeldRow, Words};
 use meta_base::{List, NoMemory};
 use net_facts::{Missing, first_missing};
 use net_graph::{DestTable, Net};
-use report_check::{ManyHops, best_hops, out_labels};
+use report_check::{ManyHops, best_hops};
 use std::alloc::{AllocGlobal, Global};
 use std::thread::Threads;
 use topology_file::NetFile;
@@ -154,7 +155,8 @@ fn hops_over<W: HeldRow>(
     ensures { IfOk result (λ many. map pure_hops many ≡ all_hops net.now 0 (map rows_of tables.now)) }
 {
     let algebra = CodeAlgebra::<W>::new(alloc, net.alg())?;
-    let labels = out_labels(alloc, &algebra, net)?;
+    let forms = label_forms(alloc, &algebra, net)?;
+    let labels = speaker_labels(alloc, &algebra, net, &forms)?;
     let mut many = Vec::with_capacity(alloc, room)?;
     for table in tables {
         append_hops(&mut many, best_hops(alloc, &algebra, net, &labels, table)?)?;
