@@ -12,10 +12,10 @@ use Rattle.flood_node.specs.contracts.card.Flooded as flooded
 net_sync : IsSync net.the_row
 net_sync = search (crosses, label.crosses, tree.crosses, value.crosses, sendable) depth 60 fits 20000
 
-card_send : IsSend card.the_row
+pub card_send : IsSend card.the_row
 card_send = search (crosses, label.crosses, value.crosses, sendable) depth 60 fits 20000
 
-card_sync : IsSync card.the_row
+pub card_sync : IsSync card.the_row
 card_sync = search (crosses, label.crosses, value.crosses, sendable) depth 60 fits 20000
 
 pub flooded_send : IsSend flooded.the_row
