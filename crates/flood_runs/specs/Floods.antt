@@ -1,5 +1,5 @@
 -- What a flood comes to.
-use Rattle.std.specs.Prelude.{◌≡◌, ℕ, Bool, List, length, map}
+use Rattle.std.specs.Prelude.{ℕ, Bool, List, length, map}
 use Rattle.std.specs.List.{range_with_len}
 use Rattle.meta_base.specs.declared.ids.Delivery.{Delivery}
 use Rattle.net_graph.specs.Nets.{PureNet}
