@@ -154,14 +154,26 @@ const FLOODS: &[Flood] = &[
     ),
 ];
 
+// Whether the machine's nodes hold the cards of the flood, and compute its rows.
+fn ends_so(alloc: Global, config: &Config<'_, FloodNode<'_>>, flood: &Flood) -> Result<bool, Fail>
+    requires { IsFlood (net_of config.now) (machine_of (λ n. n) pure_flooded config.now) }
+{
+    if !hold_so(config.net(), config.nodes(), flood.4) {
+        return Ok(false);
+    }
+    let rows = rows_now(alloc, config)?;
+    are_rows(alloc, config.net(), rows.as_slice(), flood.5)
+}
+
+fn floods_on(alloc: Global, net: &Net, flood: &Flood) -> Result<bool, Fail> {
+    let mut config = start(alloc, net)?;
+    let made = deliver_some(&mut config, flood.2)?;
+    Ok(ends_so(alloc, &config, flood)? && made == flood.3)
+}
+
 fn floods_so(alloc: Global, flood: &Flood) -> Result<bool, Fail> {
     let net = network(alloc, flood.0, flood.1)?;
-    let mut config = start(alloc, &net)?;
-    let made = deliver_some(&mut config, flood.2)?;
-    let rows = rows_now(alloc, &config)?;
-    let held = hold_so(&net, config.nodes(), flood.4);
-    let same = are_rows(alloc, &net, rows.as_slice(), flood.5)?;
-    Ok(made == flood.3 && held && same)
+    floods_on(alloc, &net, flood)
 }
 
 #[test]
