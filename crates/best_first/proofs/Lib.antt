@@ -7,7 +7,6 @@ pub mod Speaking
 pub mod Advancing
 pub mod Origins
 pub mod Offering
-pub mod LabelLists
 pub mod Fixing
 pub mod Unique
 pub mod Sound

@@ -1,8 +1,7 @@
 -- What is found on the way to a table: for each node a route, or none.
-use Rattle.std.specs.Prelude.{◌≡◌, ℕ, ◌+◌, List, [], ◌∷◌, Bool, cond, Option, Some, None, is_some, option_map, option_and_then, IfSome, slice_get, map, zero, suc}
+use Rattle.std.specs.Prelude.{◌≡◌, ℕ, ◌+◌, List, [], ◌∷◌, cond, Option, Some, None, is_some, option_map, option_and_then, IfSome, slice_get, map, zero, suc}
 use Rattle.std.proofs.Common.{refl}
 use Rattle.alg_model.specs.Expressions.{PureCarrier, PureValue}
-use Rattle.alg_model.specs.Actions.{held}
 use Rattle.net_graph.specs.Nets.{PureNet, origin_value}
 use Rattle.net_graph.specs.Routes.{PureRoute, is_better, Better}
 use Rattle.net_graph.specs.Walks.{along}
@@ -21,10 +20,6 @@ found-map f (x ∷ xs) (suc k) = found-map f xs k
 -- what was found for a node has the property
 abbrev pub AllFound : {X : Type 0} → (X → Type 0) → List (Option X) → Type 0
 AllFound P found = (k : ℕ) → IfSome (found_at found k) P
-
--- what stands in a place, where the call that may have put it there says so
-abbrev pub made_in : {X : Type 0} → Bool → Option X → Option X
-made_in placed o = option_and_then (held placed) o
 
 -- for how many nodes nothing was found
 abbrev pub none_count : {X : Type 0} → List (Option X) → ℕ

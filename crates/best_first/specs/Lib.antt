@@ -4,4 +4,3 @@ pub mod KeyOrder
 pub mod Fixed
 pub mod Queue
 pub mod State
-pub mod Labels

@@ -1,4 +1,5 @@
 ghost use Rattle.std.specs.Prelude.{◌≡◌, ◌<◌, ◌≤◌, ◌+◌, ℕ, Bool, None, true, false, length, vec_len, IfOk, OnOk, IfNone, IfSome, OnSome, IsSomeAnd, MatchOption, option_map};
+ghost use Rattle.arc_labels.specs.Neighbours.{AreListenerLabels};
 ghost use Rattle.frontier.specs.Tournaments.{IsJudged};
 ghost use Rattle.alg_model.specs.declared.alg.TheConstants.{MAX_VALUE_NUMBER};
 ghost use Rattle.alg_model.specs.Expressions.{PureLabel};
@@ -7,18 +8,17 @@ ghost use Rattle.alg_model.specs.Application.{App};
 ghost use Rattle.alg_model.specs.Bounds.{AtMost};
 ghost use Rattle.net_graph.specs.Nets.{CanBeNumbered, IsNet};
 ghost use Rattle.net_graph.specs.Tables.{carrier};
-ghost use Rattle.best_first.specs.Found.{found_at, AllFound, own_offer, made_in};
+ghost use Rattle.best_first.specs.Found.{found_at, AllFound, own_offer};
 ghost use Rattle.best_first.specs.Keys.{best_of, routes_of};
 ghost use Rattle.best_first.specs.Fixed.{reported_by, open_routes, AreFixedBy, FixesNone, FixesNext};
-ghost use Rattle.best_first.specs.Labels.{AreLabelsOf};
 ghost use Rattle.best_first.specs.Queue.{IsOpen, IsOfferedOf, IsRanked, no_route};
 ghost use Rattle.best_first.specs.State.{relaxed, CanSpeak, spoken};
 
-use crate::ArcLabels;
 use crate::fixed::Fixed;
 use crate::open::Open;
 use crate::route::{OpenRoute, Place};
 use alg_model::Algebra;
+use arc_labels::{NeighbourLabels, image_into};
 use meta_base::{DestId, NoMemory, NodeId};
 use net_graph::Net;
 use std::alloc::Global;
@@ -102,14 +102,14 @@ pub(crate) fn relax<A: Algebra, L: Ledger>(
     alloc: Global,
     algebra: &A,
     _net: &Net,
-    labels: &ArcLabels<A::Lab>,
+    labels: &NeighbourLabels<'_, A::Lab>,
     fixed: &Fixed<A::Sig>,
     search: &mut Open<A, L>,
     node: NodeId,
 ) -> Result<(), NoMemory>
     requires algebra { A.expression algebra.now ≡ _net.now.alg.expression }
     requires net { IsNet _net.now }
-    requires labels { AreLabelsOf (A.stands_for algebra.now) _net.now labels.now }
+    requires labels { AreListenerLabels (A.stands_for algebra.now) _net.now labels.now }
     requires node { node.0 < length _net.now.nodes }
     requires rows { vec_len fixed.now.rows ≡ length _net.now.nodes }
     requires count { vec_len search.old.best ≡ length _net.now.nodes }
@@ -132,14 +132,14 @@ pub(crate) fn relax<A: Algebra, L: Ledger>(
 {
     let next = fixed.route(node);
     let size = fixed.paths.path(next.path).len() as u32 + 1;
-    for listener in labels.listeners(node) {
+    for listener in labels.of(node) {
         if fixed.rows[listener.node.0 as usize].is_none() {
             let place = Place {
                 size,
                 node: listener.node,
                 next: node,
             };
-            offer_image(alloc, algebra, &listener.label, &next.sig, place, search)?;
+            offer_image(alloc, algebra, listener.label, &next.sig, place, search)?;
         }
     }
     Ok(())
@@ -175,33 +175,4 @@ fn offer_image<A: Algebra, L: Ledger>(
         search.offer_spare(algebra, place);
     }
     Ok(())
-}
-
-// Puts into the place what the label makes of the value: `true` where it stands there, and `false` where the
-// label prohibits it. It is made in the memory of what the place held.
-fn image_into<A: Algebra>(
-    alloc: Global,
-    algebra: &A,
-    lab: &A::Lab,
-    sig: &A::Sig,
-    place: &mut Option<A::Sig>,
-) -> Result<bool, NoMemory>
-    requires lab { (l : PureLabel) × A.stands_for algebra.now lab.now l }
-    requires sig { A.is_sig algebra.now sig.now }
-    requires small { AtMost MAX_VALUE_NUMBER (A.sig_value algebra.now sig.now) }
-    ensures sig { IfOk result (λ placed. IfSome (made_in placed place.new) (A.is_sig algebra.now)) }
-    ensures image { (l : PureLabel) → A.stands_for algebra.now lab.now l → IfOk result (λ placed.
-        option_map (A.sig_value algebra.now) (made_in placed place.new) ≡
-        App (A.expression algebra.now) l (A.sig_value algebra.now sig.now)) }
-{
-    match place {
-        Some(out) => algebra.apply_into(alloc, lab, sig, out),
-        None => {
-            let Some(image) = algebra.apply(alloc, lab, sig)? else {
-                return Ok(false);
-            };
-            *place = Some(image);
-            Ok(true)
-        }
-    }
 }

@@ -4,13 +4,13 @@ ghost use Rattle.net_graph.specs.Tables.{BestFirst};
 ghost use Rattle.net_graph.specs.Views.{rows_of, pure_row};
 ghost use Rattle.best_first.specs.Found.{row_from, rows_from};
 ghost use Rattle.best_first.specs.Fixed.{fixed_route, fixed_routes, AreFixedBy};
-ghost use Rattle.best_first.specs.Labels.{AreLabelsOf};
+ghost use Rattle.arc_labels.specs.Neighbours.{AreListenerLabels};
 
 use crate::fixed::{Fixed, FixedRoute};
 use crate::open::Open;
 use crate::search::{fix_next, offer_own, relax};
-use crate::{ArcLabels, arc_labels};
 use alg_model::Algebra;
+use arc_labels::{NeighbourLabels, label_forms, listener_labels};
 use meta_base::{DestId, List, NoMemory, NodeId};
 use net_graph::{DestTable, Net, Route, RouteRow};
 use path_store::Paths;
@@ -85,21 +85,22 @@ pub fn solve<A: Algebra>(
     ensures rows { IfOk result (λ table. BestFirst net.now dest.0 (rows_of table)) }
     ensures dest { IfOk result (λ table. table.dest ≡ dest) }
 {
-    let labels = arc_labels(alloc, algebra, net)?;
+    let forms = label_forms(alloc, algebra, net)?;
+    let labels = listener_labels(alloc, algebra, net, &forms)?;
     solve_with(alloc, algebra, net, &labels, dest)
 }
 
 /// What [`solve`] gives, over labels of the network's arcs that are in the algebra's form already, from
-/// [`crate::arc_labels`].
+/// [`listener_labels`].
 pub fn solve_with<A: Algebra>(
     alloc: Global,
     algebra: &A,
     net: &Net,
-    labels: &ArcLabels<A::Lab>,
+    labels: &NeighbourLabels<'_, A::Lab>,
     dest: DestId,
 ) -> Result<DestTable, NoMemory>
     requires algebra { A.expression algebra.now ≡ net.now.alg.expression }
-    requires labels { AreLabelsOf (A.stands_for algebra.now) net.now labels.now }
+    requires labels { AreListenerLabels (A.stands_for algebra.now) net.now labels.now }
     requires dest { dest.0 < length net.now.dests }
     ensures rows { IfOk result (λ table. BestFirst net.now dest.0 (rows_of table)) }
     ensures dest { IfOk result (λ table. table.dest ≡ dest) }
@@ -112,12 +113,12 @@ fn solve_counted<A: Algebra, L: Ledger>(
     alloc: Global,
     algebra: &A,
     net: &Net,
-    labels: &ArcLabels<A::Lab>,
+    labels: &NeighbourLabels<'_, A::Lab>,
     dest: DestId,
     blank: Blank,
 ) -> Result<DestTable, NoMemory>
     requires algebra { A.expression algebra.now ≡ net.now.alg.expression }
-    requires labels { AreLabelsOf (A.stands_for algebra.now) net.now labels.now }
+    requires labels { AreListenerLabels (A.stands_for algebra.now) net.now labels.now }
     requires dest { dest.0 < length net.now.dests }
     requires name { blank.name ≡ L.name }
     requires parts { blank.parts ≡ L.parts }

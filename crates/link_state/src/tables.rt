@@ -2,11 +2,12 @@ ghost use Rattle.std.specs.Prelude.{◌≡◌, ◌<◌, ℕ, Option, Some, None,
 ghost use Rattle.meta_base.specs.Numbers.{max_workers};
 ghost use Rattle.net_graph.specs.Nets.{CanBeNumbered};
 ghost use Rattle.net_graph.specs.declared.route.DestTable.{DestTable};
-ghost use Rattle.best_first.specs.Labels.{AreLabelsOf};
+ghost use Rattle.arc_labels.specs.Neighbours.{AreListenerLabels};
 ghost use Rattle.link_state.specs.Tables.{IsTableOf, AreTablesOf};
 
 use alg_model::Algebra;
-use best_first::{ArcLabels, arc_labels, solve_with};
+use arc_labels::{NeighbourLabels, label_forms, listener_labels};
+use best_first::solve_with;
 use meta_base::{DestId, List, NoMemory};
 use net_graph::{DestTable, Net};
 use std::alloc::{AllocGlobal, Global};
@@ -37,11 +38,11 @@ fn table_of<A: Algebra>(
     alloc: Global,
     algebra: &A,
     net: &Net,
-    labels: &ArcLabels<A::Lab>,
+    labels: &NeighbourLabels<'_, A::Lab>,
     dest: usize,
 ) -> Option<DestTable>
     requires algebra { A.expression algebra.now ≡ net.now.alg.expression }
-    requires labels { AreLabelsOf (A.stands_for algebra.now) net.now labels.now }
+    requires labels { AreListenerLabels (A.stands_for algebra.now) net.now labels.now }
     requires dest { dest < length net.now.dests }
     requires few { CanBeNumbered (length net.now.dests) }
     ensures { IfSome result (IsTableOf net.now dest) }
@@ -56,14 +57,14 @@ fn found_by<A: Algebra + Sync, R: Threads + Sync>(
     alloc: Global,
     algebra: &A,
     net: &Net,
-    labels: &ArcLabels<A::Lab>,
+    labels: &NeighbourLabels<'_, A::Lab>,
     workers: usize,
 ) -> Result<Vec<Option<DestTable>>, NoMemory>
 where
     A::Sig: Send,
     A::Lab: Sync,
     requires algebra { A.expression algebra.now ≡ net.now.alg.expression }
-    requires labels { AreLabelsOf (A.stands_for algebra.now) net.now labels.now }
+    requires labels { AreListenerLabels (A.stands_for algebra.now) net.now labels.now }
     requires workers { 0 < workers }
     ensures count { IfOk result (λ found. vec_len found ≡ length net.now.dests) }
     ensures tables { (k : ℕ) (d : Option DestTable) → k < length net.now.dests →
@@ -76,7 +77,7 @@ where
         workers,
         &|dest: usize, table: &mut Option<DestTable>|
             requires { (A.expression algebra.now ≡ net.now.alg.expression)
-                × AreLabelsOf (A.stands_for algebra.now) net.now labels.now
+                × AreListenerLabels (A.stands_for algebra.now) net.now labels.now
                 × (dest < length net.now.dests) × CanBeNumbered (length net.now.dests) }
             ensures { IfSome table.new (IsTableOf net.entry.now dest) }
         { *table = table_of(alloc, algebra, net, labels, dest) },
@@ -117,7 +118,8 @@ where
     ensures tables { IfOk result (AreTablesOf net.now) }
 {
     let alloc = rt.alloc();
-    let labels = arc_labels(alloc, algebra, net)?;
+    let forms = label_forms(alloc, algebra, net)?;
+    let labels = listener_labels(alloc, algebra, net, &forms)?;
     let found = found_by(rt, alloc, algebra, net, &labels, workers as usize)?;
     all_of(alloc, found)
 }

@@ -1,5 +1,5 @@
 // What `hops` decides.
-ghost use Rattle.std.specs.Prelude.{◌≡◌, ◌++◌, Ok, map, IfOk, OnOk};
+ghost use Rattle.std.specs.Prelude.{◌≡◌, Ok, map, IfOk};
 ghost use Rattle.alg_model.specs.Carriers.{carrier_of};
 ghost use Rattle.code_gen.specs.Widths.{HoldValues};
 ghost use Rattle.link_state.specs.Tables.{AreTablesOf};
@@ -18,13 +18,14 @@ use crate::after::{last_of, net_after};
 use crate::outcome::{Hopped, Outcome, Stop, Unfit};
 use crate::routing::{Solution, tables_of};
 use alg_model::Alg;
+use arc_labels::{label_forms, speaker_labels};
 use best_first::best_first_is_optimal;
 use code_gen::{CodeAlgebra, row_width, rows_have_their_width};
 use label_code::{FixedRow, HeldRow, Words};
 use meta_base::{List, NoMemory};
 use net_facts::{Missing, first_missing};
 use net_graph::{DestTable, Net};
-use report_check::{ManyHops, best_hops, out_labels};
+use report_check::{ManyHops, best_hops};
 use std::alloc::{AllocGlobal, Global};
 use std::thread::Threads;
 use topology_file::NetFile;
@@ -119,18 +120,18 @@ fn best_hops_on<R: AllocGlobal + Threads + Sync>(
     best_first_is_optimal();
     let tables = tables_of(rt, net, ONE_WORKER)?;
     let room = net.node_count().saturating_mul(net.dest_count());
-    hops_of(rt.alloc(), net, tables.as_slice(), room)
+    hops_of(rt.alloc(), net, tables, room)
 }
 
 // The next hops of the tables, by code over rows that are as narrow as the algebra allows.
 fn hops_of(
     alloc: Global,
     net: &Net,
-    tables: &[DestTable],
+    tables: List<DestTable>,
     room: usize,
 ) -> Result<List<ManyHops>, NoMemory>
-    requires { AreTablesOf net.now tables.now }
-    ensures { IfOk result (λ many. map pure_hops many ≡ all_hops net.now 0 (map rows_of tables.now)) }
+    requires { AreTablesOf net.now tables }
+    ensures { IfOk result (λ many. map pure_hops many ≡ all_hops net.now 0 (map rows_of tables)) }
 {
     rows_have_their_width();
     match row_width(net.alg()) {
@@ -142,32 +143,25 @@ fn hops_of(
     }
 }
 
-// The same over rows of this kind, one table after another, in a list that has room for so many at once.
+// The same over rows of this kind, in a list that has room for so many at once. A table is dropped before the next one is
+// looked at.
 fn hops_over<W: HeldRow>(
     alloc: Global,
     net: &Net,
-    tables: &[DestTable],
+    tables: List<DestTable>,
     room: usize,
 ) -> Result<List<ManyHops>, NoMemory>
     requires rows { HoldValues W.can_hold (carrier_of net.now.alg.expression) }
-    requires tables { AreTablesOf net.now tables.now }
-    ensures { IfOk result (λ many. map pure_hops many ≡ all_hops net.now 0 (map rows_of tables.now)) }
+    requires tables { AreTablesOf net.now tables }
+    ensures { IfOk result (λ many. map pure_hops many ≡ all_hops net.now 0 (map rows_of tables)) }
 {
     let algebra = CodeAlgebra::<W>::new(alloc, net.alg())?;
-    let labels = out_labels(alloc, &algebra, net)?;
+    let forms = label_forms(alloc, &algebra, net)?;
+    let labels = speaker_labels(alloc, &algebra, net, &forms)?;
     let mut many = Vec::with_capacity(alloc, room)?;
-    for table in tables {
-        append_hops(&mut many, best_hops(alloc, &algebra, net, &labels, table)?)?;
+    for table in tables.into_vec() {
+        let more = best_hops(alloc, &algebra, net, &labels, &table)?;
+        many.append(&mut more.into_vec())?;
     }
     Ok(List::from_vec(many))
-}
-
-// Moves these after those that are there.
-fn append_hops(many: &mut Vec<ManyHops>, more: List<ManyHops>) -> Result<(), NoMemory>
-    ensures { OnOk result (many.new.items ≡ many.old.items ++ more) }
-{
-    for hops in more.into_vec() {
-        many.push(hops)?;
-    }
-    Ok(())
 }

@@ -1,5 +1,5 @@
 // What `route`, `settle` and `stable` decide.
-ghost use Rattle.std.specs.Prelude.{◌≡◌, ◌++◌, IfOk, OnOk, map};
+ghost use Rattle.std.specs.Prelude.{◌≡◌, IfOk, map};
 ghost use Rattle.std.specs.List.{AllByRecursion};
 ghost use Rattle.alg_model.specs.Carriers.{carrier_of};
 ghost use Rattle.code_gen.specs.Widths.{HoldValues};
@@ -216,17 +216,7 @@ fn joined(alloc: Global, tables: List<DestTable>, room: usize) -> Result<List<Ro
 {
     let mut rows = Vec::with_capacity(alloc, room)?;
     for table in tables.into_vec() {
-        append_rows(&mut rows, table)?;
+        rows.append(&mut table.rows.into_vec())?;
     }
     Ok(List::from_vec(rows))
-}
-
-// Moves the rows of a table after these.
-fn append_rows(rows: &mut Vec<RouteRow>, table: DestTable) -> Result<(), NoMemory>
-    ensures { OnOk result (rows.new.items ≡ rows.old.items ++ table.rows) }
-{
-    for row in table.rows.into_vec() {
-        rows.push(row)?;
-    }
-    Ok(())
 }

@@ -42,7 +42,7 @@ use net_graph::{Net, RouteRow};
 use property_infer::Verdicts;
 use report_check::ManyHops;
 use report_text::{
-    code_lines, hops_line, judgement_lines, misses_line, push_row_line, refusal_line,
+    code_lines, judgement_lines, misses_line, push_hops_line, push_row_line, refusal_line,
     required_line, verdict_line,
 };
 use std::alloc::Global;
@@ -117,8 +117,10 @@ fn put_hops<K: Sink>(alloc: Global, out: &mut K, net: &Net, many: &[ManyHops]) -
     requires { AllByRecursion (CanPrintHops net.now) (map pure_hops many.now) }
     ensures { PutsText (K.holds out.old) (many_text net.now (map pure_hops many.now)) result (K.holds out.new) }
 {
+    let mut room = room_for_lines(alloc)?;
     for hops in many {
-        put_line(out, hops_line(alloc, net, hops))?;
+        push_hops_line(&mut room, net, hops)?;
+        put_room(out, &mut room)?;
     }
     Ok(())
 }

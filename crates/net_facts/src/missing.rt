@@ -24,8 +24,8 @@ pub struct Missing {
 /// The first arc in file order whose label doesn't have one of the properties, with an instance of the earliest listed
 /// one that it doesn't have; or `None`, exactly where the network has all of them. No number of the instance's label is
 /// above the greatest of the algebra's edition, and none of its values above
-/// [`alg_model::MAX_INSTANCE_NUMBER`]. Memory is taken for the instance alone, so a network that has all of the
-/// properties is never refused.
+/// [`alg_model::MAX_INSTANCE_NUMBER`]. Memory is taken for the instance, and for marks, whose want refuses nothing; so a
+/// network that has all of the properties is never refused.
 pub fn first_missing(
     alloc: Global,
     net: &Net,

@@ -1,20 +1,23 @@
 -- The parts of a configuration, as a machine.
-use Rattle.std.proofs.Common.{◌≡◌, ℕ, zero, suc, ◌+◌, ◌<◌, ◌≤◌, max, List, [], ◌∷◌, ◌++◌, Bool, true, false, Option, Some, None, All, slice_index, slice_set, length, map, cond, filter, slice_get, option_map, subst, refl, sym, ap, ◌∙◌, arith, append_assoc, ltb, replicate}
+use Rattle.std.proofs.Common.{◌≡◌, ℕ, zero, suc, ◌+◌, ◌<◌, ◌≤◌, max, List, [], ◌∷◌, ◌++◌, Bool, true, false, Option, Some, None, All, get_or, slice_index, slice_set, length, map, cond, filter, slice_get, option_map, subst, refl, sym, ap, ◌∙◌, arith, append_assoc, ltb, replicate}
 use mathlib.Core.Path.{fun_ext}
 use Rattle.std.specs.Prelude.{◌==◌}
+use Rattle.std.specs.Coded.{le_prop}
+use Rattle.std.proofs.Math.Logic.{∥∥₁_elim, ∥∥₁_map}
 use Rattle.std.specs.List.{AllByRecursion}
 use Rattle.std.specs.declared.collections.VecDeque.{VecDeque}
 use Rattle.std.specs.declared.alloc.Global.{Global}
 use Rattle.std.proofs.lemmas.Bool.{eqb-true, eqb-false}
 use Rattle.std.proofs.lemmas.List.{length-map, map-append, get_or-replicate, get_or_past, length-replicate}
 use Rattle.std.proofs.lemmas.Bool.Decides.{nat_tests}
-use Rattle.std.proofs.lemmas.Option.{same_Some, slice_get-map, slice_get_within, get_or_from_slice_get}
+use Rattle.std.proofs.lemmas.Option.{same_Some, slice_get-map, slice_get_read, slice_get_within, get_or_from_slice_get}
 use Rattle.meta_base.specs.declared.ids.ArcId.{ArcId}
 use Rattle.net_graph.specs.Nets.{PureArc, PureNet, IsNet, AreNumbered, arcs_to}
 use Rattle.node_core.specs.Kinds.{Kind, IsLawful, listener, speaker, on_arc}
 use Rattle.node_core.specs.Machine.{Machine, changed_at, AreUnbegun, begun_messages, Start, clock_after, step_of, stepped, Deliver, front_clock}
 use Rattle.node_core.specs.MachineLaws.{same_test, at_each, all_mapped, on_arc_join, on_arc_none, option_from, speaks_within, front_is}
-use Rattle.node_core.specs.Running.{IsRunning}
+use Rattle.node_core.specs.OrderLaws.{deliver_within, front_up_to}
+use Rattle.node_core.specs.Running.{AreUpTo, IsRunning}
 use Rattle.node_core.specs.Configs.{numbered, noted, waits_on, waits_in, machine_over}
 use Rattle.node_core.specs.Stepping.{CanTake, HasStepped}
 
@@ -247,6 +250,21 @@ can_take k net c a i bound run listens within waits early =
       listens = rw (node.net_is, node.number_is) listens;
       early = early (clock_after k c i front.0) (front_is k net c a (clock_after k c i front.0) (record { number = i; message = front.0; rest = front.1; listens = listens; front = front.2; clock_is = refl }));
     }
+
+-- the oldest message in a queue is the first that waits on its arc
+pub first_waits : {M W : Type 0} (note : M → W) (links : List (VecDeque M Global)) (a : ℕ) (q : VecDeque M Global) (m : M) → a < length links → q ≡ get_or links a q
+    → 0 < length q.items → m ≡ get_or q.items 0 m → slice_get (map note (waits_on links a)) 0 ≡ Some (note m)
+first_waits note links a q m within at some front =
+    rw (slice_get_read links (length links) a q refl within at) (slice_get-map note q.items 0 ∙ ap (option_map note) (slice_get_read q.items (length q.items) 0 m refl some front))
+
+module _ {S M : Type 0} (k : Kind S M) (lawful : IsLawful k) (net : PureNet) where
+  -- the clock that the message in front gives is at most one above what all are up to
+  pub front_within : (c : Machine S M) (a i n : ℕ) (m : M) → ∥ AreUpTo k c n ∥₁ → listener net a ≡ Some i → slice_get (c.link a) 0 ≡ Some m → clock_after k c i m ≤ n + 1
+  front_within c a i n m up listens front = ∥∥₁_elim up le_prop (λ u. front_up_to k lawful net c a (clock_after k c i m) n u (rw (listens, front) refl))
+
+  -- a delivery at a clock that isn't above the bound keeps it, also from a machine that is the same
+  pub stays_up_to : (c b d : Machine S M) (a n : ℕ) → b ≡ c → ∥ AreUpTo k c n ∥₁ → ((t : ℕ) → front_clock k net c a ≡ Some t → t ≤ n) → Deliver k net b a ≡ Some d → ∥ AreUpTo k d n ∥₁
+  stays_up_to c b d a n same up early made = ∥∥₁_map up (λ u. deliver_within k lawful net c d a n u early (subst (λ m. Deliver k net m a ≡ Some d) same made))
 
 -- a machine over links on which the same waits
 pub same_links : {N M S W : Type 0} (state : N → S) (note : M → W) (nodes : List N) (clocks : List ℕ) (old new : List (VecDeque M Global)) → ((b : ℕ) → waits_on new b ≡ waits_on old b) → machine_over state note nodes clocks new ≡ machine_over state note nodes clocks old

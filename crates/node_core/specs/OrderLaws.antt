@@ -37,12 +37,31 @@ module _ {S M : Type 0} (k : Kind S M) (lawful : IsLawful k) where
         stamps = λ a. on_arc_all (λ m. k.stamp m ≤ 0) a (begun_messages k nodes) (begun_stamps k lawful nodes);
       }
 
-  stepped_up_to : (c : Machine S M) (n a i : ℕ) (s : S) (m : M) (rest : List M) → AreUpTo k c n → c.link a ≡ m ∷ rest → AreUpTo k (stepped k c a i s m rest) (n + 1)
-  stepped_up_to c n a i s m rest up front =
+  -- the next delivery gives at most one more
+  pub front_up_to : (net : PureNet) (c : Machine S M) (a t n : ℕ) → AreUpTo k c n → front_clock k net c a ≡ Some t → t ≤ n + 1
+  front_up_to net c a t n up e =
+      let f = front_of k net c a t e in
+      let waits = subst (AllByRecursion (λ x. k.stamp x ≤ n)) f.front (up.stamps a) in
+      let stamp = waits.0 in
+      let clock = up.clocks f.number in
+      let is = f.clock_is in
+      omega (arith, stamp, clock, is)
+
+  -- what is up to a number is up to a greater one
+  pub more_up_to : (c : Machine S M) (m n : ℕ) → m ≤ n → AreUpTo k c m → AreUpTo k c n
+  more_up_to c m n below up =
       record {
-        clocks = at_each (λ j. changed_at c.clock i t j ≤ n + 1) i (rw (same_test i) early) (λ j ne. rw ne (let old = up.clocks j in omega (arith, old)));
-        stamps = λ b. all_join (λ x. k.stamp x ≤ n + 1) (changed_at c.link a rest b) (on_arc b sends.1) (kept b)
-            (on_arc_all (λ x. k.stamp x ≤ n + 1) b sends.1 (all_mapped (λ p. k.stamp p.1 ≡ t) (λ p. k.stamp p.1 ≤ n + 1) (λ p e. omega (arith, e, early)) sends.1 (lawful.step_sends s a m t).stamped));
+        clocks = λ i. let clock = up.clocks i in omega (arith, clock, below);
+        stamps = λ a. all_mapped (λ x. k.stamp x ≤ m) (λ x. k.stamp x ≤ n) (λ x h. omega (arith, h, below)) (c.link a) (up.stamps a);
+      }
+
+  -- a delivery at a clock that isn't above the bound keeps it
+  stepped_within : (c : Machine S M) (n a i : ℕ) (s : S) (m : M) (rest : List M) → AreUpTo k c n → c.link a ≡ m ∷ rest → clock_after k c i m ≤ n → AreUpTo k (stepped k c a i s m rest) n
+  stepped_within c n a i s m rest up front early =
+      record {
+        clocks = at_each (λ j. changed_at c.clock i t j ≤ n) i (rw (same_test i) early) (λ j ne. rw ne (up.clocks j));
+        stamps = λ b. all_join (λ x. k.stamp x ≤ n) (changed_at c.link a rest b) (on_arc b sends.1) (kept b)
+            (on_arc_all (λ x. k.stamp x ≤ n) b sends.1 (all_mapped (λ p. k.stamp p.1 ≡ t) (λ p. k.stamp p.1 ≤ n) (λ p e. omega (arith, e, early)) sends.1 (lawful.step_sends s a m t).stamped));
       }
     where
       t : ℕ
@@ -54,19 +73,18 @@ module _ {S M : Type 0} (k : Kind S M) (lawful : IsLawful k) where
       waits : AllByRecursion (λ x. k.stamp x ≤ n) (m ∷ rest)
       waits = subst (AllByRecursion (λ x. k.stamp x ≤ n)) front (up.stamps a)
 
-      early : t ≤ n + 1
-      early = let clock = up.clocks i in let stamp = waits.0 in omega (arith, clock, stamp)
+      kept : (b : ℕ) → AllByRecursion (λ x. k.stamp x ≤ n) (changed_at c.link a rest b)
+      kept = at_each (λ b. AllByRecursion (λ x. k.stamp x ≤ n) (changed_at c.link a rest b)) a (rw (same_test a) waits.1) (λ b ne. rw ne (up.stamps b))
 
-      more : (l : List M) → AllByRecursion (λ x. k.stamp x ≤ n) l → AllByRecursion (λ x. k.stamp x ≤ n + 1) l
-      more l all = all_mapped (λ x. k.stamp x ≤ n) (λ x. k.stamp x ≤ n + 1) (λ x h. omega (arith, h)) l all
-
-      kept : (b : ℕ) → AllByRecursion (λ x. k.stamp x ≤ n + 1) (changed_at c.link a rest b)
-      kept = at_each (λ b. AllByRecursion (λ x. k.stamp x ≤ n + 1) (changed_at c.link a rest b)) a (rw (same_test a) (more rest waits.1)) (λ b ne. rw ne (more (c.link b) (up.stamps b)))
+  pub deliver_within : (net : PureNet) (c d : Machine S M) (a n : ℕ) → AreUpTo k c n → ((t : ℕ) → front_clock k net c a ≡ Some t → t ≤ n) → Deliver k net c a ≡ Some d → AreUpTo k d n
+  deliver_within net c d a n up early e =
+      let w = delivery_of k net c a d e in
+      let t = clock_after k c w.number w.message in
+      let front = front_is k net c a t (record { number = w.number; message = w.message; rest = w.rest; listens = w.listens; front = w.front; clock_is = refl }) in
+      subst (λ x. AreUpTo k x n) (sym w.makes) (stepped_within c n a w.number w.node w.message w.rest up w.front (early t front))
 
   pub deliver_up_to : (net : PureNet) (c d : Machine S M) (a n : ℕ) → AreUpTo k c n → Deliver k net c a ≡ Some d → AreUpTo k d (n + 1)
-  deliver_up_to net c d a n up e =
-      let w = delivery_of k net c a d e in
-      subst (λ x. AreUpTo k x (n + 1)) (sym w.makes) (stepped_up_to c n a w.number w.node w.message w.rest up w.front)
+  deliver_up_to net c d a n up e = deliver_within net c d a (n + 1) (more_up_to c n (n + 1) (omega arith) up) (λ t front. front_up_to net c a t n up front) e
 
   -- after so many deliveries
   pub replay_up_to : (net : PureNet) (journal : List Delivery) (c d : Machine S M) (n : ℕ) → AreUpTo k c n → replay_from k net c journal ≡ Some d → AreUpTo k d (n + length journal)
@@ -78,16 +96,6 @@ module _ {S M : Type 0} (k : Kind S M) (lawful : IsLawful k) where
 
   pub journal_up_to : (net : PureNet) (nodes : List S) (journal : List Delivery) (c : Machine S M) → Replay k net nodes journal ≡ Some c → AreUpTo k c (length journal)
   journal_up_to net nodes journal c e = subst (AreUpTo k c) (omega arith) (replay_up_to net journal (Start k nodes) c 0 (start_up_to nodes) e)
-
-  -- and the next delivery gives at most one more
-  pub front_up_to : (net : PureNet) (c : Machine S M) (a t n : ℕ) → AreUpTo k c n → front_clock k net c a ≡ Some t → t ≤ n + 1
-  front_up_to net c a t n up e =
-      let f = front_of k net c a t e in
-      let waits = subst (AllByRecursion (λ x. k.stamp x ≤ n)) f.front (up.stamps a) in
-      let stamp = waits.0 in
-      let clock = up.clocks f.number in
-      let is = f.clock_is in
-      omega (arith, stamp, clock, is)
 
   -- after the least delivery come all that the machine can make next
   module _ (net : PureNet) (c : Machine S M) (e : Delivery) (least : IsLeast k net c e) (w : IsFront k net c e.arc.0 e.clock) (s : S) where

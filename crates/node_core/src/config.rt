@@ -1,5 +1,8 @@
 ghost use Rattle.std.specs.Prelude.{◌≡◌, ℕ, ◌<◌, ◌≤◌, [], length, map, vec_len, Some, Ok, OnErr, IfOk, slice_get, option_map};
 ghost use Rattle.net_graph.specs.Nets.{IsNet};
+ghost use Rattle.node_core.specs.declared.node.TheConstants.{MAX_CLOCK};
+ghost use Rattle.node_core.specs.Configs.{machine_over};
+ghost use Rattle.node_core.specs.Running.{AreUpTo};
 
 use crate::links::{empty_links, make_room, send_all};
 use crate::stepping::{begin_all, step_on};
@@ -28,6 +31,8 @@ pub struct Config<'a, N: NodeCore> {
     ghost node_count: { vec_len nodes ≡ length net.now.nodes },
     ghost clock_count: { vec_len clocks ≡ length net.now.nodes },
     ghost link_count: { vec_len links ≡ length net.now.arcs },
+    // No clock and no stamp is above the greatest clock, so the next clock is a number.
+    ghost early: { ∥ AreUpTo N.kind (machine_over N.state N.note nodes.items clocks.items links.items) MAX_CLOCK ∥₁ },
 }
 
 impl<'a, N: NodeCore> Config<'a, N> {
@@ -101,11 +106,10 @@ impl<'a, N: NodeCore> Config<'a, N> {
         self.links[arc.0 as usize].len()
     }
 
-    /// The clock that a delivery on the arc gives its listener, if a message waits there.
+    /// The clock that a delivery on the arc gives its listener, if a message waits there. It may be one above
+    /// [`MAX_CLOCK`], and then the delivery can't be made.
     pub fn front_clock(&self, arc: ArcId) -> Option<u64>
-        requires arc { arc.0 < length (net_of self.now).arcs }
-        requires early { let machine = machine_of N.state N.note self.now in
-            (t : ℕ) → front_clock N.kind (net_of self.now) machine arc.0 ≡ Some t → t ≤ MAX_CLOCK }
+        requires { arc.0 < length (net_of self.now).arcs }
         ensures { result ≡ front_clock N.kind (net_of self.now) (machine_of N.state N.note self.now) arc.0 }
     {
         let message = self.links[arc.0 as usize].front()?;

@@ -1,11 +1,12 @@
 // Tests of `report_check`: which reports are read, what the tables that they mean are judged to be, and which next hops
 // are equally good.
 use alg_model::TreeAlgebra;
+use arc_labels::{label_forms, speaker_labels};
 use meta_base::{DestId, NodeId};
 use net_graph::Net;
 use report_check::{
     MAX_REPORT_BYTES, ManyHops, OptimalFinding, ReportError, StableFinding, best_hops, judge,
-    out_labels, read_report,
+    read_report,
 };
 use stable_check::is_table_of;
 use std::alloc::Global;
@@ -310,7 +311,8 @@ fn has_hops(alloc: Global, net: &Net, rows: &str, hops: &str) -> Result<bool, Fa
         return Err("no table".into());
     }
     let algebra = TreeAlgebra::new(net.alg());
-    let labels = out_labels(alloc, &algebra, net)?;
+    let forms = label_forms(alloc, &algebra, net)?;
+    let labels = speaker_labels(alloc, &algebra, net, &forms)?;
     let many = best_hops(alloc, &algebra, net, &labels, &table)?;
     let mut place = 0;
     for text in hops.split(" / ") {

@@ -1,5 +1,5 @@
 -- Labels and values in an algebra's own form, in lists that grow by one at the end.
-use Rattle.std.proofs.Common.{◌≡◌, ℕ, ◌<◌, ◌≤◌, zero, suc, List, [], ◌∷◌, ◌++◌, Option, Some, None, IfSome, option_map, option_and_then, length, map, get_or, ◌⊎◌, inl, inr, refl, sym, ap, ◌∙◌, lit≤, slice_get, arith}
+use Rattle.std.proofs.Common.{◌≡◌, ℕ, ◌<◌, ◌≤◌, List, Option, Some, None, IfSome, option_map, option_and_then, length, map, get_or, inl, inr, refl, sym, ap, ◌∙◌, lit≤, slice_get, arith}
 use Rattle.std.proofs.lemmas.List.{length-map}
 use Rattle.std.proofs.lemmas.Option.{slice_get-map, slice_get_cases, slice_get_past, slice_get_read, slice_get_within}
 use Rattle.alg_model.specs.Application.{App}
@@ -17,38 +17,19 @@ use Rattle.net_graph.specs.declared.route.RouteRow.{RouteRow}
 use Rattle.net_graph.specs.declared.route.TheConstants.{MAX_ROW_NUMBER}
 use Rattle.stable_check.specs.ArcSearch.{out_arc}
 use Rattle.stable_check.specs.Checks.{own_at}
-use Rattle.report_check.specs.declared.labels.Hop.{Hop}
-use Rattle.report_check.specs.Compiled.{AreHops, AreSigs, IsHopFrom}
-
--- what stands in a list with one more
-pushed : {X : Type 0} (xs : List X) (x y : X) (k : ℕ) → slice_get (xs ++ x ∷ []) k ≡ Some y → (slice_get xs k ≡ Some y) ⊎ ((k ≡ length xs) × (x ≡ y))
-pushed [] x y zero e = inr (refl, cc)
-pushed [] x y (suc k) e = absurd (cc)
-pushed (z ∷ xs) x y zero e = inl e
-pushed (z ∷ xs) x y (suc k) e = elim (pushed xs x y k e) [ inl f ↦ inl f | inr f ↦ inr (ap suc f.0, f.1) ]
-
--- what holds at each place, with one more
-pub each_more : {X : Type 0} (P : ℕ → X → Type 0) (xs : List X) (x : X) → P (length xs) x → ((k : ℕ) (y : X) → slice_get xs k ≡ Some y → P k y) → (k : ℕ) (y : X) → slice_get (xs ++ x ∷ []) k ≡ Some y → P k y
-each_more P xs x holds each k y e = elim (pushed xs x y k e) [
-  | inl f ↦ each k y f
-  | inr f ↦ rw (f.0, ← f.1) holds
-]
-
--- what holds of the one thing that is there
-pub the_one : {X : Type 0} (P : X → Type 0) (o : Option X) (x : X) → o ≡ Some x → P x → (y : X) → o ≡ Some y → P y
-the_one P o x e holds y f =
-    let same : x ≡ y = cc in
-    rw same at holds
+use Rattle.arc_labels.specs.declared.neighbours.Neighbour.{Neighbour}
+use Rattle.arc_labels.specs.Neighbours.{AreNeighbours, head_of}
+use Rattle.report_check.specs.Compiled.{AreSigs, IsHopFrom}
 
 -- a hop of a node, by its place
-pub record IsHopAt {L : Type 0} (stands_for : L → PureLabel → Type 0) (net : PureNet) (i m : ℕ) (hop : Hop L) : Type 0 where
+pub record IsHopAt {L : Type 0} (stands_for : L → PureLabel → Type 0) (net : PureNet) (i m : ℕ) (hop : Neighbour L) : Type 0 where
   pub arc : PureArc
   pub there : slice_get (arcs_from net i) m ≡ Some arc
   pub tail : arc.tail ≡ i
-  pub head : hop.head.0 ≡ arc.head
+  pub head : hop.node.0 ≡ arc.head
   pub from : IsHopFrom stands_for net i hop
 
-pub hop_at : {L : Type 0} (stands_for : L → PureLabel → Type 0) (net : PureNet) → IsNet net → (i m : ℕ) (hops : List (Hop L)) (hop : Hop L) → AreHops stands_for (arcs_from net i) hops → slice_get hops m ≡ Some hop → IsHopAt stands_for net i m hop
+pub hop_at : {L : Type 0} (stands_for : L → PureLabel → Type 0) (net : PureNet) → IsNet net → (i m : ℕ) (hops : List (Neighbour L)) (hop : Neighbour L) → AreNeighbours stands_for head_of (arcs_from net i) hops → slice_get hops m ≡ Some hop → IsHopAt stands_for net i m hop
 hop_at {L} stands_for net n i m hops hop are at = elim (slice_get_cases (arcs_from net i) m).1 [
   | inl f ↦ found f.0 f.2
   | inr f ↦ absurd (omega (arith, within, f.0))
@@ -61,8 +42,8 @@ hop_at {L} stands_for net n i m hops hop are at = elim (slice_get_cases (arcs_fr
     found a e =
         let is = are.each m hop at a e in
         let out = out_arc net n i m a e in
-        let between : label_between net i hop.head.0 ≡ Some a.label = rw (is.head, ← out.tail) out.label in
-        record { arc = a; there = e; tail = out.tail; head = is.head; from = record { arc_label = a.label; between = between; stands = is.label } }
+        let between : label_between net i hop.node.0 ≡ Some a.label = rw (is.node, ← out.tail) out.label in
+        record { arc = a; there = e; tail = out.tail; head = is.node; from = record { arc_label = a.label; between = between; stands = is.label } }
 
 -- past its end a list has nothing, and only there
 slice_get_beyond : {X : Type 0} (xs : List X) (k : ℕ) → slice_get xs k ≡ None → length xs ≤ k

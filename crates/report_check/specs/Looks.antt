@@ -1,17 +1,12 @@
 -- What a look at a table shows.
-use Rattle.std.specs.Prelude.{◌≡◌, ℕ, List, [], ◌∷◌, Bool, true, false, Option, Some, None, IsSomeAnd, option_map, option_and_then, if◌then◌else◌}
+use Rattle.std.specs.Prelude.{◌≡◌, ℕ, List, [], ◌∷◌, true, false, Option, Some, None, IsSomeAnd, option_map, if◌then◌else◌}
 use Rattle.std.specs.declared.cmp.Ordering.TheVariants.{Equal}
-use Rattle.alg_model.specs.Actions.{held}
 use Rattle.alg_model.specs.Carriers.{IsPreferred, Order}
 use Rattle.alg_model.specs.Expressions.{PureCarrier, PureValue}
 use Rattle.net_graph.specs.Routes.{PureRoute}
 use Rattle.net_graph.specs.Tables.{is_among}
 use Rattle.stable_check.specs.Checks.{Makes, Outdoes}
 use Rattle.report_check.specs.declared.look.Shown.{Shown}
-
--- what stands in a place, where the call that may have put it there says so
-abbrev pub made_in : {X : Type 0} → Bool → Option X → Option X
-made_in placed o = option_and_then (held placed) o
 
 -- the nodes after the node itself, of an offer by its own origin, and of one by an arc to a node with this route
 abbrev pub path_after : Option PureRoute → List ℕ

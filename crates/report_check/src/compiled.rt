@@ -5,11 +5,12 @@ ghost use Rattle.alg_model.specs.Views.{pure_value};
 ghost use Rattle.net_graph.specs.Nets.{IsNet, origin_value};
 ghost use Rattle.net_graph.specs.Tables.{TableOf, value_at};
 ghost use Rattle.net_graph.specs.Views.{pure_row, rows_of};
-ghost use Rattle.report_check.specs.Compiled.{AreOutLabels, AreSigs, IsCompiled};
+ghost use Rattle.arc_labels.specs.Neighbours.{AreSpeakerLabels};
+ghost use Rattle.report_check.specs.Compiled.{AreSigs, IsCompiled};
 ghost use Rattle.stable_check.specs.Checks.{own_at};
 
-use crate::OutLabels;
 use alg_model::{Algebra, Value};
+use arc_labels::NeighbourLabels;
 use meta_base::{DestId, NoMemory, NodeId};
 use net_graph::{DestTable, Net, RouteRow};
 use stable_check::OwnValues;
@@ -21,7 +22,7 @@ use std::alloc::Global;
 pub(crate) struct Compiled<'a, A: Algebra> {
     pub algebra: &'a A,
     pub net: &'a Net,
-    pub labels: &'a OutLabels<A::Lab>,
+    pub labels: &'a NeighbourLabels<'a, A::Lab>,
     pub table: &'a DestTable,
     pub rows: Vec<Option<A::Sig>>,
     pub own: Vec<Option<A::Sig>>,
@@ -33,11 +34,11 @@ impl<'a, A: Algebra> Compiled<'a, A> {
         alloc: Global,
         algebra: &'a A,
         net: &'a Net,
-        labels: &'a OutLabels<A::Lab>,
+        labels: &'a NeighbourLabels<'a, A::Lab>,
         table: &'a DestTable,
     ) -> Result<Compiled<'a, A>, NoMemory>
         requires algebra { A.expression algebra.now ≡ net.now.alg.expression }
-        requires labels { AreOutLabels (A.stands_for algebra.now) net.now labels.now }
+        requires labels { AreSpeakerLabels (A.stands_for algebra.now) net.now labels.now }
         requires dest { table.now.dest.0 < length net.now.dests }
         requires table { TableOf net.now table.now.dest.0 (rows_of table.now) }
         ensures algebra { IfOk result (λ made. made.algebra.now ≡ algebra.now) }

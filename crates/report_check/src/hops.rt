@@ -5,15 +5,15 @@ ghost use Rattle.meta_base.specs.NodePaths.{numbers};
 ghost use Rattle.net_graph.specs.Tables.{TableOf, carrier, value_at};
 ghost use Rattle.net_graph.specs.Views.{pure_route, rows_of};
 ghost use Rattle.net_graph.specs.Walks.{along};
-ghost use Rattle.report_check.specs.Compiled.{AreOutLabels, IsCompiled, IsHopFrom};
+ghost use Rattle.arc_labels.specs.Neighbours.{AreSpeakerLabels};
+ghost use Rattle.report_check.specs.Compiled.{IsCompiled, IsHopFrom};
 ghost use Rattle.report_check.specs.Hops.{are_equivalent, heads_at, hops_at, hops_of};
 ghost use Rattle.report_check.specs.Views.{pure_hops};
 
-use crate::OutLabels;
 use crate::compiled::{Compiled, sig_at};
-use crate::labels::Hop;
 use crate::look::image_along;
 use alg_model::{Algebra, Value};
+use arc_labels::{Neighbour, NeighbourLabels};
 use meta_base::{DestId, List, NoMemory, NodeId};
 use net_graph::{DestTable, Net, Route};
 use stable_check::route_at;
@@ -41,11 +41,11 @@ pub fn best_hops<A: Algebra>(
     alloc: Global,
     algebra: &A,
     net: &Net,
-    labels: &OutLabels<A::Lab>,
+    labels: &NeighbourLabels<'_, A::Lab>,
     table: &DestTable,
 ) -> Result<List<ManyHops>, NoMemory>
     requires algebra { A.expression algebra.now ≡ net.now.alg.expression }
-    requires labels { AreOutLabels (A.stands_for algebra.now) net.now labels.now }
+    requires labels { AreSpeakerLabels (A.stands_for algebra.now) net.now labels.now }
     requires dest { table.now.dest.0 < length net.now.dests }
     requires table { TableOf net.now table.now.dest.0 (rows_of table.now) }
     ensures { IfOk result (λ many. map pure_hops many ≡ hops_of net.now table.now.dest.0 (rows_of table.now)) }
@@ -124,13 +124,14 @@ fn heads_at<A: Algebra>(
     ensures { IfOk result (λ heads. numbers heads ≡
         heads_at form.now.net.now (rows_of form.now.table.now) node.0) }
 {
-    let mut heads = List::new(alloc);
-    for hop in form.labels.hops(node) {
+    let hops = form.labels.of(node);
+    let mut heads = Vec::with_capacity(alloc, hops.len())?;
+    for hop in hops {
         if is_hop(alloc, form, node, hop, spare)? {
-            heads.push(hop.head)?;
+            heads.push(hop.node)?;
         }
     }
-    Ok(heads)
+    Ok(List::from_vec(heads))
 }
 
 // Whether what the arc to the hop makes of its head's row is as good as the node's row.
@@ -138,7 +139,7 @@ fn is_hop<A: Algebra>(
     alloc: Global,
     form: &Compiled<'_, A>,
     node: NodeId,
-    hop: &Hop<A::Lab>,
+    hop: &Neighbour<'_, A::Lab>,
     spare: &mut Option<A::Sig>,
 ) -> Result<bool, NoMemory>
     requires algebra { A.expression form.now.algebra.now ≡ form.now.net.now.alg.expression }
@@ -147,7 +148,7 @@ fn is_hop<A: Algebra>(
         form.now.labels.now form.now.rows.items form.now.own.items }
     requires hop { IsHopFrom (A.stands_for form.now.algebra.now) form.now.net.now node.0 hop.now }
     ensures { IfOk result (λ r. r ≡ are_equivalent (carrier form.now.net.now) (along form.now.net.now node.0
-        hop.now.head.0 (value_at (rows_of form.now.table.now) hop.now.head.0))
+        hop.now.node.0 (value_at (rows_of form.now.table.now) hop.now.node.0))
         (value_at (rows_of form.now.table.now) node.0)) }
 {
     if !image_along(alloc, form, hop, spare)? {

@@ -3,7 +3,7 @@ ghost use Rattle.meta_base.specs.NodePaths.{numbers};
 ghost use Rattle.net_graph.specs.Nets.{IsNet};
 ghost use Rattle.net_graph.specs.Tables.{OnTablesFrom, PureRow, Relaxed, TableOf};
 ghost use Rattle.net_graph.specs.Views.{pure_route, rows_of};
-ghost use Rattle.report_check.specs.Compiled.{AreOutLabels};
+ghost use Rattle.arc_labels.specs.Neighbours.{AreSpeakerLabels};
 ghost use Rattle.report_check.specs.Findings.{OptimalBefore, OptimalUpTo, StableBefore, StableUpTo, beaten_or_not, is_stable, is_unbeaten, unstable_or_not};
 ghost use Rattle.report_check.specs.Judged.{Judged, JudgedOptimal, stable, table_at, unbeaten};
 ghost use Rattle.report_check.specs.Views.{AreOfDests, pure_judgement, pure_optimal, pure_stable};
@@ -13,9 +13,10 @@ use crate::compiled::Compiled;
 use crate::found::{OfferFindings, Wanted};
 use crate::look::cleared;
 use crate::rows::judge_row;
-use crate::{Judgement, OptimalFinding, OutLabels, StableFinding, out_labels};
+use crate::{Judgement, OptimalFinding, StableFinding};
 use alg_classes::Property;
 use alg_model::Algebra;
+use arc_labels::{NeighbourLabels, label_forms, speaker_labels};
 use meta_base::{DestId, List, NoMemory, NodeId};
 use net_facts::first_missing;
 use net_graph::{DestTable, Net};
@@ -41,7 +42,8 @@ pub fn judge<A: Algebra>(
     requires count { length tables.now ≡ length net.now.dests }
     ensures { IfOk result (λ judgement. Judged net.now (map rows_of tables.now) (pure_judgement judgement)) }
 {
-    let labels = out_labels(alloc, algebra, net)?;
+    let forms = label_forms(alloc, algebra, net)?;
+    let labels = speaker_labels(alloc, algebra, net, &forms)?;
     let mut found = Judgement {
         optimal: OptimalFinding::Yes,
         stable: StableFinding::Yes,
@@ -77,12 +79,12 @@ fn judge_more<A: Algebra>(
     alloc: Global,
     algebra: &A,
     net: &Net,
-    labels: &OutLabels<A::Lab>,
+    labels: &NeighbourLabels<'_, A::Lab>,
     table: &DestTable,
     before: Judgement,
 ) -> Result<Judgement, NoMemory>
     requires algebra { A.expression algebra.now ≡ net.now.alg.expression }
-    requires labels { AreOutLabels (A.stands_for algebra.now) net.now labels.now }
+    requires labels { AreSpeakerLabels (A.stands_for algebra.now) net.now labels.now }
     requires dest { table.now.dest.0 < length net.now.dests }
     requires table { TableOf net.now table.now.dest.0 (rows_of table.now) }
     ensures optimal { (tables : List (List PureRow)) → table_at tables table.now.dest.0 ≡ rows_of table.now →
@@ -111,12 +113,12 @@ fn judge_table<A: Algebra>(
     alloc: Global,
     algebra: &A,
     net: &Net,
-    labels: &OutLabels<A::Lab>,
+    labels: &NeighbourLabels<'_, A::Lab>,
     table: &DestTable,
     wanted: Wanted,
 ) -> Result<Judgement, NoMemory>
     requires algebra { A.expression algebra.now ≡ net.now.alg.expression }
-    requires labels { AreOutLabels (A.stands_for algebra.now) net.now labels.now }
+    requires labels { AreSpeakerLabels (A.stands_for algebra.now) net.now labels.now }
     requires dest { table.now.dest.0 < length net.now.dests }
     requires table { TableOf net.now table.now.dest.0 (rows_of table.now) }
     ensures optimal { wanted.optimal ≡ true → IfOk result (λ found. OptimalUpTo net.now table.now.dest.0

@@ -1,7 +1,7 @@
 //! Judges tables of routes that anybody made: reads a report of them over a network, and says whether no walk beats
 //! their routes and whether they are stable; and for a table lists all next hops that are equally good. It makes no
-//! table and knows no command. It stands on `stable_check`, `net_facts`, `topology_file` for lines and words,
-//! `sig_text`, and what these stand on.
+//! table and knows no command. It stands on `stable_check`, `net_facts`, `arc_labels`, `topology_file` for
+//! lines and words, `sig_text`, and what these stand on.
 #![tactic(auto)]
 
 mod arcs;
@@ -12,7 +12,6 @@ mod found;
 mod hops;
 mod judgement;
 mod judging;
-mod labels;
 mod laws;
 mod lines;
 mod look;
@@ -23,5 +22,4 @@ pub use faults::{ReportError, ReportFault, ReportKind};
 pub use hops::{ManyHops, best_hops};
 pub use judgement::{Judgement, OptimalFinding, StableFinding};
 pub use judging::judge;
-pub use labels::{OutLabels, out_labels};
 pub use report::{MAX_REPORT_BYTES, numbers_are_specified, read_report};

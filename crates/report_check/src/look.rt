@@ -12,16 +12,17 @@ ghost use Rattle.alg_model.specs.Views.{pure_value};
 ghost use Rattle.net_graph.specs.Nets.{origin_value};
 ghost use Rattle.net_graph.specs.Tables.{carrier, is_among, route_at, value_at};
 ghost use Rattle.net_graph.specs.Views.{pure_route, rows_of};
+ghost use Rattle.arc_labels.specs.Images.{made_in};
 ghost use Rattle.report_check.specs.Compiled.{AreSigs, IsCompiled, IsHopFrom};
 ghost use Rattle.report_check.specs.Findings.{IsMadeAlone, OptimalUpTo, StableUpTo};
 ghost use Rattle.report_check.specs.Judged.{IsBeaten, stable, unbeaten};
-ghost use Rattle.report_check.specs.Looks.{IsAsGood, Shows, made_in, path_after};
+ghost use Rattle.report_check.specs.Looks.{IsAsGood, Shows, path_after};
 ghost use Rattle.stable_check.specs.Checks.{ImprovedBy, IsMade, IsOutdone, MadeBy, OutdoneBy, Outdoes, own_offer};
 
 use crate::compiled::{Compiled, sig_at};
 use crate::found::Wanted;
-use crate::labels::Hop;
 use alg_model::{Algebra, Value, same_value};
+use arc_labels::{Neighbour, image_into};
 use meta_base::{NoMemory, NodeId};
 use net_graph::Route;
 use path_store::compare;
@@ -239,55 +240,26 @@ fn origin_shows<A: Algebra>(
     weigh(alloc, form, node, None, own)
 }
 
-// Puts into the place what the label makes of the value: `true` where it stands there, and `false` where the label
-// prohibits it. It is made in the memory of what the place held.
-fn image_into<A: Algebra>(
-    alloc: Global,
-    algebra: &A,
-    lab: &A::Lab,
-    sig: &A::Sig,
-    place: &mut Option<A::Sig>,
-) -> Result<bool, NoMemory>
-    requires lab { (l : PureLabel) × A.stands_for algebra.now lab.now l }
-    requires sig { A.is_sig algebra.now sig.now }
-    requires small { AtMost MAX_VALUE_NUMBER (A.sig_value algebra.now sig.now) }
-    ensures sig { IfOk result (λ placed. IfSome (made_in placed place.new) (A.is_sig algebra.now)) }
-    ensures image { (l : PureLabel) → A.stands_for algebra.now lab.now l → IfOk result (λ placed.
-        option_map (A.sig_value algebra.now) (made_in placed place.new) ≡
-        App (A.expression algebra.now) l (A.sig_value algebra.now sig.now)) }
-{
-    match place {
-        Some(out) => algebra.apply_into(alloc, lab, sig, out),
-        None => {
-            let Some(image) = algebra.apply(alloc, lab, sig)? else {
-                return Ok(false);
-            };
-            *place = Some(image);
-            Ok(true)
-        }
-    }
-}
-
 // Puts into the place what the hop's label makes of the value of its head's row, if it has one.
 pub(crate) fn image_along<A: Algebra>(
     alloc: Global,
     form: &Compiled<'_, A>,
-    hop: &Hop<A::Lab>,
+    hop: &Neighbour<'_, A::Lab>,
     place: &mut Option<A::Sig>,
 ) -> Result<bool, NoMemory>
     requires compiled { let a = form.now.algebra.now in IsCompiled (A.is_sig a) (A.sig_value a) (A.stands_for a)
         form.now.net.now form.now.table.now.dest.0 (rows_of form.now.table.now)
         form.now.labels.now form.now.rows.items form.now.own.items }
-    requires lab { (l : PureLabel) × A.stands_for form.now.algebra.now hop.now.label l }
+    requires lab { (l : PureLabel) × A.stands_for form.now.algebra.now hop.now.label.now l }
     ensures sig { IfOk result (λ placed. IfSome (made_in placed place.new) (A.is_sig form.now.algebra.now)) }
-    ensures image { (l : PureLabel) → A.stands_for form.now.algebra.now hop.now.label l → IfOk result (λ placed.
+    ensures image { (l : PureLabel) → A.stands_for form.now.algebra.now hop.now.label.now l → IfOk result (λ placed.
         option_map (A.sig_value form.now.algebra.now) (made_in placed place.new) ≡ option_and_then
-        (App (A.expression form.now.algebra.now) l) (value_at (rows_of form.now.table.now) hop.now.head.0)) }
+        (App (A.expression form.now.algebra.now) l) (value_at (rows_of form.now.table.now) hop.now.node.0)) }
 {
-    let Some(next) = sig_at(&form.rows, hop.head) else {
+    let Some(next) = sig_at(&form.rows, hop.node) else {
         return Ok(false);
     };
-    image_into(alloc, form.algebra, &hop.label, next, place)
+    image_into(alloc, form.algebra, hop.label, next, place)
 }
 
 // What the arc to the hop shows of the node's row. Its label is applied once, into the spare place.
@@ -295,7 +267,7 @@ fn hop_shows<A: Algebra>(
     alloc: Global,
     form: &Compiled<'_, A>,
     node: NodeId,
-    hop: &Hop<A::Lab>,
+    hop: &Neighbour<'_, A::Lab>,
     spare: &mut Option<A::Sig>,
 ) -> Result<Shown, NoMemory>
     requires algebra { A.expression form.now.algebra.now ≡ form.now.net.now.alg.expression }
@@ -304,17 +276,17 @@ fn hop_shows<A: Algebra>(
         form.now.labels.now form.now.rows.items form.now.own.items }
     requires hop { IsHopFrom (A.stands_for form.now.algebra.now) form.now.net.now node.0 hop.now }
     ensures improves { IfOk result (λ shown. shown.improves ≡ false →
-        ¬ ImprovedBy form.now.net.now (rows_of form.now.table.now) node.0 hop.now.head.0) }
+        ¬ ImprovedBy form.now.net.now (rows_of form.now.table.now) node.0 hop.now.node.0) }
     ensures makes { IfOk result (λ shown. shown.makes ≡ true →
-        MadeBy form.now.net.now (route_at (rows_of form.now.table.now)) node.0 hop.now.head.0) }
+        MadeBy form.now.net.now (route_at (rows_of form.now.table.now)) node.0 hop.now.node.0) }
     ensures outdoes { IfOk result (λ shown. shown.outdoes ≡ false →
-        ¬ OutdoneBy form.now.net.now (route_at (rows_of form.now.table.now)) node.0 hop.now.head.0) }
+        ¬ OutdoneBy form.now.net.now (route_at (rows_of form.now.table.now)) node.0 hop.now.node.0) }
 {
     if !image_along(alloc, form, hop, spare)? {
         return Ok(Shown::nothing());
     }
     match spare {
-        Some(image) => weigh(alloc, form, node, route_at(form.table, hop.head), image),
+        Some(image) => weigh(alloc, form, node, route_at(form.table, hop.node), image),
         None => Ok(Shown::nothing()),
     }
 }
@@ -339,7 +311,7 @@ fn row_shows<A: Algebra>(
         ¬ IsOutdone form.now.net.now form.now.table.now.dest.0 (route_at (rows_of form.now.table.now)) node.0) }
 {
     let mut shown = origin_shows(alloc, form, node)?;
-    for hop in form.labels.hops(node) {
+    for hop in form.labels.of(node) {
         let of_hop = hop_shows(alloc, form, node, hop, spare)?;
         shown = shown.or(of_hop);
     }

@@ -170,17 +170,27 @@ pub fn judgement_lines(alloc: Global, net: &Net, judgement: &Judgement) -> Resul
     Ok(Text::from_string(out))
 }
 
-/// The line of a row with all next hops that are equally good: `NODE DEST VALUE`, then `here` where an origin of the
-/// node is as good, then the names of the next hops; or `NODE DEST none`. It is refused for want of memory alone.
+/// Appends the line of a row with all next hops that are equally good: `NODE DEST VALUE`, then `here` where an origin of
+/// the node is as good, then the names of the next hops; or `NODE DEST none`. It is refused for want of memory alone; what
+/// the text holds then isn't said.
+pub fn push_hops_line(out: &mut String, net: &Net, hops: &ManyHops) -> Result<(), NoMemory>
+    requires { CanPrintHops net.now (pure_hops hops.now) }
+    ensures { OnOk result (Gains out.old (hops_text net.now (pure_hops hops.now)) out.new) }
+{
+    push_names(out, net, hops.node, hops.dest)?;
+    out.push(' ')?;
+    push_ways(out, net, hops)?;
+    Ok(out.push('\n')?)
+}
+
+/// For a line alone; the program appends it to a text. The line of a row with its next hops, as [`push_hops_line`]
+/// appends it. It is refused for want of memory alone.
 pub fn hops_line(alloc: Global, net: &Net, hops: &ManyHops) -> Result<Text, NoMemory>
     requires { CanPrintHops net.now (pure_hops hops.now) }
     ensures { IfOk result (λ text. text ≡ hops_text net.now (pure_hops hops.now)) }
 {
     let mut out = String::new(alloc);
-    push_names(&mut out, net, hops.node, hops.dest)?;
-    out.push(' ')?;
-    push_ways(&mut out, net, hops)?;
-    out.push('\n')?;
+    push_hops_line(&mut out, net, hops)?;
     Ok(Text::from_string(out))
 }
 

@@ -13,7 +13,7 @@ mod tables;
 mod verdicts;
 
 pub use code::{Operation, arc_line, code_lines, operation_line, order_line};
-pub use judged::{hops_line, judgement_lines};
+pub use judged::{hops_line, judgement_lines, push_hops_line};
 pub use refusals::{Refusal, misses_line, refusal_line};
 pub use rows::{push_row_line, row_line};
 pub use runs::{end_line, phase_line, push_delivery_line};

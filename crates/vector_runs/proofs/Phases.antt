@@ -4,16 +4,13 @@ use Rattle.std.specs.Prelude.{slice_get}
 use Rattle.std.specs.List.{AllByRecursion, range_with_len}
 use Rattle.std.proofs.lemmas.List.{append_assoc, append-nil, map-append}
 use Rattle.meta_base.specs.declared.ids.Delivery.{Delivery}
-use Rattle.net_graph.specs.Nets.{PureNet, IsNet}
-use Rattle.node_core.specs.Machine.{AreUnbegun, Start}
-use Rattle.node_core.specs.MachineLaws.{replay_runs, start_runs}
-use Rattle.node_core.specs.Running.{IsRunning}
-use Rattle.path_vector.specs.Lawful.{path_vector_is_lawful}
+use Rattle.net_graph.specs.Nets.{PureNet}
+use Rattle.net_graph.specs.Tables.{PureRow}
+use Rattle.node_core.specs.Machine.{AreUnbegun}
+use Rattle.node_runs.specs.Runs as runs
 use Rattle.path_vector.specs.Node.{PvState, carried, new_node, node_rows, path_vector}
 use Rattle.path_vector.specs.Nodes.{PureNode, state_of}
-use Rattle.quiet_ledger.specs.declared.totals.Totals.{Totals}
-use Rattle.weave.specs.Phases.{IsPhase, IsPhaseEnd}
-use Rattle.vector_runs.specs.NodeLaws.{states_are, states_begun, states_count}
+use Rattle.vector_runs.specs.NodeLaws.{states_are}
 use Rattle.vector_runs.specs.Runs.{AreBegun, AreLater, IsPhaseOf, IsRun, PurePhase, RunsFrom, new_nodes}
 
 -- nodes that are begun on a network have it
@@ -21,29 +18,15 @@ pub begun_nets : (net : PureNet) (i : ℕ) (nodes : List PureNode) → AreBegun 
 begun_nets net i [] are = tt
 begun_nets net i (n ∷ nodes) are = (are.0, begun_nets net (i + 1) nodes are.3)
 
--- ---- the nodes that a phase of the workers ends with
+-- ---- what ran is a phase of a run, with its rows
 
-module _ (net : PureNet) (is_net : IsNet net) (nodes : List PvState) (unbegun : AreUnbegun path_vector net 0 nodes) (turns : ℕ) (journal : List Delivery) (ended : List PvState) (totals : Totals) (quiet : Bool)
-    (is : IsPhaseEnd path_vector net nodes turns journal ended totals quiet) where
-  running : IsRunning path_vector net is.end
-  running =
-      replay_runs path_vector path_vector_is_lawful net is_net journal (Start path_vector nodes) is.end
-      (start_runs path_vector path_vector_is_lawful net is_net nodes unbegun) is.phase.replayed
+abbrev pub ran : List PureRow → List Delivery → PurePhase
+ran rows journal = record { rows = rows; journal = journal }
 
-  -- they are the network's, and begun
-  pub ended_begun : AreBegun net 0 ended
-  ended_begun = states_begun net is.end ended running is.nodes_are
-
-  -- and with their rows it is a phase of a run
-  pub ended_phase : (p : PurePhase) → p.journal ≡ journal → p.rows ≡ node_rows net ended → IsPhaseOf net nodes turns p quiet ended
-  ended_phase p same rows =
-      record {
-        end = is.end;
-        phase = subst (λ es. IsPhase path_vector net nodes turns es is.end quiet) (sym same) is.phase;
-        states_are = states_are net is.end ended running is.nodes_are;
-        count = states_count net is.end ended running is.nodes_are;
-        rows_are = rows;
-      }
+pub ran_phase : (net : PureNet) (nodes : List PvState) (turns : ℕ) (journal : List Delivery) (quiet : Bool) (states : List PvState) (rows : List PureRow) → runs.IsPhaseOf path_vector net nodes turns journal quiet states
+    → rows ≡ node_rows net states → IsPhaseOf net nodes turns (ran rows journal) quiet states
+ran_phase net nodes turns journal quiet states rows is are =
+    record { end = is.end; phase = is.phase; states_are = states_are is.end states is.states_are; count = is.count; rows_are = are }
 
 -- ---- new nodes aren't begun
 

@@ -9,6 +9,7 @@ use Rattle.net_graph.specs.RowTexts.{IsRowOf}
 use Rattle.net_graph.specs.Tables.{PureRow, AreSettledRows}
 use Rattle.net_graph.specs.Views.{pure_row}
 use Rattle.node_core.specs.Machine.{Machine}
+use Rattle.node_runs.specs.Runs as runs
 use Rattle.path_vector.specs.Coherent.{AreNodesOf}
 use Rattle.path_vector.specs.Node.{PvState, PureUpdate, carried, new_node, node_rows, path_vector}
 use Rattle.weave.specs.Phases.{IsPhase}
@@ -53,10 +54,9 @@ abbrev pub AreLater : PureNet → List PureNet → Type 0
 AreLater net [] = Unit {0}
 AreLater net (m ∷ nets) = (m ≡ record net { arcs = m.arcs }) × AreLater m nets
 
--- one node for each of the network, in order, each of which is begun
+-- one node for each of the network from i on, in order, each of which is begun
 abbrev pub AreBegun : PureNet → ℕ → List PvState → Type 0
-AreBegun net i [] = length net.nodes ≡ i
-AreBegun net i (s ∷ nodes) = (s.net ≡ net) × (s.number ≡ i) × (s.is_begun ≡ true) × AreBegun net (i + 1) nodes
+AreBegun = runs.AreBegun path_vector
 
 -- the rows of the phases that are quiet are stable tables of their networks, and no others are where all labels are
 -- monotone

@@ -18,36 +18,36 @@ use Rattle.best_first.proofs.search.relax.Goals.{then-is_none+in_ok-offer_image,
 
 pub index-requires : goal.index-requires
 index-requires g c =
-    let listeners = c.listeners-listener-items.result.now in
+    let listeners = c.of-listener-items.result.now in
     let listener = c.listener-item.result in
     let m = c.loop-listener.listener-index in
     let read = slice_get_read listeners (length listeners) m listener refl c.loop-listener-test.true c.listener-item.is in
     let by = heard_by (g.A.Algebra.stands_for c.args.algebra.now) c.args._net.now c.requires.net c.args.node.0 m listeners listener
-    (c.requires.labels.each c.args.node.0 listeners c.listeners-listener-items.ensures) read in
+    (c.requires.labels.each c.args.node.0 listeners c.of-listener-items.ensures) read in
     let within = listener_within (g.A.Algebra.stands_for c.args.algebra.now) c.args._net.now c.args.node.0 m listener by in
     let n = c.requires.rows in
     omega arith
 
 pub offer_image-requires-clause-node : goal.offer_image-requires-clause-node
 offer_image-requires-clause-node g c =
-    let listeners = c.listeners-listener-items.result.now in
+    let listeners = c.of-listener-items.result.now in
     let listener = c.listener-item.result in
     let m = c.loop-listener.listener-index in
     let read = slice_get_read listeners (length listeners) m listener refl c.loop-listener-test.true c.listener-item.is in
     let by = heard_by (g.A.Algebra.stands_for c.args.algebra.now) c.args._net.now c.requires.net c.args.node.0 m listeners listener
-    (c.requires.labels.each c.args.node.0 listeners c.listeners-listener-items.ensures) read in
+    (c.requires.labels.each c.args.node.0 listeners c.of-listener-items.ensures) read in
     let within = listener_within (g.A.Algebra.stands_for c.args.algebra.now) c.args._net.now c.args.node.0 m listener by in
     let n = c.loop-listener.invariant.count in
     omega arith
 
 pub offer_image-requires-clause-lab : goal.offer_image-requires-clause-lab
 offer_image-requires-clause-lab g c =
-    let listeners = c.listeners-listener-items.result.now in
+    let listeners = c.of-listener-items.result.now in
     let listener = c.listener-item.result in
     let m = c.loop-listener.listener-index in
     let read = slice_get_read listeners (length listeners) m listener refl c.loop-listener-test.true c.listener-item.is in
     let by = heard_by (g.A.Algebra.stands_for c.args.algebra.now) c.args._net.now c.requires.net c.args.node.0 m listeners listener
-    (c.requires.labels.each c.args.node.0 listeners c.listeners-listener-items.ensures) read in
+    (c.requires.labels.each c.args.node.0 listeners c.of-listener-items.ensures) read in
     (by.arc.label, by.is_listener.label)
 
 pub offer_image-requires-clause-small : goal.offer_image-requires-clause-small
@@ -71,12 +71,12 @@ loop-listener-preserved g c =
     let r = fixed_route value paths c.route-next.result.now in
     let reported : reported_by value paths rows node ≡ Some r = found-map (fixed_route value paths) rows node ∙ ap (option_map (fixed_route value paths)) c.route-next.ensures in
     let can : CanSpeak net node r = rw reported at c.requires.next in
-    let listeners = c.listeners-listener-items.result.now in
+    let listeners = c.of-listener-items.result.now in
     let listener = c.listener-item.result in
     let m = c.loop-listener.listener-index in
     let read = slice_get_read listeners (length listeners) m listener refl c.loop-listener-test.true c.listener-item.is in
     let by = heard_by (g.A.Algebra.stands_for c.args.algebra.now) net c.requires.net node m listeners listener
-    (c.requires.labels.each node listeners c.listeners-listener-items.ensures) read in
+    (c.requires.labels.each node listeners c.of-listener-items.ensures) read in
     let arc = by.arc in
     let heard = by.heard in
     let tail = arc.tail in
@@ -127,7 +127,7 @@ returns-clause-routes g c = λ k.
     let r = fixed_route value paths c.route-next.result.now in
     let reported : reported_by value paths rows node ≡ Some r = found-map (fixed_route value paths) rows node ∙ ap (option_map (fixed_route value paths)) c.route-next.ensures in
     let m = c.loop-listener.listener-index in
-    let are = c.requires.labels.each node c.listeners-listener-items.result.now c.listeners-listener-items.ensures in
+    let are = c.requires.labels.each node c.of-listener-items.result.now c.of-listener-items.ensures in
     let all : m ≡ length (arcs_to net node) = omega (arith, are.count, c.loop-listener-test.false, c.loop-listener.auto.listener-index-end) in
     let found = rw reported at (c.loop-listener.invariant.found k) in
     rw reported (found ∙ ap (λ o. relaxed (carrier net) (reported_by value paths rows k) (found_at (open_routes value paths rows c.args.search.now.best.items) k) o) (heard_all net node r m k all))

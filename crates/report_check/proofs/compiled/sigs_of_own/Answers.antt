@@ -2,7 +2,8 @@ use Rattle.std.proofs.Common.{◌≡◌, ℕ, Option, None, IfSome, length, opti
 use Rattle.net_graph.specs.Nets.{origin_value}
 use Rattle.stable_check.specs.Checks.{own_at}
 use Rattle.stable_check.specs.Offering.{origin_in}
-use Rattle.report_check.proofs.Forms.{are_sigs, each_more, own_past, own_there}
+use Rattle.arc_labels.specs.Growing.{each_more}
+use Rattle.report_check.proofs.Forms.{are_sigs, own_past, own_there}
 use Rattle.report_check.proofs.compiled.sigs_of_own.Goals as goal
 
 pub sig_of_value-requires : goal.sig_of_value-requires

@@ -1,7 +1,8 @@
 use Rattle.std.proofs.Common.{◌≡◌, ℕ, Option, IfSome, length, option_map, sym, ◌∙◌, arith}
 use Rattle.net_graph.specs.Tables.{value_at}
 use Rattle.net_graph.specs.Views.{rows_of}
-use Rattle.report_check.proofs.Forms.{are_sigs, each_more, value_past, value_there}
+use Rattle.arc_labels.specs.Growing.{each_more}
+use Rattle.report_check.proofs.Forms.{are_sigs, value_past, value_there}
 use Rattle.report_check.proofs.compiled.sigs_of_rows.Goals as goal
 
 pub sig_of_value-requires : goal.sig_of_value-requires

@@ -9,4 +9,4 @@ use Rattle.report_check.proofs.hops.heads_at.Given as goal
 abbrev pub invariant-loop-hop : goal.invariant-loop-hop
 invariant-loop-hop g l =
     let net = l.form.net.now in
-    numbers l.heads ≡ map (λ (a : PureArc). a.head) (filter (is_hop net (rows_of l.form.table.now)) (take l.hop-index (arcs_from net l.fn.node.0)))
+    numbers l.heads.items ≡ map (λ (a : PureArc). a.head) (filter (is_hop net (rows_of l.form.table.now)) (take l.hop-index (arcs_from net l.fn.node.0)))

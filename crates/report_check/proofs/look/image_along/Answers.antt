@@ -8,4 +8,4 @@ image_into-requires-clause-small g c =
     let form = c.args.form.now in
     let a = form.algebra.now in
     sig_small (g.A.Algebra.is_sig a) (g.A.Algebra.sig_value a) form.net.now form.table.now.dest.0 (rows_of form.table.now) form.rows.items c.requires.compiled.is_table c.requires.compiled.of_rows
-    c.args.hop.now.head.0 c.in-Some.next.now (sym c.in-Some.ensures)
+    c.args.hop.now.node.0 c.in-Some.next.now (sym c.in-Some.ensures)

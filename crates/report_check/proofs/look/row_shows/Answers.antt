@@ -24,10 +24,10 @@ loop-hop-init g c =
 pub hop_shows-requires-clause-hop : goal.hop_shows-requires-clause-hop
 hop_shows-requires-clause-hop g c =
     let form = c.args.form.now in
-    let hops = c.hops-hop-items.result.now in
+    let hops = c.of-hop-items.result.now in
     let m = c.loop-hop.hop-index in
     let read = slice_get_read hops (length hops) m c.hop-item.result refl c.loop-hop-test.true c.hop-item.is in
-    (hop_at (g.A.Algebra.stands_for form.algebra.now) form.net.now c.requires.compiled.is_net c.args.node.0 m hops c.hop-item.result (c.requires.compiled.of_arcs.each c.args.node.0 hops c.hops-hop-items.ensures) read).from
+    (hop_at (g.A.Algebra.stands_for form.algebra.now) form.net.now c.requires.compiled.is_net c.args.node.0 m hops c.hop-item.result (c.requires.compiled.of_arcs.each c.args.node.0 hops c.of-hop-items.ensures) read).from
 
 pub loop-hop-preserved : goal.loop-hop-preserved
 loop-hop-preserved g c =
@@ -36,10 +36,10 @@ loop-hop-preserved g c =
     let dest = form.table.now.dest.0 in
     let rows = rows_of form.table.now in
     let i = c.args.node.0 in
-    let hops = c.hops-hop-items.result.now in
+    let hops = c.of-hop-items.result.now in
     let m = c.loop-hop.hop-index in
     let read = slice_get_read hops (length hops) m c.hop-item.result refl c.loop-hop-test.true c.hop-item.is in
-    let at = hop_at (g.A.Algebra.stands_for form.algebra.now) net c.requires.compiled.is_net i m hops c.hop-item.result (c.requires.compiled.of_arcs.each i hops c.hops-hop-items.ensures) read in
+    let at = hop_at (g.A.Algebra.stands_for form.algebra.now) net c.requires.compiled.is_net i m hops c.hop-item.result (c.requires.compiled.of_arcs.each i hops c.of-hop-items.ensures) read in
     let old = c.loop-hop.shown in
     let more = c.in_ok-of_hop.of_hop in
     record {
@@ -48,7 +48,7 @@ loop-hop-preserved g c =
           not_beaten_more net dest rows i m at.arc at.there (c.loop-hop.invariant.improves f.0) (subst (λ (j : ℕ). ¬ ImprovedBy net rows i j) at.head (c.in_ok-of_hop.ensures.improves f.1));
       makes = λ e. elim (either_true old.makes more.makes (sym c.or-shown.ensures.makes ∙ e)) [
         | inl f ↦ c.loop-hop.invariant.makes f
-        | inr f ↦ arc_made net dest i c.hop-item.result.head.0 (route_at rows) (c.in_ok-of_hop.ensures.makes f)
+        | inr f ↦ arc_made net dest i c.hop-item.result.node.0 (route_at rows) (c.in_ok-of_hop.ensures.makes f)
       ];
       outdoes = λ e.
           let f = either_false old.outdoes more.outdoes (sym c.or-shown.ensures.outdoes ∙ e) in
@@ -60,8 +60,8 @@ returns-clause-improves g c = λ e.
     let form = c.args.form.now in
     let net = form.net.now in
     let i = c.args.node.0 in
-    let hops = c.hops-hop-items.result.now in
-    let are = c.requires.compiled.of_arcs.each i hops c.hops-hop-items.ensures in
+    let hops = c.of-hop-items.result.now in
+    let are = c.requires.compiled.of_arcs.each i hops c.of-hop-items.ensures in
     let all : length (arcs_from net i) ≤ c.loop-hop.hop-index = omega (arith, are.count, c.loop-hop-test.false) in
     not_beaten_all net c.requires.compiled.is_net form.table.now.dest.0 (rows_of form.table.now) i c.loop-hop.hop-index all (c.loop-hop.invariant.improves e)
 
@@ -70,7 +70,7 @@ returns-clause-outdoes g c = λ e.
     let form = c.args.form.now in
     let net = form.net.now in
     let i = c.args.node.0 in
-    let hops = c.hops-hop-items.result.now in
-    let are = c.requires.compiled.of_arcs.each i hops c.hops-hop-items.ensures in
+    let hops = c.of-hop-items.result.now in
+    let are = c.requires.compiled.of_arcs.each i hops c.of-hop-items.ensures in
     let all : length (arcs_from net i) ≤ c.loop-hop.hop-index = omega (arith, are.count, c.loop-hop-test.false) in
     not_outdone_all net c.requires.compiled.is_net form.table.now.dest.0 (rows_of form.table.now) i c.loop-hop.hop-index all (c.loop-hop.invariant.outdoes e)

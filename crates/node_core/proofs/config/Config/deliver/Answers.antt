@@ -5,11 +5,11 @@ use Rattle.net_graph.specs.Nets.{PureArc}
 use Rattle.node_core.specs.declared.node.TheConstants.{MAX_CLOCK}
 use Rattle.node_core.specs.Kinds.{listener}
 use Rattle.node_core.specs.Machine.{Machine, Deliver}
-use Rattle.node_core.specs.Running.{IsRunning}
+use Rattle.node_core.specs.Running.{AreUpTo, IsRunning}
 use Rattle.node_core.specs.Stepping.{CanTake}
 use Rattle.node_core.specs.MachineLaws.{deliver_runs}
 use Rattle.node_core.specs.Configs.{machine_over, noted, waits_on, spare_on}
-use Rattle.node_core.proofs.Parts.{spoken_within, speaks_among, same_links, can_take, sends_fit, delivers, begun_sent, numbered_fit, fits_still}
+use Rattle.node_core.proofs.Parts.{spoken_within, speaks_among, same_links, can_take, sends_fit, delivers, begun_sent, numbered_fit, fits_still, stays_up_to}
 use Rattle.node_core.proofs.config.Config.deliver.Goals as goal
 
 pub make_room-requires : goal.make_room-requires
@@ -104,3 +104,50 @@ returns-clause-running g c =
     let made = delivers k net before later after arc tail sends listens c.in_ok-step_on.ensures.taken (λ j. refl) (λ j. refl)
     (λ b. begun_sent note b (waits_on c.step_on.new.links.items b) (waits_on c.send_all.new.links.items b) c.step_on.new.out sends (c.send_all.ensures.sent b) refl) in
     deliver_runs k g.met.N.NodeCore.lawful net c.keeps_rules.ensures before after arc (subst (IsRunning k net) (sym same) c.requires.running) made
+
+pub invariant_of-self : goal.invariant_of-self
+invariant_of-self g c =
+    let self = c.args.self.now in
+    let same = same_links g.N.NodeCore.state g.N.NodeCore.note self.nodes.items self.clocks.items self.links.items c.make_room.new.links.items c.make_room.ensures.kept in
+    record {
+      node_count = self.node_count;
+      clock_count = self.clock_count;
+      link_count = c.make_room.ensures.count ∙ self.link_count;
+      early = subst (λ m. ∥ AreUpTo g.N.NodeCore.kind m MAX_CLOCK ∥₁) (sym same) self.early;
+    }
+
+pub invariant_of-self-in-Break-branch-2 : goal.invariant_of-self-in-Break-branch-2
+invariant_of-self-in-Break-branch-2 g c =
+    let self = c.args.self.now in
+    let same = same_links g.N.NodeCore.state g.N.NodeCore.note self.nodes.items self.clocks.items self.links.items c.make_room.new.links.items c.make_room.ensures.kept in
+    record {
+      node_count = c.step_on.ensures.nodes ∙ self.node_count;
+      clock_count = c.step_on.ensures.clocks ∙ self.clock_count;
+      link_count = c.step_on.ensures.links ∙ (c.make_room.ensures.count ∙ self.link_count);
+      early = subst (λ m. ∥ AreUpTo g.N.NodeCore.kind m MAX_CLOCK ∥₁) (sym (c.in_err-step_on.ensures.err ∙ same)) self.early;
+    }
+
+pub invariant_of-self-2 : goal.invariant_of-self-2
+invariant_of-self-2 g c =
+    let k = g.N.NodeCore.kind in
+    let state = g.N.NodeCore.state in
+    let note = g.N.NodeCore.note in
+    let self = c.args.self.now in
+    let net = self.net.now in
+    let arc = c.args.arc.0 in
+    let roomy = c.make_room.new.links.items in
+    let same = same_links state note self.nodes.items self.clocks.items self.links.items roomy c.make_room.ensures.kept in
+    let listens : listener net arc ≡ Some c.arc.result.tail.0 = ap (option_map (λ (a : PureArc). a.tail)) c.arc.ensures.arc in
+    let now = machine_over state note self.nodes.items self.clocks.items self.links.items in
+    let before = machine_over state note self.nodes.items self.clocks.items roomy in
+    let later = machine_over state note c.step_on.new.nodes.items c.step_on.new.clocks.items c.step_on.new.links.items in
+    let after = machine_over state note c.step_on.new.nodes.items c.step_on.new.clocks.items c.send_all.new.links.items in
+    let sends = map (noted note) c.step_on.new.out in
+    let made = delivers k net before later after arc c.arc.result.tail.0 sends listens c.in_ok-step_on.ensures.taken (λ j. refl) (λ j. refl)
+    (λ b. begun_sent note b (waits_on c.step_on.new.links.items b) (waits_on c.send_all.new.links.items b) c.step_on.new.out sends (c.send_all.ensures.sent b) refl) in
+    record {
+      node_count = c.step_on.ensures.nodes ∙ self.node_count;
+      clock_count = c.step_on.ensures.clocks ∙ self.clock_count;
+      link_count = omega (arith, c.send_all.ensures.count, c.step_on.ensures.links, c.make_room.ensures.count, self.link_count);
+      early = stays_up_to k g.met.N.NodeCore.lawful net now before after arc MAX_CLOCK same self.early c.requires.early made;
+    }
