@@ -1,0 +1,10 @@
+use Rattle.std.proofs.Common.{◌≡◌, ℕ, length}
+use Rattle.flood_node.specs.Sets.{has_number}
+use Rattle.flood_node.proofs.sets.grow.Given as goal
+
+-- the words have the numbers that they had
+abbrev pub invariant-loop-made : goal.invariant-loop-made
+invariant-loop-made l = record {
+  count : length l.words.items ≡ l._made;
+  same : (i : ℕ) → has_number l.words.items i ≡ has_number l.fn.words.items i;
+}
