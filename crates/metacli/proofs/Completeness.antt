@@ -443,7 +443,7 @@ complete_of laws text old new o (task.On file net asked) h = λ bytes net_bytes 
     (λ a x. over_network laws a (word_at text net) net_bytes (λ f old new o. (new ≡ old) × IsMadeOn asked a f o) Follows old h.between new o h.reads.keeps x u quiet
     (λ f later k y fit. on_answered asked a f o y.1 fit)
     (λ e n fit. on_unless asked n o e))
-    (λ e a. net_judged_memory net_bytes Follows o a e (λ n fit. on_unless asked o (inr e)))
+    (λ e a. net_judged_memory net_bytes Follows o a e (λ n fit. on_unless asked n o e))
 
 pub complete : Laws → (text : List (List ℕ)) (old new : Moment) (o : PureOutcome) (r : Result Command WordsFault) → ComesBy text r old new o → CompleteBy text old new o r
 complete laws text old new o (Ok c) h = complete_of laws text old new o (task_of c) h

@@ -1,17 +1,46 @@
--- Quiet floods beside the routes of the same network.
-use Rattle.std.proofs.Common.{◌≡◌, ℕ, Bool, true, false, List, ◌++◌, length, Some, None, refl, sym, ap, ◌∙◌}
+-- What a flood comes to, and quiet floods beside the routes of the same network.
+use Rattle.std.proofs.Common.{◌≡◌, ◌↔◌, ℕ, ◌<◌, Bool, true, false, List, ◌++◌, length, map, Some, None, Ok, refl, sym, ap, ◌∙◌, subst}
+use Rattle.std.specs.List.{AllByRecursion}
 use Rattle.meta_base.specs.declared.ids.Delivery.{Delivery}
 use Rattle.alg_model.specs.Expressions.{PureAlg}
+use Rattle.flood_node.specs.Reach.{cards_told}
+use Rattle.flood_runs.specs.Floods.{IsFloodRun}
+use Rattle.flood_runs.specs.declared.run.FloodRun.{FloodRun}
 use Rattle.net_graph.specs.Nets.{PureNet}
+use Rattle.net_graph.specs.RowTexts.{IsRowOf}
 use Rattle.net_graph.specs.Tables.{PureRow, BestFirst, AreRowsOfTables}
+use Rattle.net_graph.specs.Views.{pure_row}
 use Rattle.report_check.proofs.Refuting.{on_tables_too}
 use Rattle.report_text.specs.Refusals.{words, expr, network, report, misses, read, long, memory}
 use Rattle.report_text.specs.RunTexts.{end_text}
 use Rattle.topology_file.specs.NetText.{PureNetFile, changed_net}
 use Rattle.metacli.specs.Answers.{done, refused, spent}
-use Rattle.metacli.specs.Outcome.{PureOutcome, stopped, checked, coded, routed, hopped, judged, wedged, ran, flooded, shown, AreRoutesOn, IsFlood, IsFloodedAs, IsRoutedAs, answer_in, journal_in, rows_in}
+use Rattle.metacli.specs.Found.{IsFoundFlood}
+use Rattle.metacli.specs.Outcome.{PureOutcome, stopped, checked, coded, routed, hopped, judged, wedged, ran, flooded, shown, AreRoutesOn, IsFit, IsFlood, IsFloodedAs, IsRoutedAs, answer_in, journal_in, rows_in}
 use Rattle.metacli.specs.Texts.{TextOf, rows_text}
 use Rattle.metacli.specs.declared.routing.Solution.TheVariants.{Unbeaten}
+
+-- when a flood is spent, how many deliveries a quiet one makes, that its rows are those of link state, and that the rows
+-- of every flood are the network's
+pub record Laws (net : PureNet) : Type 0 where
+  pub spent : (turns : ℕ) (rows : List PureRow) (journal : List Delivery) (quiet : Bool) → IsFloodRun net turns rows journal quiet → (quiet ≡ false) ↔ (turns < cards_told net)
+  pub made : (turns : ℕ) (rows : List PureRow) (journal : List Delivery) → IsFloodRun net turns rows journal true → length journal ≡ cards_told net
+  pub link_state : (turns : ℕ) (rows routed : List PureRow) (journal : List Delivery) → IsFloodRun net turns rows journal true → AreRowsOfTables net (BestFirst net) routed → rows ≡ routed
+  pub rows_in : (turns : ℕ) (rows : List PureRow) (journal : List Delivery) (quiet : Bool) → IsFloodRun net turns rows journal quiet → AllByRecursion (IsRowOf net) rows
+
+is_flood : (net : PureNet) → Laws net → (turns : ℕ) (rows : List PureRow) (journal : List Delivery) (quiet : Bool) → IsFloodRun net turns rows journal quiet → IsFlood net turns rows journal quiet
+is_flood net laws turns rows journal quiet run = record {
+  is_run = run;
+  spent = laws.spent turns rows journal quiet run;
+  made = λ e. laws.made turns rows journal (subst (IsFloodRun net turns rows journal) e run);
+  link_state = λ e routed are. laws.link_state turns rows routed journal (subst (IsFloodRun net turns rows journal) e run) are;
+}
+
+-- a flood on a network whose labels are fit
+pub flood_found : (net : PureNet) → Laws net → IsFit Unbeaten net → (turns : ℕ) (run : FloodRun) → IsFloodRun net turns (map pure_row run.rows) run.journal run.is_quiet → IsFoundFlood net turns (Ok run)
+flood_found net laws fit turns run is =
+    let rows = map pure_row run.rows in
+    (fit, is_flood net laws turns rows run.journal run.is_quiet is, laws.rows_in turns rows run.journal run.is_quiet is)
 
 -- what a flood comes to that is quiet
 record QuietFlood (turns : ℕ) (a : PureAlg) (f : PureNetFile) (o : PureOutcome) : Type 0 where
