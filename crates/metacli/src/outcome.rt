@@ -14,6 +14,7 @@ use crate::{Answer, Command, Ended, WordsFault};
 use alg_classes::Property;
 use alg_model::Alg;
 use code_gen::Listing;
+use flood_runs::FloodRun;
 use meta_base::{Delivery, List, NoMemory, Which};
 use net_facts::Missing;
 use net_graph::{DestTable, Net, RouteRow};
@@ -94,6 +95,7 @@ pub enum Outcome {
     Judged(Judged),
     Wedged(Wedged),
     Ran(Ran),
+    Flooded(Flooded),
     Shown(Shown),
 }
 
@@ -171,6 +173,14 @@ pub struct Ran {
     pub run: Run,
 }
 
+/// The flood of flooding nodes on the network of a file, after its changes.
+#[derive(Debug, Drop)]
+pub struct Flooded {
+    pub alg: Alg,
+    pub file: NetFile,
+    pub run: FloodRun,
+}
+
 /// The phase of path-vector nodes on a generated network, which is quiet.
 #[derive(Debug, Drop)]
 pub struct Shown {
@@ -240,6 +250,7 @@ impl Outcome {
             Outcome::Judged(it) => it.parts(alloc),
             Outcome::Wedged(it) => it.parts(alloc),
             Outcome::Ran(it) => it.parts(alloc),
+            Outcome::Flooded(it) => it.parts(alloc),
             Outcome::Shown(it) => it.parts(alloc),
         }
     }
@@ -388,6 +399,27 @@ impl Ran {
     }
 }
 
+impl Flooded {
+    fn parts(self, alloc: Global) -> Parts
+        ensures { AreParts result (pure_outcome (Outcome.Flooded self)) }
+    {
+        let FloodRun {
+            rows,
+            journal,
+            is_quiet,
+        } = self.run;
+        let mut made = Made::nothing(alloc);
+        made.rows = rows;
+        made.journal = journal;
+        Parts {
+            alg: Some(self.alg),
+            file: Some(self.file),
+            made,
+            decided: end_answer(is_quiet),
+        }
+    }
+}
+
 impl Shown {
     fn parts(self, alloc: Global) -> Parts
         ensures { AreParts result (pure_outcome (Outcome.Shown self)) }
@@ -485,7 +517,7 @@ pub(crate) fn checked_answer(unmet: Option<Property>) -> Answer
     }
 }
 
-// The answer to a run that ended with nothing on its way, or with all turns used.
+// The answer to a run or a flood that ended with nothing on its way, or with all turns used.
 pub(crate) fn end_answer(is_quiet: bool) -> Answer
     ensures answer { pure_answer result ≡ if is_quiet then done else spent }
     ensures sink { pure_answer result ≢ write_fault }

@@ -157,7 +157,8 @@ pub(crate) fn rechoose<A: Algebra>(
     ensures change { let at = site.now in let value = A.sig_value at.algebra.now in
         let dest = arrival.now.update.now.dest.0 in
         IfOk result (IsChange value at.net.now at.node.0 dest arrival.now.clock
-        (option_map (known_route value) before.now) (choice at.net.now dest at.node.0 (heard_by value neighbours.now))) }
+        (option_map (known_route value) before.now)
+        (choice at.net.now dest at.node.0 (heard_by value neighbours.now))) }
 {
     let dest = arrival.update.dest;
     let place = site.net.place_of(arrival.arc);
