@@ -6,7 +6,7 @@ ghost use Rattle.best_first.specs.Found.{found_at, AllFound};
 ghost use Rattle.best_first.specs.Keys.{key_of, key_at, best_of, precedes, beats as beats_of};
 ghost use Rattle.best_first.specs.Queue.{IsOffered, IsOfferedOf, IsRanked, is_wanted};
 
-use crate::route::{ByRoute, OpenRoute, Place, comes_first};
+use crate::route::{ByRoute, OpenPlace, OpenRoute, comes_first};
 use alg_model::Algebra;
 use frontier::{Steps, Tournament};
 use meta_base::{NoMemory, NodeId};
@@ -69,7 +69,7 @@ impl<A: Algebra, L: Ledger> Open<A, L> {
     // Offers the route there with the spare value, if there is one. It is kept where it is better than the node's
     // best, whose value is the spare one then.
     #[inline(always)]
-    pub(crate) fn offer_spare(&mut self, algebra: &A, place: Place)
+    pub(crate) fn offer_spare(&mut self, algebra: &A, place: OpenPlace)
         requires node { place.node.0 < vec_len self.old.best }
         requires sig { IfSome self.old.spare (A.is_sig algebra.now) }
         requires sigs { AllFound (λ o. A.is_sig algebra.now o.sig) self.old.best.items }
@@ -90,7 +90,7 @@ impl<A: Algebra, L: Ledger> Open<A, L> {
 
     // Whether there is a spare value, and a route there with it is better than the node's best.
     #[inline(always)]
-    fn wants_spare(&self, algebra: &A, place: Place) -> bool
+    fn wants_spare(&self, algebra: &A, place: OpenPlace) -> bool
         requires node { place.node.0 < vec_len self.now.best }
         requires sig { IfSome self.now.spare (A.is_sig algebra.now) }
         requires sigs { AllFound (λ o. A.is_sig algebra.now o.sig) self.now.best.items }
@@ -126,7 +126,7 @@ impl<A: Algebra, L: Ledger> Open<A, L> {
             (option_map (key_at (record { size = size; node = node; next = next }))
             (option_map value self.old.spare)) }
     {
-        let place = Place { size, node, next };
+        let place = OpenPlace { size, node, next };
         let node = node.0 as usize;
         exchange(&mut self.best[node], &mut self.spare, place);
         let order = ByRoute {
@@ -175,7 +175,7 @@ impl<A: Algebra, L: Ledger> Open<A, L> {
 fn beats<A: Algebra>(
     algebra: &A,
     sig: &A::Sig,
-    place: Place,
+    place: OpenPlace,
     best: &Option<OpenRoute<A::Sig>>,
 ) -> bool
     requires sig { A.is_sig algebra.now sig.now }
@@ -190,7 +190,7 @@ fn beats<A: Algebra>(
 }
 
 // Makes a route there of the spare value, and what the route had before the spare value.
-fn exchange<S: Drop>(best: &mut Option<OpenRoute<S>>, spare: &mut Option<S>, place: Place)
+fn exchange<S: Drop>(best: &mut Option<OpenRoute<S>>, spare: &mut Option<S>, place: OpenPlace)
     requires { spare.old ≢ None }
     ensures best { best.new ≡ option_map (λ sig. record { sig = sig; place = place }) spare.old }
     ensures spare { spare.new ≡ option_map (λ o. o.sig) best.old }

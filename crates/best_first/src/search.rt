@@ -16,7 +16,7 @@ ghost use Rattle.best_first.specs.State.{relaxed, CanSpeak, spoken};
 
 use crate::fixed::Fixed;
 use crate::open::Open;
-use crate::route::{OpenRoute, Place};
+use crate::route::{OpenPlace, OpenRoute};
 use alg_model::Algebra;
 use arc_labels::{NeighbourLabels, image_into};
 use meta_base::{DestId, NoMemory, NodeId};
@@ -51,7 +51,7 @@ pub(crate) fn offer_own<A: Algebra, L: Ledger>(
         let node = origin.node;
         let route = OpenRoute {
             sig: algebra.sig_of(alloc, &origin.value)?,
-            place: Place {
+            place: OpenPlace {
                 size: 1,
                 node,
                 next: node,
@@ -134,7 +134,7 @@ pub(crate) fn relax<A: Algebra, L: Ledger>(
     let size = fixed.paths.path(next.path).len() as u32 + 1;
     for listener in labels.of(node) {
         if fixed.rows[listener.node.0 as usize].is_none() {
-            let place = Place {
+            let place = OpenPlace {
                 size,
                 node: listener.node,
                 next: node,
@@ -151,7 +151,7 @@ fn offer_image<A: Algebra, L: Ledger>(
     algebra: &A,
     lab: &A::Lab,
     sig: &A::Sig,
-    place: Place,
+    place: OpenPlace,
     search: &mut Open<A, L>,
 ) -> Result<(), NoMemory>
     requires lab { (l : PureLabel) × A.stands_for algebra.now lab.now l }

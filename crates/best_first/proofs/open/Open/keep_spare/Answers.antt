@@ -1,7 +1,7 @@
 use Rattle.std.proofs.Common.{◌<◌, length, arith}
 use Rattle.std.proofs.lemmas.Bool.{false≢true}
 use Rattle.alg_model.specs.Carriers.{carrier_of}
-use Rattle.best_first.specs.declared.route.Place.{Place}
+use Rattle.best_first.specs.declared.route.OpenPlace.{OpenPlace}
 use Rattle.best_first.proofs.Offering.{better_judged, kept_sigs, kept_best}
 use Rattle.best_first.proofs.open.Open.keep_spare.Goals as goal
 
@@ -11,7 +11,7 @@ exchange-requires g c = λ misses. false≢true (rw misses at c.requires.wanted)
 pub raise-requires-clause-judged : goal.raise-requires-clause-judged
 raise-requires-clause-judged g c =
     let algebra = c.args.algebra.now in
-    let place : Place = record { size = c.args.size; node = c.args.node; next = c.args.next } in
+    let place : OpenPlace = record { size = c.args.size; node = c.args.node; next = c.args.next } in
     let value = g.A.Algebra.sig_value algebra in
     let is_sig = g.A.Algebra.is_sig algebra in
     let carrier = carrier_of (g.A.Algebra.expression algebra) in
@@ -22,7 +22,7 @@ raise-requires-clause-judged g c =
 pub returns-clause-sigs : goal.returns-clause-sigs
 returns-clause-sigs g c =
     let algebra = c.args.algebra.now in
-    let place : Place = record { size = c.args.size; node = c.args.node; next = c.args.next } in
+    let place : OpenPlace = record { size = c.args.size; node = c.args.node; next = c.args.next } in
     let value = g.A.Algebra.sig_value algebra in
     let is_sig = g.A.Algebra.is_sig algebra in
     let carrier = carrier_of (g.A.Algebra.expression algebra) in
@@ -33,7 +33,7 @@ returns-clause-sigs g c =
 pub returns-clause-best : goal.returns-clause-best
 returns-clause-best g c =
     let algebra = c.args.algebra.now in
-    let place : Place = record { size = c.args.size; node = c.args.node; next = c.args.next } in
+    let place : OpenPlace = record { size = c.args.size; node = c.args.node; next = c.args.next } in
     let value = g.A.Algebra.sig_value algebra in
     let is_sig = g.A.Algebra.is_sig algebra in
     let carrier = carrier_of (g.A.Algebra.expression algebra) in
