@@ -32,6 +32,11 @@ pub record IsOpen {S : Type 0} (value : S → PureValue) (is_sig : S → Type 0)
   pub sigs : AllFound (λ o. is_sig o.sig) best
   pub queue : IsQueue c reported (best_of value best) standing
 
+-- the values that the program keeps are the algebra's, and its tournament ranks the nodes by their best routes
+pub record AreRanked {S : Type 0} (value : S → PureValue) (is_sig : S → Type 0) (c : PureCarrier) (best : List (Option (OpenRoute S))) (standing : PureTournament) : Type 0 where
+  pub sigs : AllFound (λ o. is_sig o.sig) best
+  pub ranked : IsRanked c (best_of value best) standing
+
 -- whether there is a value, and its key there beats the best of the node
 abbrev pub is_wanted : PureCarrier → OpenPlace → Option PureValue → List (Option RouteKey) → Bool
 is_wanted c place None best = false

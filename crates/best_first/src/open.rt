@@ -4,7 +4,7 @@ ghost use Rattle.frontier.specs.Tournaments.{IsJudged, IsFirstSlot};
 ghost use Rattle.alg_model.specs.Carriers.{carrier_of};
 ghost use Rattle.best_first.specs.Found.{found_at, AllFound};
 ghost use Rattle.best_first.specs.Keys.{key_of, key_at, best_of, precedes, beats as beats_of};
-ghost use Rattle.best_first.specs.Queue.{IsOffered, IsOfferedOf, IsRanked, is_wanted};
+ghost use Rattle.best_first.specs.Queue.{IsOffered, IsOfferedOf, AreRanked, is_wanted};
 
 use crate::route::{ByRoute, OpenPlace, OpenRoute, comes_first};
 use alg_model::Algebra;
@@ -50,13 +50,11 @@ impl<A: Algebra, L: Ledger> Open<A, L> {
     pub(crate) fn offer(&mut self, algebra: &A, route: OpenRoute<A::Sig>)
         requires node { route.place.node.0 < vec_len self.old.best }
         requires sig { A.is_sig algebra.now route.sig }
-        requires sigs { AllFound (λ o. A.is_sig algebra.now o.sig) self.old.best.items }
-        requires ranked { IsRanked (carrier_of (A.expression algebra.now))
-            (best_of (A.sig_value algebra.now) self.old.best.items) self.old.standing }
+        requires ranked { AreRanked (A.sig_value algebra.now) (A.is_sig algebra.now)
+            (carrier_of (A.expression algebra.now)) self.old.best.items self.old.standing }
         ensures count { vec_len self.new.best ≡ vec_len self.old.best }
-        ensures sigs { AllFound (λ o. A.is_sig algebra.now o.sig) self.new.best.items }
-        ensures ranked { IsRanked (carrier_of (A.expression algebra.now))
-            (best_of (A.sig_value algebra.now) self.new.best.items) self.new.standing }
+        ensures ranked { AreRanked (A.sig_value algebra.now) (A.is_sig algebra.now)
+            (carrier_of (A.expression algebra.now)) self.new.best.items self.new.standing }
         ensures offered { let value = A.sig_value algebra.now in
             IsOffered (carrier_of (A.expression algebra.now)) (key_of value route)
             (best_of value self.old.best.items) (best_of value self.new.best.items) }
@@ -72,13 +70,11 @@ impl<A: Algebra, L: Ledger> Open<A, L> {
     pub(crate) fn offer_spare(&mut self, algebra: &A, place: OpenPlace)
         requires node { place.node.0 < vec_len self.old.best }
         requires sig { IfSome self.old.spare (A.is_sig algebra.now) }
-        requires sigs { AllFound (λ o. A.is_sig algebra.now o.sig) self.old.best.items }
-        requires ranked { IsRanked (carrier_of (A.expression algebra.now))
-            (best_of (A.sig_value algebra.now) self.old.best.items) self.old.standing }
+        requires ranked { AreRanked (A.sig_value algebra.now) (A.is_sig algebra.now)
+            (carrier_of (A.expression algebra.now)) self.old.best.items self.old.standing }
         ensures count { vec_len self.new.best ≡ vec_len self.old.best }
-        ensures sigs { AllFound (λ o. A.is_sig algebra.now o.sig) self.new.best.items }
-        ensures ranked { IsRanked (carrier_of (A.expression algebra.now))
-            (best_of (A.sig_value algebra.now) self.new.best.items) self.new.standing }
+        ensures ranked { AreRanked (A.sig_value algebra.now) (A.is_sig algebra.now)
+            (carrier_of (A.expression algebra.now)) self.new.best.items self.new.standing }
         ensures offered { let value = A.sig_value algebra.now in
             IsOfferedOf (carrier_of (A.expression algebra.now)) place (option_map value self.old.spare)
             (best_of value self.old.best.items) (best_of value self.new.best.items) }
@@ -110,16 +106,14 @@ impl<A: Algebra, L: Ledger> Open<A, L> {
     fn keep_spare(&mut self, algebra: &A, size: u32, node: NodeId, next: NodeId)
         requires node { node.0 < vec_len self.old.best }
         requires sig { IfSome self.old.spare (A.is_sig algebra.now) }
-        requires sigs { AllFound (λ o. A.is_sig algebra.now o.sig) self.old.best.items }
-        requires ranked { IsRanked (carrier_of (A.expression algebra.now))
-            (best_of (A.sig_value algebra.now) self.old.best.items) self.old.standing }
+        requires ranked { AreRanked (A.sig_value algebra.now) (A.is_sig algebra.now)
+            (carrier_of (A.expression algebra.now)) self.old.best.items self.old.standing }
         requires wanted { let value = A.sig_value algebra.now in
             is_wanted (carrier_of (A.expression algebra.now)) (record { size = size; node = node; next = next })
             (option_map value self.old.spare) (best_of value self.old.best.items) ≡ true }
         ensures count { vec_len self.new.best ≡ vec_len self.old.best }
-        ensures sigs { AllFound (λ o. A.is_sig algebra.now o.sig) self.new.best.items }
-        ensures ranked { IsRanked (carrier_of (A.expression algebra.now))
-            (best_of (A.sig_value algebra.now) self.new.best.items) self.new.standing }
+        ensures ranked { AreRanked (A.sig_value algebra.now) (A.is_sig algebra.now)
+            (carrier_of (A.expression algebra.now)) self.new.best.items self.new.standing }
         ensures best { let value = A.sig_value algebra.now in
             best_of value self.new.best.items ≡
             set (best_of value self.old.best.items) node.0
@@ -139,9 +133,8 @@ impl<A: Algebra, L: Ledger> Open<A, L> {
     // Takes out the best route of all, if a route is open.
     pub(crate) fn take_best(&mut self, algebra: &A) -> Option<OpenRoute<A::Sig>>
         requires places { (k : ℕ) → IfSome (found_at self.old.best.items k) (λ o. o.place.node.0 ≡ k) }
-        requires sigs { AllFound (λ o. A.is_sig algebra.now o.sig) self.old.best.items }
-        requires ranked { IsRanked (carrier_of (A.expression algebra.now))
-            (best_of (A.sig_value algebra.now) self.old.best.items) self.old.standing }
+        requires ranked { AreRanked (A.sig_value algebra.now) (A.is_sig algebra.now)
+            (carrier_of (A.expression algebra.now)) self.old.best.items self.old.standing }
         ensures count { vec_len self.new.best ≡ vec_len self.old.best }
         ensures none { IfNone result ((k : ℕ) → found_at self.old.best.items k ≡ None) }
         ensures route { IfSome result (λ route. found_at self.old.best.items route.place.node.0 ≡ Some route) }
@@ -149,9 +142,8 @@ impl<A: Algebra, L: Ledger> Open<A, L> {
             (best_of (A.sig_value algebra.now) self.old.best.items)) (length self.old.best.items) route.place.node.0) }
         ensures taken { IfSome result (λ route.
             self.new.best.items ≡ set self.old.best.items route.place.node.0 None) }
-        ensures sigs { AllFound (λ o. A.is_sig algebra.now o.sig) self.new.best.items }
-        ensures ranked { IsRanked (carrier_of (A.expression algebra.now))
-            (best_of (A.sig_value algebra.now) self.new.best.items) self.new.standing }
+        ensures ranked { AreRanked (A.sig_value algebra.now) (A.is_sig algebra.now)
+            (carrier_of (A.expression algebra.now)) self.new.best.items self.new.standing }
     {
         if self.best.is_empty() {
             return None;

@@ -8,10 +8,10 @@ ghost use Rattle.alg_model.specs.Application.{App};
 ghost use Rattle.alg_model.specs.Bounds.{AtMost};
 ghost use Rattle.net_graph.specs.Nets.{CanBeNumbered, IsNet};
 ghost use Rattle.net_graph.specs.Tables.{carrier};
-ghost use Rattle.best_first.specs.Found.{found_at, AllFound, own_offer};
+ghost use Rattle.best_first.specs.Found.{found_at, own_offer};
 ghost use Rattle.best_first.specs.Keys.{best_of, routes_of};
 ghost use Rattle.best_first.specs.Fixed.{reported_by, open_routes, AreFixedBy, FixesNone, FixesNext};
-ghost use Rattle.best_first.specs.Queue.{IsOpen, IsOfferedOf, IsRanked, no_route};
+ghost use Rattle.best_first.specs.Queue.{AreRanked, IsOpen, IsOfferedOf, no_route};
 ghost use Rattle.best_first.specs.State.{relaxed, CanSpeak, spoken};
 
 use crate::fixed::Fixed;
@@ -158,13 +158,11 @@ fn offer_image<A: Algebra, L: Ledger>(
     requires sig { A.is_sig algebra.now sig.now }
     requires small { AtMost MAX_VALUE_NUMBER (A.sig_value algebra.now sig.now) }
     requires node { place.node.0 < vec_len search.old.best }
-    requires sigs { AllFound (λ o. A.is_sig algebra.now o.sig) search.old.best.items }
-    requires ranked { IsRanked (carrier_of (A.expression algebra.now))
-        (best_of (A.sig_value algebra.now) search.old.best.items) search.old.standing }
+    requires ranked { AreRanked (A.sig_value algebra.now) (A.is_sig algebra.now)
+        (carrier_of (A.expression algebra.now)) search.old.best.items search.old.standing }
     ensures count { vec_len search.new.best ≡ vec_len search.old.best }
-    ensures sigs { AllFound (λ o. A.is_sig algebra.now o.sig) search.new.best.items }
-    ensures ranked { IsRanked (carrier_of (A.expression algebra.now))
-        (best_of (A.sig_value algebra.now) search.new.best.items) search.new.standing }
+    ensures ranked { AreRanked (A.sig_value algebra.now) (A.is_sig algebra.now)
+        (carrier_of (A.expression algebra.now)) search.new.best.items search.new.standing }
     ensures offered { (l : PureLabel) → A.stands_for algebra.now lab.now l →
         let value = A.sig_value algebra.now in
         OnOk result (IsOfferedOf (carrier_of (A.expression algebra.now)) place

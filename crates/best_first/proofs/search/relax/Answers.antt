@@ -92,12 +92,12 @@ loop-listener-preserved g c =
           let offered = rw c.requires.algebra at (w.in_ok-offer_image.ensures.offered arc.label by.is_listener.label) in
           let new_best = w.offer_image.new.search.best.items in
           let new_t = w.offer_image.new.search.standing in
-          let ranked = rw c.requires.algebra at w.in_ok-offer_image.ensures.ranked in
+          let ranked = rw c.requires.algebra at w.in_ok-offer_image.ensures.ranked.ranked in
           let tail_within : tail < length (best_of value best) = omega (arith, tail_in, c.loop-listener.invariant.count, length-map best (option_map (key_of value))) in
           rw w.search-is record {
             count = w.in_ok-offer_image.ensures.count ∙ c.loop-listener.invariant.count;
             queue = record {
-              sigs = w.in_ok-offer_image.ensures.sigs;
+              sigs = w.in_ok-offer_image.ensures.ranked.sigs;
               queue = spoken_queue net c.requires.net (reported_by value paths rows) node m r by.arc place (best_of value best) (best_of value new_best) t new_t
                   reported can heard tail_within none size by.is_listener.node refl c.loop-listener.invariant.queue.queue offered ranked;
             };

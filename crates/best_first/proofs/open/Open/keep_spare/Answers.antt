@@ -17,7 +17,7 @@ raise-requires-clause-judged g c =
     let carrier = carrier_of (g.A.Algebra.expression algebra) in
     let best = c.args.self.now.best.items in
     let within : place.node.0 < length best = omega (arith, c.requires.node, c.args.self.now.best.ok.0) in
-    rw c.exchange.ensures.best (better_judged value is_sig carrier (g.met.A.Algebra.sig_in algebra) best c.requires.sigs c.args.self.now.standing c.requires.ranked place c.args.self.now.spare within c.requires.sig c.requires.wanted)
+    rw c.exchange.ensures.best (better_judged value is_sig carrier (g.met.A.Algebra.sig_in algebra) best c.requires.ranked.sigs c.args.self.now.standing c.requires.ranked.ranked place c.args.self.now.spare within c.requires.sig c.requires.wanted)
 
 pub returns-clause-sigs : goal.returns-clause-sigs
 returns-clause-sigs g c =
@@ -28,7 +28,7 @@ returns-clause-sigs g c =
     let carrier = carrier_of (g.A.Algebra.expression algebra) in
     let best = c.args.self.now.best.items in
     let within : place.node.0 < length best = omega (arith, c.requires.node, c.args.self.now.best.ok.0) in
-    rw c.exchange.ensures.best (kept_sigs value is_sig carrier (g.met.A.Algebra.sig_in algebra) best c.requires.sigs c.args.self.now.standing c.requires.ranked place c.args.self.now.spare within c.requires.sig)
+    rw c.exchange.ensures.best (kept_sigs value is_sig carrier (g.met.A.Algebra.sig_in algebra) best c.requires.ranked.sigs c.args.self.now.standing c.requires.ranked.ranked place c.args.self.now.spare within c.requires.sig)
 
 pub returns-clause-best : goal.returns-clause-best
 returns-clause-best g c =
@@ -38,4 +38,4 @@ returns-clause-best g c =
     let is_sig = g.A.Algebra.is_sig algebra in
     let carrier = carrier_of (g.A.Algebra.expression algebra) in
     let best = c.args.self.now.best.items in
-    rw c.exchange.ensures.best (kept_best value is_sig carrier (g.met.A.Algebra.sig_in algebra) best c.requires.sigs c.args.self.now.standing c.requires.ranked place c.args.self.now.spare)
+    rw c.exchange.ensures.best (kept_best value is_sig carrier (g.met.A.Algebra.sig_in algebra) best c.requires.ranked.sigs c.args.self.now.standing c.requires.ranked.ranked place c.args.self.now.spare)
