@@ -143,6 +143,7 @@ impl NetDraft {
         }
         added
     }
+
     /// Adds a destination of that name without an origin, with the next number. The name is 1 to 32
     /// letters, digits and bytes of `_-.`, no other destination has it, and there are fewer than
     /// [`crate::max_dests`] of the edition. After a refusal the draft is as it was.
