@@ -1,34 +1,29 @@
 // Tests of `flood`: rows and ends that are worked out by hand, and that hold whatever is delivered first, so for any
-// number of workers. Each node is sent, on each arc that a neighbour speaks on, the card of each node that the neighbour
-// reaches, once: so many deliveries there are.
+// number of workers; and drawn networks, on which it prints the rows of `route`. On each arc the speaker sends the card of
+// each node that it reaches, once: so many deliveries there are.
 use crate::program::{BAD_GADGET, CUSTOMERS, ended_with, is_missing, run_on};
-use crate::runs::{DISAGREE, WORKERS};
+use crate::routes::{
+    CHANGED, Draw, FULL_WIDTH, Policy, SHORT_THEN_WIDE, THREE_ARCS, WIDE, WIDE_SUMS, drawn_arcs,
+    network_of,
+};
+use crate::runs::{BOTH_WAYS, BOTH_WAYS_UNHEARD, DISAGREE, WORKERS};
 use crate::settled::{DIAMOND, PROVIDERS, SHORTEST, WIDE_THEN_SHORT};
+use crate::stable::is_at_rest;
+use std::alloc::AllocGlobal;
+use std::str;
+use std::sync::Wait;
 use std::test::Fail;
+use std::thread::Threads;
 
-const SHORT_THEN_WIDE: &[u8] = b"main lex(add(1..10), width(100; 0..100));";
-
-// The short way is the wide one's, by three arcs. Of a nobody hears, c reaches c and d, and b reaches c and d too.
-const THREE_ARCS: &[u8] = b"node a b c d
-link b d : (7,10)
-link c d : (1,6)
-link b c : (1,6)
-link a b : (1,5)
-origin x at d : (0,100)
-";
-
+// To a nobody listens, b reaches b, c and d, and c reaches c and d.
 const THREE_ARCS_FLOOD: &[u8] =
     b"a x (3,5) a b c d\nb x (2,6) b c d\nc x (1,6) c d\nd x (0,100) d\nquiet 7\n";
 
 // Each gets the other's card, and its own back.
-const BOTH_WAYS: &[u8] = b"node a b\nboth a b : 3\norigin x at b : 0\n";
-
 const BOTH_WAYS_FLOOD: &[u8] = b"a x 3 a b\nb x 0 b\nquiet 4\n";
 
 // What is still on its way is a card that is there already.
 const BOTH_WAYS_FEWER: &[u8] = b"a x 3 a b\nb x 0 b\nspent 3\n";
-
-const BOTH_WAYS_UNHEARD: &[u8] = b"a x none\nb x 0 b\nspent 0\n";
 
 // Two parts, of which neither hears of the other.
 const PARTS: &[u8] =
@@ -68,7 +63,7 @@ spent 0
 ";
 
 // Each of three nodes is sent three cards on each of two arcs.
-const RING: &[u8] = b"node a b c\nboth a b : 1\nboth b c : 1\nboth c a : 1\norigin x at a : 0\n";
+pub(crate) const RING: &[u8] = b"node a b c\nboth a b : 1\nboth b c : 1\nboth c a : 1\norigin x at a : 0\n";
 
 const RING_FLOOD: &[u8] = b"a x 0 a\nb x 1 b a\nc x 1 c a\nquiet 18\n";
 
@@ -77,32 +72,12 @@ const RING_FEWER: &[u8] = b"a x 0 a\nb x 1 b a\nc x 1 c a\nspent 17\n";
 const DIAMOND_FLOOD: &[u8] = b"a x 2 a b d\nb x 1 b d\nc x 1 c d\nd x 0 d\nquiet 6\n";
 
 // The flood is on the network after all its changes.
-const CHANGED: &[u8] = b"node a b c
-link a b : 1
-link b c : 1
-link a c : 5
-origin x at c : 0
-then link a b : 9
-then drop a c
-";
-
 const CHANGED_FLOOD: &[u8] = b"a x 10 a b c\nb x 1 b c\nc x 0 c\nquiet 3\n";
-
-// The labels on these arcs are fit, though others of the algebra aren't.
-const FULL_WIDTH: &[u8] = b"node a b\nlink a b : (100,1)\norigin x at b : (7,0)\n";
 
 const FULL_WIDTH_FLOOD: &[u8] = b"a x (7,1) a b\nb x (7,0) b\nquiet 1\n";
 
 // Sums pass a word of 64 bits.
-const LONG: &[u8] = b"raml 2; main add(1..18446744073709551615);";
-
-const LONG_ARCS: &[u8] = b"node a b c
-link a b : 18446744073709551615
-link b c : 18446744073709551615
-origin x at c : 18446744073709551615
-";
-
-const LONG_FLOOD: &[u8] = b"a x 55340232221128654845 a b c
+const WIDE_FLOOD: &[u8] = b"a x 55340232221128654845 a b c
 b x 36893488147419103230 b c
 c x 18446744073709551615 c
 quiet 3
@@ -131,7 +106,7 @@ const CASES: &[Case] = &[
     ("6", SHORTEST, DIAMOND, DIAMOND_FLOOD, 0),
     ("3", SHORTEST, CHANGED, CHANGED_FLOOD, 0),
     ("1", WIDE_THEN_SHORT, FULL_WIDTH, FULL_WIDTH_FLOOD, 0),
-    ("3", LONG, LONG_ARCS, LONG_FLOOD, 0),
+    ("3", WIDE_SUMS, WIDE, WIDE_FLOOD, 0),
     (
         "0",
         SHORTEST,
@@ -169,23 +144,34 @@ fn floods_are_spent_with_one_turn_fewer(rt: HostRuntime) -> Result<(), Fail> {
     Ok(())
 }
 
-// Where no flag is given, there are workers and turns enough, and the rows are those of `route`.
+// Whether a flood by so many workers ends on the drawn network with the rows of `route`.
+fn floods_to_routes(
+    rt: &(impl AllocGlobal + Threads + Wait + Sync),
+    workers: &str,
+    policy: Policy,
+    draw: &mut Draw,
+) -> Result<bool, Fail> {
+    let alloc = rt.alloc();
+    let arcs = drawn_arcs(alloc, draw)?;
+    let net = network_of(alloc, policy, &arcs)?;
+    let routed = run_on(rt, &["route", "f", "n"], policy.file(), net.as_bytes())?;
+    let words = ["flood", "f", "n", "--workers", workers];
+    let flooded = run_on(rt, &words, policy.file(), net.as_bytes())?;
+    is_at_rest(flooded, str::from_utf8(&routed.taken)?)
+}
+
 #[test]
-fn floods_print_the_rows_of_route(rt: HostRuntime) -> Result<(), Fail> {
-    let cases: &[(&[u8], &[u8])] = &[
-        (SHORT_THEN_WIDE, THREE_ARCS),
-        (SHORTEST, PARTS),
-        (SHORTEST, RING),
-        (SHORTEST, CHANGED),
-    ];
-    for (file, net) in cases {
-        let routed = run_on(&rt, &["route", "f", "n"], *file, *net)?;
-        let flooded = run_on(&rt, &["flood", "f", "n"], *file, *net)?;
-        let is_same = flooded
-            .taken
-            .as_slice()
-            .starts_with(routed.taken.as_slice());
-        assert!(rt; is_same && flooded.status == 0 && routed.status == 0);
+fn floods_of_drawn_networks_end_in_the_rows_of_route(rt: HostRuntime) -> Result<(), Fail> {
+    let mut draw = Draw { state: 1 };
+    for workers in WORKERS {
+        for policy in [Policy::Sum, Policy::Greatest, Policy::SumThenWidth] {
+            for _network in 0..5 {
+                assert!(rt;
+                    floods_to_routes(&rt, workers, policy, &mut draw)?,
+                    "by {workers}"
+                );
+            }
+        }
     }
     Ok(())
 }
