@@ -51,19 +51,9 @@ d y 0 d
 spent 7
 ";
 
-const PARTS_UNHEARD: &[u8] = b"a x none
-b x 0 b
-c x none
-d x none
-a y none
-b y none
-c y none
-d y 0 d
-spent 0
-";
-
 // Each of three nodes is sent three cards on each of two arcs.
-pub(crate) const RING: &[u8] = b"node a b c\nboth a b : 1\nboth b c : 1\nboth c a : 1\norigin x at a : 0\n";
+pub(crate) const RING: &[u8] =
+    b"node a b c\nboth a b : 1\nboth b c : 1\nboth c a : 1\norigin x at a : 0\n";
 
 const RING_FLOOD: &[u8] = b"a x 0 a\nb x 1 b a\nc x 1 c a\nquiet 18\n";
 
@@ -83,56 +73,66 @@ c x 18446744073709551615 c
 quiet 3
 ";
 
-// Turns, an expression and a network, what is printed, and the status.
-type Case = (
-    &'static str,
-    &'static [u8],
-    &'static [u8],
-    &'static [u8],
-    u8,
-);
+// Turns, an expression and a network, and what is printed.
+type Case = (&'static str, &'static [u8], &'static [u8], &'static [u8]);
 
-const CASES: &[Case] = &[
-    ("99", SHORT_THEN_WIDE, THREE_ARCS, THREE_ARCS_FLOOD, 0),
-    ("7", SHORT_THEN_WIDE, THREE_ARCS, THREE_ARCS_FLOOD, 0),
-    ("4", SHORTEST, BOTH_WAYS, BOTH_WAYS_FLOOD, 0),
-    ("3", SHORTEST, BOTH_WAYS, BOTH_WAYS_FEWER, 4),
-    ("0", SHORTEST, BOTH_WAYS, BOTH_WAYS_UNHEARD, 4),
-    ("8", SHORTEST, PARTS, PARTS_FLOOD, 0),
-    ("7", SHORTEST, PARTS, PARTS_FEWER, 4),
-    ("0", SHORTEST, PARTS, PARTS_UNHEARD, 4),
-    ("18", SHORTEST, RING, RING_FLOOD, 0),
-    ("17", SHORTEST, RING, RING_FEWER, 4),
-    ("6", SHORTEST, DIAMOND, DIAMOND_FLOOD, 0),
-    ("3", SHORTEST, CHANGED, CHANGED_FLOOD, 0),
-    ("1", WIDE_THEN_SHORT, FULL_WIDTH, FULL_WIDTH_FLOOD, 0),
-    ("3", WIDE_SUMS, WIDE, WIDE_FLOOD, 0),
-    (
-        "0",
-        SHORTEST,
-        b"node a\norigin x at a : 0\n",
-        b"a x 0 a\nquiet 0\n",
-        0,
-    ),
-    ("0", SHORTEST, b"", b"quiet 0\n", 0),
+const ONE_NODE: &[u8] = b"node a\norigin x at a : 0\n";
+
+const QUIET: &[Case] = &[
+    ("99", SHORT_THEN_WIDE, THREE_ARCS, THREE_ARCS_FLOOD),
+    ("7", SHORT_THEN_WIDE, THREE_ARCS, THREE_ARCS_FLOOD),
+    ("4", SHORTEST, BOTH_WAYS, BOTH_WAYS_FLOOD),
+    ("8", SHORTEST, PARTS, PARTS_FLOOD),
+    ("18", SHORTEST, RING, RING_FLOOD),
+    ("6", SHORTEST, DIAMOND, DIAMOND_FLOOD),
+    ("3", SHORTEST, CHANGED, CHANGED_FLOOD),
+    ("1", WIDE_THEN_SHORT, FULL_WIDTH, FULL_WIDTH_FLOOD),
+    ("3", WIDE_SUMS, WIDE, WIDE_FLOOD),
+    ("0", SHORTEST, ONE_NODE, b"a x 0 a\nquiet 0\n"),
+    ("0", SHORTEST, b"", b"quiet 0\n"),
 ];
 
-#[test]
-fn floods_by_any_workers_end_so(rt: HostRuntime) -> Result<(), Fail> {
-    for (turns, file, net, text, status) in CASES {
-        for workers in WORKERS {
-            let words = ["flood", "f", "n", "--turns", *turns, "--workers", workers];
-            let outcome = run_on(&rt, &words, *file, *net)?;
-            assert!(rt;
-                ended_with(outcome, *text, *status),
-                "with {turns} turns by {workers}: {text:?}"
-            );
+// Each but the first has one turn fewer than there are deliveries.
+const SPENT: &[Case] = &[
+    ("0", SHORTEST, BOTH_WAYS, BOTH_WAYS_UNHEARD),
+    ("3", SHORTEST, BOTH_WAYS, BOTH_WAYS_FEWER),
+    ("7", SHORTEST, PARTS, PARTS_FEWER),
+    ("17", SHORTEST, RING, RING_FEWER),
+];
+
+// Whether the flood of the case ends so, by each number of workers.
+fn ends_so(
+    rt: &(impl AllocGlobal + Threads + Wait + Sync),
+    case: &Case,
+    status: u8,
+) -> Result<bool, Fail> {
+    let (turns, file, net, text) = case;
+    for workers in WORKERS {
+        let words = ["flood", "f", "n", "--turns", *turns, "--workers", workers];
+        if !ended_with(run_on(rt, &words, *file, *net)?, *text, status) {
+            return Ok(false);
         }
+    }
+    Ok(true)
+}
+
+#[test]
+fn floods_with_turns_enough_are_quiet(rt: HostRuntime) -> Result<(), Fail> {
+    for case in QUIET {
+        assert!(rt; ends_so(&rt, case, 0)?, "{case:?}");
     }
     Ok(())
 }
 
-// One turn fewer than there are deliveries. Which one isn't made is the workers' choice, and with it what a knows.
+#[test]
+fn floods_with_fewer_turns_are_spent(rt: HostRuntime) -> Result<(), Fail> {
+    for case in SPENT {
+        assert!(rt; ends_so(&rt, case, 4)?, "{case:?}");
+    }
+    Ok(())
+}
+
+// Which delivery isn't made is the workers' choice, and with it what a knows.
 #[test]
 fn floods_are_spent_with_one_turn_fewer(rt: HostRuntime) -> Result<(), Fail> {
     for workers in WORKERS {
@@ -141,6 +141,8 @@ fn floods_are_spent_with_one_turn_fewer(rt: HostRuntime) -> Result<(), Fail> {
         let is_spent = outcome.taken.as_slice().ends_with(b"\nspent 6\n");
         assert!(rt; is_spent && outcome.status == 4, "by {workers}");
     }
+    let case = ("6", SHORT_THEN_WIDE, THREE_ARCS, THREE_ARCS_FLOOD);
+    assert!(rt; !ends_so(&rt, &case, 0)?);
     Ok(())
 }
 
