@@ -40,17 +40,6 @@ d y 0 d
 quiet 8
 ";
 
-const PARTS_FEWER: &[u8] = b"a x 1 a b
-b x 0 b
-c x none
-d x none
-a y none
-b y none
-c y 2 c d
-d y 0 d
-spent 7
-";
-
 // Each of three nodes is sent three cards on each of two arcs.
 pub(crate) const RING: &[u8] =
     b"node a b c\nboth a b : 1\nboth b c : 1\nboth c a : 1\norigin x at a : 0\n";
@@ -96,7 +85,6 @@ const QUIET: &[Case] = &[
 const SPENT: &[Case] = &[
     ("0", SHORTEST, BOTH_WAYS, BOTH_WAYS_UNHEARD),
     ("3", SHORTEST, BOTH_WAYS, BOTH_WAYS_FEWER),
-    ("7", SHORTEST, PARTS, PARTS_FEWER),
     ("17", SHORTEST, RING, RING_FEWER),
 ];
 
