@@ -11,7 +11,7 @@ ghost use Rattle.command_words.specs.declared.usage.Kind.TheVariants.{Demo};
 
 use crate::list::required_of;
 use crate::number::number_within;
-use crate::parts::{Part, Parts};
+use crate::parts::{Parts, WordPart};
 use crate::usage::{Flag, Kind, NumberFlag, Usage};
 use crate::{Command, Required, WordsFault};
 use meta_base::Text;
@@ -93,13 +93,15 @@ fn has_wrong_count(usage: &Usage, rest: &[Text]) -> bool
 fn misses_a_value(rest: &[Text]) -> bool
     ensures { result ≡ list_any misses_value (parts_from 1 rest.now) }
 {
-    Parts::after_command(rest).any(Part::misses_value)
+    Parts::after_command(rest).any(WordPart::misses_value)
 }
 
 fn argument_count(rest: &[Text]) -> usize
     ensures { result ≡ length (places (parts_from 1 rest.now)) }
 {
-    Parts::after_command(rest).filter_map(Part::place).count()
+    Parts::after_command(rest)
+        .filter_map(WordPart::place)
+        .count()
 }
 
 // The place of the argument with this number, from 0, if there are so many.
@@ -107,7 +109,7 @@ fn argument(rest: &[Text], number: usize) -> Option<usize>
     ensures { result ≡ slice_get (places (parts_from 1 rest.now)) number }
 {
     Parts::after_command(rest)
-        .filter_map(Part::place)
+        .filter_map(WordPart::place)
         .nth(number)
 }
 

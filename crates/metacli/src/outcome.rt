@@ -24,7 +24,7 @@ use report_check::{Judgement, ManyHops, ReportFault};
 use report_text::Refusal;
 use std::alloc::Global;
 use topology_file::{NetFault, NetFile};
-use vector_runs::{Phase, Run};
+use vector_runs::{Phase, PhasedRun};
 
 /// Why a command isn't carried out.
 #[derive(Clone, Copy, Debug)]
@@ -170,7 +170,7 @@ pub struct Ran {
     pub changed: List<Net>,
     /// Deliveries are printed.
     pub is_traced: bool,
-    pub run: Run,
+    pub run: PhasedRun,
 }
 
 /// The flood of flooding nodes on the network of a file, after its changes.
@@ -385,7 +385,7 @@ impl Ran {
     fn parts(self, alloc: Global) -> Parts
         ensures { AreParts result (pure_outcome (Outcome.Ran self)) }
     {
-        let Run {
+        let PhasedRun {
             past,
             last,
             is_quiet,
