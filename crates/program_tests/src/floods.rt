@@ -1,34 +1,29 @@
 // Tests of `flood`: rows and ends that are worked out by hand, and that hold whatever is delivered first, so for any
-// number of workers. Each node is sent, on each arc that a neighbour speaks on, the card of each node that the neighbour
-// reaches, once: so many deliveries there are.
+// number of workers; and drawn networks, on which it prints the rows of `route`. On each arc the speaker sends the card
+// of each node that it reaches, once: so many deliveries there are.
 use crate::program::{BAD_GADGET, CUSTOMERS, ended_with, is_missing, run_on};
-use crate::runs::{DISAGREE, WORKERS};
+use crate::routes::{
+    CHANGED, Draw, FULL_WIDTH, Policy, SHORT_THEN_WIDE, THREE_ARCS, WIDE, WIDE_SUMS, drawn_arcs,
+    network_of,
+};
+use crate::runs::{BOTH_WAYS, BOTH_WAYS_UNHEARD, DISAGREE, WORKERS};
 use crate::settled::{DIAMOND, PROVIDERS, SHORTEST, WIDE_THEN_SHORT};
+use crate::stable::is_at_rest;
+use std::alloc::AllocGlobal;
+use std::str;
+use std::sync::Wait;
 use std::test::Fail;
+use std::thread::Threads;
 
-const SHORT_THEN_WIDE: &[u8] = b"main lex(add(1..10), width(100; 0..100));";
-
-// The short way is the wide one's, by three arcs. Of a nobody hears, c reaches c and d, and b reaches c and d too.
-const THREE_ARCS: &[u8] = b"node a b c d
-link b d : (7,10)
-link c d : (1,6)
-link b c : (1,6)
-link a b : (1,5)
-origin x at d : (0,100)
-";
-
+// To a nobody listens, b reaches b, c and d, and c reaches c and d.
 const THREE_ARCS_FLOOD: &[u8] =
     b"a x (3,5) a b c d\nb x (2,6) b c d\nc x (1,6) c d\nd x (0,100) d\nquiet 7\n";
 
 // Each gets the other's card, and its own back.
-const BOTH_WAYS: &[u8] = b"node a b\nboth a b : 3\norigin x at b : 0\n";
-
 const BOTH_WAYS_FLOOD: &[u8] = b"a x 3 a b\nb x 0 b\nquiet 4\n";
 
 // What is still on its way is a card that is there already.
 const BOTH_WAYS_FEWER: &[u8] = b"a x 3 a b\nb x 0 b\nspent 3\n";
-
-const BOTH_WAYS_UNHEARD: &[u8] = b"a x none\nb x 0 b\nspent 0\n";
 
 // Two parts, of which neither hears of the other.
 const PARTS: &[u8] =
@@ -45,30 +40,9 @@ d y 0 d
 quiet 8
 ";
 
-const PARTS_FEWER: &[u8] = b"a x 1 a b
-b x 0 b
-c x none
-d x none
-a y none
-b y none
-c y 2 c d
-d y 0 d
-spent 7
-";
-
-const PARTS_UNHEARD: &[u8] = b"a x none
-b x 0 b
-c x none
-d x none
-a y none
-b y none
-c y none
-d y 0 d
-spent 0
-";
-
 // Each of three nodes is sent three cards on each of two arcs.
-const RING: &[u8] = b"node a b c\nboth a b : 1\nboth b c : 1\nboth c a : 1\norigin x at a : 0\n";
+pub(crate) const RING: &[u8] =
+    b"node a b c\nboth a b : 1\nboth b c : 1\nboth c a : 1\norigin x at a : 0\n";
 
 const RING_FLOOD: &[u8] = b"a x 0 a\nb x 1 b a\nc x 1 c a\nquiet 18\n";
 
@@ -77,87 +51,90 @@ const RING_FEWER: &[u8] = b"a x 0 a\nb x 1 b a\nc x 1 c a\nspent 17\n";
 const DIAMOND_FLOOD: &[u8] = b"a x 2 a b d\nb x 1 b d\nc x 1 c d\nd x 0 d\nquiet 6\n";
 
 // The flood is on the network after all its changes.
-const CHANGED: &[u8] = b"node a b c
-link a b : 1
-link b c : 1
-link a c : 5
-origin x at c : 0
-then link a b : 9
-then drop a c
-";
-
 const CHANGED_FLOOD: &[u8] = b"a x 10 a b c\nb x 1 b c\nc x 0 c\nquiet 3\n";
-
-// The labels on these arcs are fit, though others of the algebra aren't.
-const FULL_WIDTH: &[u8] = b"node a b\nlink a b : (100,1)\norigin x at b : (7,0)\n";
 
 const FULL_WIDTH_FLOOD: &[u8] = b"a x (7,1) a b\nb x (7,0) b\nquiet 1\n";
 
 // Sums pass a word of 64 bits.
-const LONG: &[u8] = b"raml 2; main add(1..18446744073709551615);";
-
-const LONG_ARCS: &[u8] = b"node a b c
-link a b : 18446744073709551615
-link b c : 18446744073709551615
-origin x at c : 18446744073709551615
-";
-
-const LONG_FLOOD: &[u8] = b"a x 55340232221128654845 a b c
+const WIDE_FLOOD: &[u8] = b"a x 55340232221128654845 a b c
 b x 36893488147419103230 b c
 c x 18446744073709551615 c
 quiet 3
 ";
 
-// Turns, an expression and a network, what is printed, and the status.
-type Case = (
-    &'static str,
-    &'static [u8],
-    &'static [u8],
-    &'static [u8],
-    u8,
-);
+// Turns, an expression and a network, and what is printed.
+type Case = (&'static str, &'static [u8], &'static [u8], &'static [u8]);
 
-const CASES: &[Case] = &[
-    ("99", SHORT_THEN_WIDE, THREE_ARCS, THREE_ARCS_FLOOD, 0),
-    ("7", SHORT_THEN_WIDE, THREE_ARCS, THREE_ARCS_FLOOD, 0),
-    ("4", SHORTEST, BOTH_WAYS, BOTH_WAYS_FLOOD, 0),
-    ("3", SHORTEST, BOTH_WAYS, BOTH_WAYS_FEWER, 4),
-    ("0", SHORTEST, BOTH_WAYS, BOTH_WAYS_UNHEARD, 4),
-    ("8", SHORTEST, PARTS, PARTS_FLOOD, 0),
-    ("7", SHORTEST, PARTS, PARTS_FEWER, 4),
-    ("0", SHORTEST, PARTS, PARTS_UNHEARD, 4),
-    ("18", SHORTEST, RING, RING_FLOOD, 0),
-    ("17", SHORTEST, RING, RING_FEWER, 4),
-    ("6", SHORTEST, DIAMOND, DIAMOND_FLOOD, 0),
-    ("3", SHORTEST, CHANGED, CHANGED_FLOOD, 0),
-    ("1", WIDE_THEN_SHORT, FULL_WIDTH, FULL_WIDTH_FLOOD, 0),
-    ("3", LONG, LONG_ARCS, LONG_FLOOD, 0),
-    (
-        "0",
-        SHORTEST,
-        b"node a\norigin x at a : 0\n",
-        b"a x 0 a\nquiet 0\n",
-        0,
-    ),
-    ("0", SHORTEST, b"", b"quiet 0\n", 0),
+const ONE_NODE: &[u8] = b"node a\norigin x at a : 0\n";
+
+// Turns enough, for any number of workers.
+const QUIET: &[Case] = &[
+    ("99", SHORT_THEN_WIDE, THREE_ARCS, THREE_ARCS_FLOOD),
+    ("4", SHORTEST, BOTH_WAYS, BOTH_WAYS_FLOOD),
+    ("99", SHORTEST, PARTS, PARTS_FLOOD),
+    ("99", SHORTEST, RING, RING_FLOOD),
+    ("99", SHORTEST, DIAMOND, DIAMOND_FLOOD),
+    ("99", SHORTEST, CHANGED, CHANGED_FLOOD),
+    ("99", WIDE_THEN_SHORT, FULL_WIDTH, FULL_WIDTH_FLOOD),
+    ("99", WIDE_SUMS, WIDE, WIDE_FLOOD),
+    ("0", SHORTEST, ONE_NODE, b"a x 0 a\nquiet 0\n"),
+    ("0", SHORTEST, b"", b"quiet 0\n"),
 ];
 
-#[test]
-fn floods_by_any_workers_end_so(rt: HostRuntime) -> Result<(), Fail> {
-    for (turns, file, net, text, status) in CASES {
-        for workers in WORKERS {
-            let words = ["flood", "f", "n", "--turns", *turns, "--workers", workers];
-            let outcome = run_on(&rt, &words, *file, *net)?;
-            assert!(rt;
-                ended_with(outcome, *text, *status),
-                "with {turns} turns by {workers}: {text:?}"
-            );
+// As many turns as there are deliveries, for one worker: several share so few turns out again and again, which takes
+// long on a busy machine.
+const JUST_ENOUGH: &[Case] = &[
+    ("7", SHORT_THEN_WIDE, THREE_ARCS, THREE_ARCS_FLOOD),
+    ("8", SHORTEST, PARTS, PARTS_FLOOD),
+    ("18", SHORTEST, RING, RING_FLOOD),
+    ("6", SHORTEST, DIAMOND, DIAMOND_FLOOD),
+    ("3", SHORTEST, CHANGED, CHANGED_FLOOD),
+];
+
+const SPENT: &[Case] = &[
+    ("0", SHORTEST, BOTH_WAYS, BOTH_WAYS_UNHEARD),
+    ("3", SHORTEST, BOTH_WAYS, BOTH_WAYS_FEWER),
+];
+
+// Whether the flood of the case ends so, by each of these numbers of workers.
+fn ends_so(
+    rt: &(impl AllocGlobal + Threads + Wait + Sync),
+    workers: &[&str],
+    case: &Case,
+    status: u8,
+) -> Result<bool, Fail> {
+    let (turns, file, net, text) = case;
+    for count in workers {
+        let words = ["flood", "f", "n", "--turns", *turns, "--workers", *count];
+        if !ended_with(run_on(rt, &words, *file, *net)?, *text, status) {
+            return Ok(false);
         }
+    }
+    Ok(true)
+}
+
+#[test]
+fn floods_with_turns_enough_are_quiet(rt: HostRuntime) -> Result<(), Fail> {
+    for case in QUIET {
+        assert!(rt; ends_so(&rt, &WORKERS, case, 0)?, "{case:?}");
+    }
+    for case in JUST_ENOUGH {
+        assert!(rt; ends_so(&rt, &["1"], case, 0)?, "{case:?}");
     }
     Ok(())
 }
 
-// One turn fewer than there are deliveries. Which one isn't made is the workers' choice, and with it what a knows.
+#[test]
+fn floods_with_fewer_turns_are_spent(rt: HostRuntime) -> Result<(), Fail> {
+    for case in SPENT {
+        assert!(rt; ends_so(&rt, &WORKERS, case, 4)?, "{case:?}");
+    }
+    let case = ("17", SHORTEST, RING, RING_FEWER);
+    assert!(rt; ends_so(&rt, &["1"], &case, 4)?);
+    Ok(())
+}
+
+// Which delivery isn't made is the workers' choice, and with it what a knows.
 #[test]
 fn floods_are_spent_with_one_turn_fewer(rt: HostRuntime) -> Result<(), Fail> {
     for workers in WORKERS {
@@ -166,26 +143,39 @@ fn floods_are_spent_with_one_turn_fewer(rt: HostRuntime) -> Result<(), Fail> {
         let is_spent = outcome.taken.as_slice().ends_with(b"\nspent 6\n");
         assert!(rt; is_spent && outcome.status == 4, "by {workers}");
     }
+    let case = ("6", SHORT_THEN_WIDE, THREE_ARCS, THREE_ARCS_FLOOD);
+    assert!(rt; !ends_so(&rt, &["1"], &case, 0)?);
     Ok(())
 }
 
-// Where no flag is given, there are workers and turns enough, and the rows are those of `route`.
+// Whether a flood by so many workers ends on the drawn network with the rows of `route`.
+fn floods_to_routes(
+    rt: &(impl AllocGlobal + Threads + Wait + Sync),
+    workers: &str,
+    policy: Policy,
+    draw: &mut Draw,
+) -> Result<bool, Fail> {
+    let alloc = rt.alloc();
+    let arcs = drawn_arcs(alloc, draw)?;
+    let net = network_of(alloc, policy, &arcs)?;
+    let routed = run_on(rt, &["route", "f", "n"], policy.file(), net.as_bytes())?;
+    let words = ["flood", "f", "n", "--workers", workers];
+    let flooded = run_on(rt, &words, policy.file(), net.as_bytes())?;
+    is_at_rest(flooded, str::from_utf8(&routed.taken)?)
+}
+
 #[test]
-fn floods_print_the_rows_of_route(rt: HostRuntime) -> Result<(), Fail> {
-    let cases: &[(&[u8], &[u8])] = &[
-        (SHORT_THEN_WIDE, THREE_ARCS),
-        (SHORTEST, PARTS),
-        (SHORTEST, RING),
-        (SHORTEST, CHANGED),
-    ];
-    for (file, net) in cases {
-        let routed = run_on(&rt, &["route", "f", "n"], *file, *net)?;
-        let flooded = run_on(&rt, &["flood", "f", "n"], *file, *net)?;
-        let is_same = flooded
-            .taken
-            .as_slice()
-            .starts_with(routed.taken.as_slice());
-        assert!(rt; is_same && flooded.status == 0 && routed.status == 0);
+fn floods_of_drawn_networks_end_in_the_rows_of_route(rt: HostRuntime) -> Result<(), Fail> {
+    let mut draw = Draw { state: 1 };
+    for workers in WORKERS {
+        for policy in [Policy::Sum, Policy::Greatest, Policy::SumThenWidth] {
+            for _network in 0..5 {
+                assert!(rt;
+                    floods_to_routes(&rt, workers, policy, &mut draw)?,
+                    "by {workers}"
+                );
+            }
+        }
     }
     Ok(())
 }
