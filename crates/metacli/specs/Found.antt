@@ -1,5 +1,5 @@
--- What is found on a network: its routes, next hops or a flood, or the first arc whose label isn't fit for them; and the tables of a
--- report with their judgement, or why there are none.
+-- What is found on a network: its routes, next hops or a flood, or the first arc whose label isn't fit for them; and the
+-- tables of a report with their judgement, or why there are none.
 use Rattle.std.specs.Prelude.{ℕ, List, map, Some, Result, Ok, Err}
 use Rattle.std.specs.List.{AllByRecursion}
 use Rattle.alg_classes.specs.Instances.{pure_instance}
