@@ -50,16 +50,18 @@ pub fn flood<R: AllocGlobal + Threads + Wait + Sync, G: Gate>(
     ensures printable { CanBeWritten result }
 {
     match flood_after(rt, &file, workers, turns, gate) {
-        Ok((after, Ok(run))) => {
-            drop(after);
-            Outcome::Flooded(Flooded { alg, file, run })
-        }
-        Ok((after, Err(missing))) => Outcome::Unfit(Unfit {
-            alg,
-            file,
-            after,
-            missing,
-        }),
+        Ok((after, found)) => match found {
+            Ok(run) => {
+                drop(after);
+                Outcome::Flooded(Flooded { alg, file, run })
+            }
+            Err(missing) => Outcome::Unfit(Unfit {
+                alg,
+                file,
+                after,
+                missing,
+            }),
+        },
         Err(NoMemory) => Outcome::Stopped {
             alg: Some(alg),
             file: Some(file),
