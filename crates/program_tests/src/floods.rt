@@ -99,7 +99,7 @@ const SPENT: &[Case] = &[
 // Whether the flood of the case ends so, by each of these numbers of workers.
 fn ends_so(
     rt: &(impl AllocGlobal + Threads + Wait + Sync),
-    workers: &[&str],
+    workers: &[&'static str],
     case: &Case,
     status: u8,
 ) -> Result<bool, Fail> {
