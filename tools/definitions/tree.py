@@ -95,8 +95,9 @@ class Tree:
             found.append(file.definitions.get(name) or file.makers.get(name) or self.meant(scopes, name, part))
         return found
 
-    def reached_from(self, file, name):
-        """The definitions that the contract of a function reaches, or None where there is no such function."""
+    def reached_from(self, file, name, without=()):
+        """The definitions that the contract of a function reaches, or None where there is no such function. What those of
+        the names `without` use is not followed from them."""
         code = self.read(file, Code)
         start = code.definitions.get(name) if code else None
         if start is None:
@@ -104,7 +105,7 @@ class Tree:
         found, waiting = {start.key(): start}, [start]
         while waiting:
             user = waiting.pop(0)
-            for it in self.uses(user):
+            for it in () if user.name in without else self.uses(user):
                 if it is not None and it.key() not in found:
                     found[it.key()], it.user = it, user
                     waiting.append(it)

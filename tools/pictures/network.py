@@ -155,7 +155,7 @@ def is_passed_over(words, nodes, dests):
 
 
 def read_rows(text, network):
-    """The rows of an output of route, stable, settle, run or trace."""
+    """The rows of an output of route, flood, stable, settle, run or trace."""
     rows, nodes, dests = Rows(), set(network.nodes), set(network.destinations())
     for number, line in enumerate(text.split('\n'), 1):
         if line.strip():

@@ -292,6 +292,11 @@ def read_trace(lines):
     return read_phases(lines, is_traced=True)
 
 
+def read_flood(lines):
+    """The one phase of a flood."""
+    return {'phases': [read_phase(lines, 0, is_traced=False)]}
+
+
 # For each command the statuses that its answer may come with, and what reads the text of that.
 READERS = {
     'check': ((0, 3), read_verdicts),
@@ -303,6 +308,7 @@ READERS = {
     'settle': ((0,), read_table),
     'run': ((0, 4), read_run),
     'trace': ((0, 4), read_trace),
+    'flood': ((0, 4), read_flood),
     'verify': ((0,), read_judgement),
     'demo': ((0,), read_summary),
 }

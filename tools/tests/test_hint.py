@@ -226,6 +226,8 @@ WORDS = [
     (['check', 'f', '--help'], 'meta check --help'),
     (['run', 'examples/shortest_path.raml', 'examples/diamond.net', '--turns', '0'], '--turns N'),
     (['run', 'examples/shortest_path.raml', 'examples/diamond.net', '--turns', '0'], 'isn\'t monotone'),
+    (['flood', 'examples/shortest_path.raml', 'examples/diamond.net', '--turns', '5'], 'a flood always ends by itself'),
+    (['flood', 'examples/customer_provider.raml', 'examples/providers.net'], 'isn\'t isotone, which `flood` needs'),
     (['route', 'examples/customer_provider.raml', 'examples/providers.net'], 'providers.net:3:12: '),
     (['settle', 'examples/bad_gadget.raml', 'examples/disagree.net'], 'disagree.net:6:12: '),
     (['settle', 'examples/bad_gadget.raml', 'examples/disagree.net'], 'or `stable`, where all labels are mono'),

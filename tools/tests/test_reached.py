@@ -158,6 +158,10 @@ class Reached(Folder):
     def test_the_longest(self):
         self.assertEqual(self.say('--longest', '1')[1], '5 crates/base/src/net.rt:1-10 Net\n')
 
+    def test_what_is_left_without_one(self):
+        self.assertEqual(self.say('--without', 'Outcome'), (0, 'total: 10 definitions, 28 lines\n', ''))
+        self.assertEqual(self.say('--without', 'not_reached')[0], 2)
+
     def test_why(self):
         chain = ['moment crates/base/specs/Words.antt:21-22', 'Shelf crates/base/src/shelf.rt:3-5',
                  'run_meta crates/metacli/src/top.rt:7-8']

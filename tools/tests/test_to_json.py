@@ -145,6 +145,12 @@ class Printed(Folder):
             {'phase': 1, 'rows': {'x': [{'node': 'a', 'value': '1', 'path': ['a']}]}, 'end': 'spent',
              'deliveries': 7}]})
 
+    def test_flood(self):
+        """It has one phase, of the rows that `route` prints, and after it nothing more."""
+        self.assertEqual(self.members(['flood', 'f', 'n'], 'a x none\nspent 3\n', 4), {'phases': [
+            {'phase': 0, 'rows': {'x': [{'node': 'a', 'value': None, 'path': []}]}, 'end': 'spent', 'deliveries': 3}]})
+        self.assert_unknown(['flood', 'f', 'n'], 'quiet 0\nphase 1\nquiet 0\n', 2)
+
     def test_delivery_or_row(self):
         """`1 b none` is a delivery from the node none to b, or the row of the node 1: their number decides."""
         text = '1 b none\n1 b none\nquiet 1\n'
@@ -296,6 +302,8 @@ class Program(Folder):
         phases[0]['journal'], phases[1]['journal'] = [{'clock': 1, 'listener': 'a', 'speaker': 'b'}], []
         self.assertEqual(self.json_of('trace', policy, network)['phases'], phases)
         self.assertEqual(self.json_of('run', policy, network, '--turns', '0')['phases'][0]['end'], 'spent')
+        self.assertEqual(self.json_of('flood', policy, network)['phases'], [
+            {'phase': 0, 'rows': {'x': none}, 'end': 'quiet', 'deliveries': 0}])
         self.assertEqual(self.json_of('demo', '1', '2')['summary']['end'], 'quiet')
 
     def test_labels_that_make_routes_better(self):

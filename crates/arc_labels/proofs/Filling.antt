@@ -4,6 +4,7 @@ use Rattle.std.proofs.lemmas.Bool.{cases_order}
 use Rattle.std.proofs.lemmas.List.{get_or-set_other, get_or-set_same, length-replicate}
 use Rattle.std.proofs.lemmas.Option.{same_Some, slice_get-map, slice_get_cases, slice_get_read, slice_get_within, get_or_from_slice_get}
 use Rattle.alg_model.specs.Expressions.{PureLabel}
+use Rattle.net_graph.specs.LabelLaws.{label_at}
 use Rattle.net_graph.specs.LabelNumbers.{AreLabelNumbers}
 use Rattle.net_graph.specs.Nets.{PureArc, PureNet}
 use Rattle.arc_labels.specs.Forms.{AreForms, HasForm, HasPlace, form_at, forms_at}
@@ -20,15 +21,6 @@ equal_or i j = elim (cases_order i j) [
   | inl same ↦ inl same
   | inr apart ↦ inr (λ e. elim apart [ inl less ↦ absurd (omega (arith, less, e)) | inr less ↦ absurd (omega (arith, less, e)) ])
 ]
-
--- the label of an arc stands at its number
-label_at : (net : PureNet) (numbers : List ℕ) (r : AreLabelNumbers net numbers) (k n : ℕ) (a : PureArc)
-    → slice_get numbers k ≡ Some n → slice_get net.arcs k ≡ Some a → slice_get r.labels n ≡ Some a.label
-label_at net numbers r k n a number arc =
-    same_Some (slice_get r.labels n) (Some a.label)
-    (sym (slice_get-map (slice_get r.labels) numbers k ∙ ap (option_map (slice_get r.labels)) number)
-    ∙ ap (λ xs. slice_get xs k) r.places
-    ∙ slice_get-map (λ (b : PureArc). Some b.label) net.arcs k ∙ ap (option_map (λ (b : PureArc). Some b.label)) arc)
 
 nothing : {L : Type 0} (count n : ℕ) (form : L) → get_or (replicate count None) n None ≡ Some form → ⊥
 nothing zero n form e = absurd (cc)

@@ -9,7 +9,7 @@ use Rattle.alg_model.specs.Expressions.{PureCarrier, PureValue}
 use Rattle.alg_model.specs.Carriers.{In}
 use Rattle.net_graph.specs.Tables.{Reported}
 use Rattle.best_first.specs.declared.route.OpenRoute.{OpenRoute}
-use Rattle.best_first.specs.declared.route.Place.{Place}
+use Rattle.best_first.specs.declared.route.OpenPlace.{OpenPlace}
 use Rattle.best_first.specs.Found.{found-map, found_at, AllFound}
 use Rattle.best_first.specs.KeyOrder.{found_in, slots_asymmetric, slots_transitive}
 use Rattle.best_first.specs.Keys.{key_of, best_of, precedes, key_at}
@@ -32,7 +32,7 @@ module _ {S : Type 0} (value : S → PureValue) (is_sig : S → Type 0) (c : Pur
     taken_judged i within = rw (written i None) (replay_asks c (best_of value best) i None (omega (arith, within, length-map best (option_map (key_of value)))) t ranked.judged)
 
     -- the route there with the spare value is kept
-    pub better_judged : (place : Place) (spare : Option S) → place.node.0 < length best → IfSome spare is_sig → is_wanted c place (option_map value spare) (best_of value best) ≡ true
+    pub better_judged : (place : OpenPlace) (spare : Option S) → place.node.0 < length best → IfSome spare is_sig → is_wanted c place (option_map value spare) (best_of value best) ≡ true
         → IsJudgedBut (precedes c (best_of value (set best place.node.0 (option_map (λ sig. record { sig = sig; place = place }) spare)))) t place.node.0
     better_judged place None within is wanted = absurd (false≢true wanted)
     better_judged place (Some sig) within is wanted =
@@ -40,14 +40,14 @@ module _ {S : Type 0} (value : S → PureValue) (is_sig : S → Type 0) (c : Pur
         (raise_asks c (best_of value best) place.node.0 (key_at place (value sig)) (omega (arith, within, length-map best (option_map (key_of value)))) (sig_in sig is)
         (found_in value is_sig c sig_in best sigs) wanted t ranked.judged)
 
-    pub kept_sigs : (place : Place) (spare : Option S) → place.node.0 < length best → IfSome spare is_sig → AllFound (λ o. is_sig o.sig) (set best place.node.0 (option_map (λ sig. record { sig = sig; place = place }) spare))
+    pub kept_sigs : (place : OpenPlace) (spare : Option S) → place.node.0 < length best → IfSome spare is_sig → AllFound (λ o. is_sig o.sig) (set best place.node.0 (option_map (λ sig. record { sig = sig; place = place }) spare))
     kept_sigs place spare within is = all-set (λ o. is_sig o.sig) best place.node.0 (option_map (λ sig. record { sig = sig; place = place }) spare) within sigs (by spare is)
       where
         by : (o : Option S) → IfSome o is_sig → IfSome (option_map {U = OpenRoute S} (λ sig. record { sig = sig; place = place }) o) (λ o. is_sig o.sig)
         by None h = tt
         by (Some sig) h = h
 
-    pub kept_best : (place : Place) (spare : Option S) → best_of value (set best place.node.0 (option_map (λ sig. record { sig = sig; place = place }) spare))
+    pub kept_best : (place : OpenPlace) (spare : Option S) → best_of value (set best place.node.0 (option_map (λ sig. record { sig = sig; place = place }) spare))
         ≡ set (best_of value best) place.node.0 (option_map (key_at place) (option_map value spare))
     kept_best place spare = written place.node.0 (option_map (λ sig. record { sig = sig; place = place }) spare) ∙ ap (set (best_of value best) place.node.0) (by spare)
       where

@@ -15,7 +15,7 @@ use Rattle.net_graph.specs.Routes.{PureRoute}
 use Rattle.net_graph.specs.Tables.{Reported, carrier}
 use Rattle.net_graph.specs.Walks.{along}
 use Rattle.best_first.specs.declared.route.OpenRoute.{OpenRoute}
-use Rattle.best_first.specs.declared.route.Place.{Place}
+use Rattle.best_first.specs.declared.route.OpenPlace.{OpenPlace}
 use Rattle.best_first.specs.Found.{found-map, found_at, better_of, arc_offer}
 use Rattle.best_first.specs.Keys.{RouteKey, key_of, key_at, best_of, route_of, routes_of, precedes, path_or_none}
 use Rattle.best_first.specs.Queue.{IsRanked, IsQueue, IsOpen, IsOffered, IsOfferedOf, no_route}
@@ -50,7 +50,7 @@ pub nothing_found : {S : Type 0} (value : S → PureValue) (reported : Reported)
 nothing_found value reported best none k = found-map (route_of reported) (best_of value best) k ∙ ap (option_map (route_of reported)) (found-map (key_of value) best k ∙ ap (option_map (key_of value)) (none k))
 
 -- the offer of the next arc was made
-module _ (net : PureNet) (n : IsNet net) (reported : Reported) (i m : ℕ) (r : PureRoute) (a : PureArc) (place : Place) (best new_best : List (Option RouteKey)) (t new_t : PureTournament) (is_reported : reported i ≡ Some r)
+module _ (net : PureNet) (n : IsNet net) (reported : Reported) (i m : ℕ) (r : PureRoute) (a : PureArc) (place : OpenPlace) (best new_best : List (Option RouteKey)) (t new_t : PureTournament) (is_reported : reported i ≡ Some r)
     (can : CanSpeak net i r) (heard : IsHeard net i m a) (within : a.tail < length best) (is_open : reported a.tail ≡ None) (size : place.size ≡ length r.path + 1) (node : place.node.0 ≡ a.tail) (next : place.next.0 ≡ i)
     (q : IsQueue (carrier net) reported best t) (offered : IsOfferedOf (carrier net) place (App net.alg.expression a.label r.value) best new_best) (ranked : IsRanked (carrier net) new_best new_t)
   where

@@ -7,7 +7,7 @@ use Rattle.alg_model.specs.Carriers.{Order}
 use Rattle.net_graph.specs.Routes.{PureRoute, is_less}
 use Rattle.net_graph.specs.Tables.{Reported}
 use Rattle.best_first.specs.declared.route.OpenRoute.{OpenRoute}
-use Rattle.best_first.specs.declared.route.Place.{Place}
+use Rattle.best_first.specs.declared.route.OpenPlace.{OpenPlace}
 use Rattle.best_first.specs.Found.{found_at}
 
 -- an open route: its value, how many nodes its path has, its node, and the node after it
@@ -18,7 +18,7 @@ pub record RouteKey : Type 0 where
   pub next : ℕ
 
 -- by size, node and next
-abbrev pub compare_places : Place → Place → Ordering
+abbrev pub compare_places : OpenPlace → OpenPlace → Ordering
 compare_places p q = ordering_then (nat_cmp p.size q.size) (ordering_then (nat_cmp p.node.0 q.node.0) (nat_cmp p.next.0 q.next.0))
 
 -- by value, size, node and next
@@ -45,7 +45,7 @@ abbrev pub precedes : PureCarrier → List (Option RouteKey) → ℕ → ℕ →
 precedes c best k m = is_ahead c (found_at best k) (found_at best m)
 
 -- the key of a route with this value
-abbrev pub key_at : Place → PureValue → RouteKey
+abbrev pub key_at : OpenPlace → PureValue → RouteKey
 key_at place v = record { value = v; size = place.size; node = place.node.0; next = place.next.0 }
 
 -- the key of a route of the program, whose form of values stands for these

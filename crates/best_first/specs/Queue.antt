@@ -7,7 +7,7 @@ use Rattle.alg_model.specs.Carriers.{In}
 use Rattle.net_graph.specs.Routes.{PureRoute}
 use Rattle.net_graph.specs.Tables.{Reported}
 use Rattle.best_first.specs.declared.route.OpenRoute.{OpenRoute}
-use Rattle.best_first.specs.declared.route.Place.{Place}
+use Rattle.best_first.specs.declared.route.OpenPlace.{OpenPlace}
 use Rattle.best_first.specs.Found.{found_at, AllFound, IsBestOf}
 use Rattle.best_first.specs.Keys.{RouteKey, key_at, best_of, routes_of, precedes, IsShaped, beats}
 
@@ -32,8 +32,13 @@ pub record IsOpen {S : Type 0} (value : S → PureValue) (is_sig : S → Type 0)
   pub sigs : AllFound (λ o. is_sig o.sig) best
   pub queue : IsQueue c reported (best_of value best) standing
 
+-- the values that the program keeps are the algebra's, and its tournament ranks the nodes by their best routes
+pub record AreRanked {S : Type 0} (value : S → PureValue) (is_sig : S → Type 0) (c : PureCarrier) (best : List (Option (OpenRoute S))) (standing : PureTournament) : Type 0 where
+  pub sigs : AllFound (λ o. is_sig o.sig) best
+  pub ranked : IsRanked c (best_of value best) standing
+
 -- whether there is a value, and its key there beats the best of the node
-abbrev pub is_wanted : PureCarrier → Place → Option PureValue → List (Option RouteKey) → Bool
+abbrev pub is_wanted : PureCarrier → OpenPlace → Option PureValue → List (Option RouteKey) → Bool
 is_wanted c place None best = false
 is_wanted c place (Some v) best = beats c (key_at place v) (found_at best place.node.0)
 
@@ -42,7 +47,7 @@ abbrev pub IsOffered : PureCarrier → RouteKey → List (Option RouteKey) → L
 IsOffered c key best new_best = MatchBool (beats c key (found_at best key.node)) (new_best ≡ set best key.node (Some key)) (new_best ≡ best)
 
 -- the same of the value that an offer has, if it has one
-abbrev pub IsOfferedOf : PureCarrier → Place → Option PureValue → List (Option RouteKey) → List (Option RouteKey) → Type 0
+abbrev pub IsOfferedOf : PureCarrier → OpenPlace → Option PureValue → List (Option RouteKey) → List (Option RouteKey) → Type 0
 IsOfferedOf c place None best new_best = new_best ≡ best
 IsOfferedOf c place (Some v) best new_best = IsOffered c (key_at place v) best new_best
 

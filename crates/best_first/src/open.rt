@@ -4,9 +4,9 @@ ghost use Rattle.frontier.specs.Tournaments.{IsJudged, IsFirstSlot};
 ghost use Rattle.alg_model.specs.Carriers.{carrier_of};
 ghost use Rattle.best_first.specs.Found.{found_at, AllFound};
 ghost use Rattle.best_first.specs.Keys.{key_of, key_at, best_of, precedes, beats as beats_of};
-ghost use Rattle.best_first.specs.Queue.{IsOffered, IsOfferedOf, IsRanked, is_wanted};
+ghost use Rattle.best_first.specs.Queue.{IsOffered, IsOfferedOf, AreRanked, is_wanted};
 
-use crate::route::{ByRoute, OpenRoute, Place, comes_first};
+use crate::route::{ByRoute, OpenPlace, OpenRoute, comes_first};
 use alg_model::Algebra;
 use frontier::{Steps, Tournament};
 use meta_base::{NoMemory, NodeId};
@@ -50,13 +50,11 @@ impl<A: Algebra, L: Ledger> Open<A, L> {
     pub(crate) fn offer(&mut self, algebra: &A, route: OpenRoute<A::Sig>)
         requires node { route.place.node.0 < vec_len self.old.best }
         requires sig { A.is_sig algebra.now route.sig }
-        requires sigs { AllFound (λ o. A.is_sig algebra.now o.sig) self.old.best.items }
-        requires ranked { IsRanked (carrier_of (A.expression algebra.now))
-            (best_of (A.sig_value algebra.now) self.old.best.items) self.old.standing }
+        requires ranked { AreRanked (A.sig_value algebra.now) (A.is_sig algebra.now)
+            (carrier_of (A.expression algebra.now)) self.old.best.items self.old.standing }
         ensures count { vec_len self.new.best ≡ vec_len self.old.best }
-        ensures sigs { AllFound (λ o. A.is_sig algebra.now o.sig) self.new.best.items }
-        ensures ranked { IsRanked (carrier_of (A.expression algebra.now))
-            (best_of (A.sig_value algebra.now) self.new.best.items) self.new.standing }
+        ensures ranked { AreRanked (A.sig_value algebra.now) (A.is_sig algebra.now)
+            (carrier_of (A.expression algebra.now)) self.new.best.items self.new.standing }
         ensures offered { let value = A.sig_value algebra.now in
             IsOffered (carrier_of (A.expression algebra.now)) (key_of value route)
             (best_of value self.old.best.items) (best_of value self.new.best.items) }
@@ -69,16 +67,14 @@ impl<A: Algebra, L: Ledger> Open<A, L> {
     // Offers the route there with the spare value, if there is one. It is kept where it is better than the node's
     // best, whose value is the spare one then.
     #[inline(always)]
-    pub(crate) fn offer_spare(&mut self, algebra: &A, place: Place)
+    pub(crate) fn offer_spare(&mut self, algebra: &A, place: OpenPlace)
         requires node { place.node.0 < vec_len self.old.best }
         requires sig { IfSome self.old.spare (A.is_sig algebra.now) }
-        requires sigs { AllFound (λ o. A.is_sig algebra.now o.sig) self.old.best.items }
-        requires ranked { IsRanked (carrier_of (A.expression algebra.now))
-            (best_of (A.sig_value algebra.now) self.old.best.items) self.old.standing }
+        requires ranked { AreRanked (A.sig_value algebra.now) (A.is_sig algebra.now)
+            (carrier_of (A.expression algebra.now)) self.old.best.items self.old.standing }
         ensures count { vec_len self.new.best ≡ vec_len self.old.best }
-        ensures sigs { AllFound (λ o. A.is_sig algebra.now o.sig) self.new.best.items }
-        ensures ranked { IsRanked (carrier_of (A.expression algebra.now))
-            (best_of (A.sig_value algebra.now) self.new.best.items) self.new.standing }
+        ensures ranked { AreRanked (A.sig_value algebra.now) (A.is_sig algebra.now)
+            (carrier_of (A.expression algebra.now)) self.new.best.items self.new.standing }
         ensures offered { let value = A.sig_value algebra.now in
             IsOfferedOf (carrier_of (A.expression algebra.now)) place (option_map value self.old.spare)
             (best_of value self.old.best.items) (best_of value self.new.best.items) }
@@ -90,7 +86,7 @@ impl<A: Algebra, L: Ledger> Open<A, L> {
 
     // Whether there is a spare value, and a route there with it is better than the node's best.
     #[inline(always)]
-    fn wants_spare(&self, algebra: &A, place: Place) -> bool
+    fn wants_spare(&self, algebra: &A, place: OpenPlace) -> bool
         requires node { place.node.0 < vec_len self.now.best }
         requires sig { IfSome self.now.spare (A.is_sig algebra.now) }
         requires sigs { AllFound (λ o. A.is_sig algebra.now o.sig) self.now.best.items }
@@ -110,23 +106,21 @@ impl<A: Algebra, L: Ledger> Open<A, L> {
     fn keep_spare(&mut self, algebra: &A, size: u32, node: NodeId, next: NodeId)
         requires node { node.0 < vec_len self.old.best }
         requires sig { IfSome self.old.spare (A.is_sig algebra.now) }
-        requires sigs { AllFound (λ o. A.is_sig algebra.now o.sig) self.old.best.items }
-        requires ranked { IsRanked (carrier_of (A.expression algebra.now))
-            (best_of (A.sig_value algebra.now) self.old.best.items) self.old.standing }
+        requires ranked { AreRanked (A.sig_value algebra.now) (A.is_sig algebra.now)
+            (carrier_of (A.expression algebra.now)) self.old.best.items self.old.standing }
         requires wanted { let value = A.sig_value algebra.now in
             is_wanted (carrier_of (A.expression algebra.now)) (record { size = size; node = node; next = next })
             (option_map value self.old.spare) (best_of value self.old.best.items) ≡ true }
         ensures count { vec_len self.new.best ≡ vec_len self.old.best }
-        ensures sigs { AllFound (λ o. A.is_sig algebra.now o.sig) self.new.best.items }
-        ensures ranked { IsRanked (carrier_of (A.expression algebra.now))
-            (best_of (A.sig_value algebra.now) self.new.best.items) self.new.standing }
+        ensures ranked { AreRanked (A.sig_value algebra.now) (A.is_sig algebra.now)
+            (carrier_of (A.expression algebra.now)) self.new.best.items self.new.standing }
         ensures best { let value = A.sig_value algebra.now in
             best_of value self.new.best.items ≡
             set (best_of value self.old.best.items) node.0
             (option_map (key_at (record { size = size; node = node; next = next }))
             (option_map value self.old.spare)) }
     {
-        let place = Place { size, node, next };
+        let place = OpenPlace { size, node, next };
         let node = node.0 as usize;
         exchange(&mut self.best[node], &mut self.spare, place);
         let order = ByRoute {
@@ -139,9 +133,8 @@ impl<A: Algebra, L: Ledger> Open<A, L> {
     // Takes out the best route of all, if a route is open.
     pub(crate) fn take_best(&mut self, algebra: &A) -> Option<OpenRoute<A::Sig>>
         requires places { (k : ℕ) → IfSome (found_at self.old.best.items k) (λ o. o.place.node.0 ≡ k) }
-        requires sigs { AllFound (λ o. A.is_sig algebra.now o.sig) self.old.best.items }
-        requires ranked { IsRanked (carrier_of (A.expression algebra.now))
-            (best_of (A.sig_value algebra.now) self.old.best.items) self.old.standing }
+        requires ranked { AreRanked (A.sig_value algebra.now) (A.is_sig algebra.now)
+            (carrier_of (A.expression algebra.now)) self.old.best.items self.old.standing }
         ensures count { vec_len self.new.best ≡ vec_len self.old.best }
         ensures none { IfNone result ((k : ℕ) → found_at self.old.best.items k ≡ None) }
         ensures route { IfSome result (λ route. found_at self.old.best.items route.place.node.0 ≡ Some route) }
@@ -149,9 +142,8 @@ impl<A: Algebra, L: Ledger> Open<A, L> {
             (best_of (A.sig_value algebra.now) self.old.best.items)) (length self.old.best.items) route.place.node.0) }
         ensures taken { IfSome result (λ route.
             self.new.best.items ≡ set self.old.best.items route.place.node.0 None) }
-        ensures sigs { AllFound (λ o. A.is_sig algebra.now o.sig) self.new.best.items }
-        ensures ranked { IsRanked (carrier_of (A.expression algebra.now))
-            (best_of (A.sig_value algebra.now) self.new.best.items) self.new.standing }
+        ensures ranked { AreRanked (A.sig_value algebra.now) (A.is_sig algebra.now)
+            (carrier_of (A.expression algebra.now)) self.new.best.items self.new.standing }
     {
         if self.best.is_empty() {
             return None;
@@ -175,7 +167,7 @@ impl<A: Algebra, L: Ledger> Open<A, L> {
 fn beats<A: Algebra>(
     algebra: &A,
     sig: &A::Sig,
-    place: Place,
+    place: OpenPlace,
     best: &Option<OpenRoute<A::Sig>>,
 ) -> bool
     requires sig { A.is_sig algebra.now sig.now }
@@ -190,7 +182,7 @@ fn beats<A: Algebra>(
 }
 
 // Makes a route there of the spare value, and what the route had before the spare value.
-fn exchange<S: Drop>(best: &mut Option<OpenRoute<S>>, spare: &mut Option<S>, place: Place)
+fn exchange<S: Drop>(best: &mut Option<OpenRoute<S>>, spare: &mut Option<S>, place: OpenPlace)
     requires { spare.old ≢ None }
     ensures best { best.new ≡ option_map (λ sig. record { sig = sig; place = place }) spare.old }
     ensures spare { spare.new ≡ option_map (λ o. o.sig) best.old }

@@ -15,21 +15,21 @@ use std::sync::ledger::Ledger;
 #[derive(Drop)]
 pub(crate) struct OpenRoute<S> {
     pub sig: S,
-    pub place: Place,
+    pub place: OpenPlace,
 }
 
 // Where an open route goes: how many nodes its path has, its node, and the node after it, which is fixed.
 // The route of the node's own origin has its node for the next.
 #[derive(Clone, Copy)]
-pub(crate) struct Place {
+pub(crate) struct OpenPlace {
     pub size: u32,
     pub node: NodeId,
     pub next: NodeId,
 }
 
-impl Place {
+impl OpenPlace {
     // By size, node and next: `Less` is the first.
-    fn compare(self, other: Place) -> Ordering
+    fn compare(self, other: OpenPlace) -> Ordering
         ensures { result ≡ compare_places self other }
     {
         let nodes = self.node.0.cmp(&other.node.0);
@@ -39,7 +39,7 @@ impl Place {
 }
 
 // Whether the first of two routes is better, whose values compare so.
-pub(crate) fn comes_first(values: Ordering, first: Place, second: Place) -> bool
+pub(crate) fn comes_first(values: Ordering, first: OpenPlace, second: OpenPlace) -> bool
     ensures { result ≡ is_less (ordering_then values (compare_places first second)) }
 {
     match values {

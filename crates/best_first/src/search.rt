@@ -8,15 +8,15 @@ ghost use Rattle.alg_model.specs.Application.{App};
 ghost use Rattle.alg_model.specs.Bounds.{AtMost};
 ghost use Rattle.net_graph.specs.Nets.{CanBeNumbered, IsNet};
 ghost use Rattle.net_graph.specs.Tables.{carrier};
-ghost use Rattle.best_first.specs.Found.{found_at, AllFound, own_offer};
+ghost use Rattle.best_first.specs.Found.{found_at, own_offer};
 ghost use Rattle.best_first.specs.Keys.{best_of, routes_of};
 ghost use Rattle.best_first.specs.Fixed.{reported_by, open_routes, AreFixedBy, FixesNone, FixesNext};
-ghost use Rattle.best_first.specs.Queue.{IsOpen, IsOfferedOf, IsRanked, no_route};
+ghost use Rattle.best_first.specs.Queue.{AreRanked, IsOpen, IsOfferedOf, no_route};
 ghost use Rattle.best_first.specs.State.{relaxed, CanSpeak, spoken};
 
 use crate::fixed::Fixed;
 use crate::open::Open;
-use crate::route::{OpenRoute, Place};
+use crate::route::{OpenPlace, OpenRoute};
 use alg_model::Algebra;
 use arc_labels::{NeighbourLabels, image_into};
 use meta_base::{DestId, NoMemory, NodeId};
@@ -51,7 +51,7 @@ pub(crate) fn offer_own<A: Algebra, L: Ledger>(
         let node = origin.node;
         let route = OpenRoute {
             sig: algebra.sig_of(alloc, &origin.value)?,
-            place: Place {
+            place: OpenPlace {
                 size: 1,
                 node,
                 next: node,
@@ -134,7 +134,7 @@ pub(crate) fn relax<A: Algebra, L: Ledger>(
     let size = fixed.paths.path(next.path).len() as u32 + 1;
     for listener in labels.of(node) {
         if fixed.rows[listener.node.0 as usize].is_none() {
-            let place = Place {
+            let place = OpenPlace {
                 size,
                 node: listener.node,
                 next: node,
@@ -151,20 +151,18 @@ fn offer_image<A: Algebra, L: Ledger>(
     algebra: &A,
     lab: &A::Lab,
     sig: &A::Sig,
-    place: Place,
+    place: OpenPlace,
     search: &mut Open<A, L>,
 ) -> Result<(), NoMemory>
     requires lab { (l : PureLabel) × A.stands_for algebra.now lab.now l }
     requires sig { A.is_sig algebra.now sig.now }
     requires small { AtMost MAX_VALUE_NUMBER (A.sig_value algebra.now sig.now) }
     requires node { place.node.0 < vec_len search.old.best }
-    requires sigs { AllFound (λ o. A.is_sig algebra.now o.sig) search.old.best.items }
-    requires ranked { IsRanked (carrier_of (A.expression algebra.now))
-        (best_of (A.sig_value algebra.now) search.old.best.items) search.old.standing }
+    requires ranked { AreRanked (A.sig_value algebra.now) (A.is_sig algebra.now)
+        (carrier_of (A.expression algebra.now)) search.old.best.items search.old.standing }
     ensures count { vec_len search.new.best ≡ vec_len search.old.best }
-    ensures sigs { AllFound (λ o. A.is_sig algebra.now o.sig) search.new.best.items }
-    ensures ranked { IsRanked (carrier_of (A.expression algebra.now))
-        (best_of (A.sig_value algebra.now) search.new.best.items) search.new.standing }
+    ensures ranked { AreRanked (A.sig_value algebra.now) (A.is_sig algebra.now)
+        (carrier_of (A.expression algebra.now)) search.new.best.items search.new.standing }
     ensures offered { (l : PureLabel) → A.stands_for algebra.now lab.now l →
         let value = A.sig_value algebra.now in
         OnOk result (IsOfferedOf (carrier_of (A.expression algebra.now)) place

@@ -2,7 +2,7 @@
 use Rattle.std.specs.Prelude.{ℕ, ◌+◌, List, [], ◌∷◌, Bool, true, false, not, ◌&&◌, nat_eq, Option, Some, None, option_map, is_none, if◌then◌else◌, codes}
 use Rattle.std.specs.List.{starts_with, filter_map, list_any}
 use Rattle.std.specs.Str.{bytes_eq}
-use Rattle.command_words.specs.declared.parts.Part as part
+use Rattle.command_words.specs.declared.parts.WordPart as part
 use Rattle.command_words.specs.declared.usage.Flag.{Flag}
 use Rattle.command_words.specs.Usages.{flag_word}
 
@@ -13,7 +13,7 @@ pub data PurePart : Type 0 where
   flag : List ℕ → Option (List ℕ) → PurePart
 
 -- the part without where its words lie in memory
-abbrev pub pure_part : part.Part → PurePart
+abbrev pub pure_part : part.WordPart → PurePart
 pure_part (part.TheVariants.Argument place word) = argument place word.now
 pure_part (part.TheVariants.Flag word value) = flag word.now (option_map (λ v. v.now) value)
 

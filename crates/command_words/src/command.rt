@@ -53,6 +53,14 @@ pub enum Command {
         workers: u32,
         turns: u64,
     },
+    /// `flood FILE NET [--workers W] [--turns N]` asks for the routes that nodes find for themselves, each from what it was
+    /// sent of the network, with so many workers and turns as for `run`.
+    Flood {
+        file: usize,
+        net: usize,
+        workers: u32,
+        turns: u64,
+    },
     /// `verify FILE NET REPORT` asks for a judgement of the table of routes in a report file: whether no walk beats its
     /// routes, and whether each is its node's choice.
     Verify {

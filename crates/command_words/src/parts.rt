@@ -7,7 +7,7 @@ use meta_base::Text;
 
 /// A part of the words after the command.
 #[derive(Clone, Copy)]
-pub enum Part<'a> {
+pub enum WordPart<'a> {
     /// An argument, and its place among all words.
     Argument {
         place: usize,
@@ -20,7 +20,7 @@ pub enum Part<'a> {
     },
 }
 
-impl<'a> Part<'a> {
+impl<'a> WordPart<'a> {
     ghost use Rattle.std.specs.Prelude.{option_map};
     ghost use Rattle.std.specs.List.{list_any};
     ghost use Rattle.command_words.specs.Parts.{pure_part, place_of, word_of, is_argument, value_of, misses_value, gives, is_unknown};
@@ -30,8 +30,8 @@ impl<'a> Part<'a> {
         ensures { result ≡ place_of (pure_part self.entry) }
     {
         match self {
-            Part::Argument { place, .. } => Some(place),
-            Part::Flag { .. } => None,
+            WordPart::Argument { place, .. } => Some(place),
+            WordPart::Flag { .. } => None,
         }
     }
 
@@ -40,7 +40,7 @@ impl<'a> Part<'a> {
         ensures { result.now ≡ word_of (pure_part self.entry) }
     {
         match self {
-            Part::Argument { word, .. } | Part::Flag { word, .. } => word,
+            WordPart::Argument { word, .. } | WordPart::Flag { word, .. } => word,
         }
     }
 
@@ -48,7 +48,7 @@ impl<'a> Part<'a> {
     pub fn is_argument(self) -> bool
         ensures { result ≡ is_argument (pure_part self.entry) }
     {
-        matches!(self, Part::Argument { .. })
+        matches!(self, WordPart::Argument { .. })
     }
 
     /// The value of a flag.
@@ -56,8 +56,8 @@ impl<'a> Part<'a> {
         ensures { option_map (λ v. v.now) result ≡ value_of (pure_part self.entry) }
     {
         match self {
-            Part::Argument { .. } => None,
-            Part::Flag { value, .. } => value,
+            WordPart::Argument { .. } => None,
+            WordPart::Flag { value, .. } => value,
         }
     }
 
@@ -65,7 +65,7 @@ impl<'a> Part<'a> {
     pub fn misses_value(self) -> bool
         ensures { result ≡ misses_value (pure_part self.entry) }
     {
-        matches!(self, Part::Flag { value: None, .. })
+        matches!(self, WordPart::Flag { value: None, .. })
     }
 
     /// Whether it is this flag.
@@ -73,8 +73,8 @@ impl<'a> Part<'a> {
         ensures { result ≡ gives flag (pure_part self.entry) }
     {
         match self {
-            Part::Argument { .. } => false,
-            Part::Flag { word, .. } => word == flag.word(),
+            WordPart::Argument { .. } => false,
+            WordPart::Flag { word, .. } => word == flag.word(),
         }
     }
 
@@ -133,21 +133,21 @@ impl<'a> Iterator for Parts<'a> {
     ghost use Rattle.command_words.specs.Parts.{pure_part};
     ghost use Rattle.command_words.specs.PartsLeft.{parts_left};
 
-    type Item = Part<'a>;
+    type Item = WordPart<'a>;
 
     ghost next_gives = { YieldsFirstBy pure_part parts_left };
 
     ghost remaining = { item_count parts_left };
 
     #[tactic(auto, using(crate::proofs::FirstParts::first_argument))]
-    fn next(&mut self) -> Option<Part<'a>> {
+    fn next(&mut self) -> Option<WordPart<'a>> {
         let place = self.place;
         let word = self.take_word()?;
         if is_flag(word) {
             let value = self.take_word();
-            Some(Part::Flag { word, value })
+            Some(WordPart::Flag { word, value })
         } else {
-            Some(Part::Argument { place, word })
+            Some(WordPart::Argument { place, word })
         }
     }
 }

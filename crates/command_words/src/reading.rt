@@ -4,14 +4,14 @@ ghost use Rattle.std.specs.List.{list_any, filter};
 ghost use Rattle.command_words.specs.Parts.{parts_from, places, word_of, is_argument, misses_value, is_unknown};
 ghost use Rattle.command_words.specs.Usages.{pure_usage, usage_of, limits_of};
 ghost use Rattle.command_words.specs.Words.{Words, HasItsWords, command_of, has_bad_flag, has_wrong_count, is_repeated, meaning_of, argument_number, number_of, required_in, value_given, with_numbers};
-ghost use Rattle.command_words.specs.declared.command.Command.TheVariants.{Check, Route, Run, Trace};
+ghost use Rattle.command_words.specs.declared.command.Command.TheVariants.{Check, Route, Run, Trace, Flood};
 ghost use Rattle.command_words.specs.declared.command.WordsFault.TheVariants.{BadList, BadNumber};
 ghost use Rattle.command_words.specs.declared.usage.NumberFlag.TheVariants.{Workers};
 ghost use Rattle.command_words.specs.declared.usage.Kind.TheVariants.{Demo};
 
 use crate::list::required_of;
 use crate::number::number_within;
-use crate::parts::{Part, Parts};
+use crate::parts::{Parts, WordPart};
 use crate::usage::{Flag, Kind, NumberFlag, Usage};
 use crate::{Command, Required, WordsFault};
 use meta_base::Text;
@@ -93,13 +93,15 @@ fn has_wrong_count(usage: &Usage, rest: &[Text]) -> bool
 fn misses_a_value(rest: &[Text]) -> bool
     ensures { result ≡ list_any misses_value (parts_from 1 rest.now) }
 {
-    Parts::after_command(rest).any(Part::misses_value)
+    Parts::after_command(rest).any(WordPart::misses_value)
 }
 
 fn argument_count(rest: &[Text]) -> usize
     ensures { result ≡ length (places (parts_from 1 rest.now)) }
 {
-    Parts::after_command(rest).filter_map(Part::place).count()
+    Parts::after_command(rest)
+        .filter_map(WordPart::place)
+        .count()
 }
 
 // The place of the argument with this number, from 0, if there are so many.
@@ -107,7 +109,7 @@ fn argument(rest: &[Text], number: usize) -> Option<usize>
     ensures { result ≡ slice_get (places (parts_from 1 rest.now)) number }
 {
     Parts::after_command(rest)
-        .filter_map(Part::place)
+        .filter_map(WordPart::place)
         .nth(number)
 }
 
@@ -140,6 +142,7 @@ fn command_of(kind: Kind, rest: &[Text]) -> Result<Command, WordsFault>
         }),
         Kind::Run => run_of(file, given_argument(rest, 1), rest),
         Kind::Trace => trace_of(file, given_argument(rest, 1), rest),
+        Kind::Flood => flood_of(file, given_argument(rest, 1), rest),
         Kind::Verify => Ok(Command::Verify {
             file,
             net: given_argument(rest, 1),
@@ -185,6 +188,18 @@ fn trace_of(file: usize, net: usize, rest: &[Text]) -> Result<Command, WordsFaul
 {
     let (workers, turns) = numbers_of(rest)?;
     Ok(Command::Trace {
+        file,
+        net,
+        workers,
+        turns,
+    })
+}
+
+fn flood_of(file: usize, net: usize, rest: &[Text]) -> Result<Command, WordsFault>
+    ensures { result ≡ ok_or (with_numbers (Flood file net) (parts_from 1 rest.now)) BadNumber }
+{
+    let (workers, turns) = numbers_of(rest)?;
+    Ok(Command::Flood {
         file,
         net,
         workers,

@@ -12,6 +12,7 @@ pub enum Kind {
     Stable,
     Run,
     Trace,
+    Flood,
     Verify,
     Hops,
     Gadget,
@@ -54,7 +55,7 @@ impl Kind {
     ghost use Rattle.command_words.specs.Usages.{has_word, kinds, pure_usage, usage_of};
 
     // All commands.
-    const ALL: [Kind; 11] = [
+    const ALL: [Kind; 12] = [
         Kind::Check,
         Kind::Code,
         Kind::Route,
@@ -62,6 +63,7 @@ impl Kind {
         Kind::Stable,
         Kind::Run,
         Kind::Trace,
+        Kind::Flood,
         Kind::Verify,
         Kind::Hops,
         Kind::Gadget,
@@ -80,6 +82,7 @@ impl Kind {
             Kind::Stable => Usage::of("stable", 2, 2, &[]),
             Kind::Run => Usage::of("run", 2, 2, &RUN_FLAGS),
             Kind::Trace => Usage::of("trace", 2, 2, &RUN_FLAGS),
+            Kind::Flood => Usage::of("flood", 2, 2, &RUN_FLAGS),
             Kind::Verify => Usage::of("verify", 3, 3, &[]),
             Kind::Hops => Usage::of("hops", 2, 2, &[]),
             Kind::Gadget => Usage::of("gadget", 1, 1, &[]),

@@ -56,7 +56,7 @@ pub fn reaching_is_tested()
     ensures { (net : PureNet) (i j : ℕ) → IsNet net → i < length net.nodes → (reaches net i j ≡ true) ↔ Reach net i j }
 {}
 
-/// A replay after which nothing is on its way has exactly as many deliveries as cards are told: over all nodes, one for
+/// A replay after which nothing is on its way has exactly as many deliveries as cards are sent: over all nodes, one for
 /// each node that it reaches and each arc that it speaks on. Any other replay has fewer.
 pub fn deliveries_are_counted()
     ensures drained { (net : PureNet) (nodes : List FloodState) (journal : List Delivery)

@@ -156,8 +156,8 @@ fn solve_told<A: Algebra>(
     place_tables(alloc, algebra, told, &labels, leaders, leader, found)
 }
 
-// Solves the network that the leader was told of for each destination, and puts the rows of the nodes that it leads in
-// their places.
+// Solves the network of the leader's cards for each destination, and puts the rows of the nodes that it leads in their
+// places.
 fn find_rows<A: Algebra>(
     alloc: Global,
     algebra: &A,
@@ -212,8 +212,8 @@ fn all_rows(
 }
 
 /// The rows that the nodes compute, by destination, then node: for each its row in the table that is made best first on
-/// the network that it was told of. The names come from the network; arcs and origins come from each node's own cards.
-/// What nodes that hold the same cards have in common is solved once for each destination.
+/// the network of its cards. A flood calls it at its end. The names come from the network; arcs and origins come from
+/// each node's own cards. What nodes that hold the same cards have in common is solved once for each destination.
 ///
 /// There is one begun node for each of the network, in order, and all cards that they hold are true. The algebra is the
 /// network's, in whatever form its values have. It is refused for want of memory alone.

@@ -1,4 +1,4 @@
-// The network that a node was told of, from the cards that it holds.
+// The network of the cards that a node holds.
 ghost use Rattle.std.specs.Prelude.{◌≡◌, ◌++◌, ◌<◌, [], ℕ, false, Some, IfOk, IfSome, OnOk, length, map, slice_get};
 ghost use Rattle.std.specs.Arc.{arc_value};
 ghost use Rattle.net_graph.specs.Lines.{arcs_with, empty_net};

@@ -19,7 +19,7 @@ pub fn quiet_floods_are_link_states()
     quiet_rows_are_link_states();
 }
 
-/// A flood ends before it is quiet exactly where it has fewer turns than cards are told: over all nodes, one for each
+/// A flood ends before it is quiet exactly where it has fewer turns than cards are sent: over all nodes, one for each
 /// node that it reaches and each arc that it speaks on. A quiet flood made as many deliveries.
 pub fn floods_are_spent_exactly()
     ensures spent { (net : PureNet) (turns : ℕ) (rows : List PureRow) (journal : List Delivery) (quiet : Bool)

@@ -1,5 +1,6 @@
 //! Floods: new flooding nodes of a network on several workers, until nothing is on its way or all turns are used up, and
-//! the rows that they compute then. It stands on `flood_node` and `node_runs`; it reads no words and prints nothing.
+//! the rows that they compute then, as the command `flood` gives them. It stands on `flood_node` and `node_runs`; it
+//! reads no words and prints nothing.
 #![tactic(auto)]
 
 mod finder;

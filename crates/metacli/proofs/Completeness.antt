@@ -1,5 +1,5 @@
 -- Without a fault nothing is given up.
-use Rattle.std.proofs.Common.{◌≡◌, ℕ, ◌≤◌, Bool, true, false, List, [], length, Option, Some, None, Result, Ok, Err, arith, refl, ap, ◌∙◌, subst, inl, inr, ⊎_elim}
+use Rattle.std.proofs.Common.{◌≡◌, ◌↔◌, ℕ, ◌<◌, ◌≤◌, Bool, true, false, if◌then◌else◌, List, [], length, Option, Some, None, Result, Ok, Err, arith, refl, ap, ◌∙◌, subst, inl, inr, ⊎_elim}
 use Rattle.meta_base.specs.Count.{HasRisen}
 use Rattle.meta_base.specs.Shelf.{Moment, Keeps}
 use Rattle.meta_base.specs.declared.ids.Which.{Which}
@@ -8,17 +8,18 @@ use Rattle.alg_model.specs.Expressions.{PureAlg, PureLabel}
 use Rattle.alg_model.specs.Application.{IsLabel}
 use Rattle.raml_syntax.specs.declared.faults.ExprFault.{ExprFault}
 use Rattle.raml_syntax.specs.ExprText.{ExprText, IsExprFault}
+use Rattle.flood_node.specs.Reach.{cards_told}
 use Rattle.net_facts.specs.MissingLaws.{first_refutes}
 use Rattle.net_graph.specs.Nets.{PureNet}
 use Rattle.net_graph.specs.Tables.{PureRow}
 use Rattle.report_check.specs.ReportText.{HasOneMeaning, ReportText}
 use Rattle.topology_file.specs.NetText.{PureNetFile, NetText, HasOneOutcome, changed_net}
 use Rattle.report_text.specs.Refusals.{PureRefusal, words, expr, network, report, misses, read, long, memory}
-use Rattle.metacli.specs.Answers.{done, refused}
+use Rattle.metacli.specs.Answers.{done, refused, spent}
 use Rattle.metacli.specs.Reading.{Holds, IsUntaken, IsReadAs, IsExprRefusal, IsNetRefusal, IsReportRefusal}
 use Rattle.metacli.specs.Outcome as outcome
-use Rattle.metacli.specs.Outcome.{PureOutcome, stopped, checked, coded, routed, hopped, wedged, ran, shown, answer_in, ComesBy, ComesOf, GoesOnFrom, GoesOnOver, GoesOnWith, IsCheckedAs, IsCodedAs, IsFit, IsHoppedAs, IsJudgedAs, IsMadeAlone, IsMadeOn, IsOnArc, IsRoutedAs, IsRunAs, IsShownAs, IsWedgedAs, WithNetwork, WithReport, asked_of, labels_on, word_at}
-use Rattle.metacli.specs.Complete.{CompleteBy, IsAnsweredAlone, IsAnsweredOn, IsCompleteOf, IsDecided, IsDone, IsFitFor, IsJudged, IsNetJudged, IsReportJudged, IsRunOut, IsReported, IsUnlessMemory}
+use Rattle.metacli.specs.Outcome.{PureOutcome, stopped, checked, coded, routed, hopped, wedged, ran, flooded, shown, answer_in, ComesBy, ComesOf, GoesOnFrom, GoesOnOver, GoesOnWith, IsCheckedAs, IsCodedAs, IsFit, IsFloodedAs, IsHoppedAs, IsJudgedAs, IsMadeAlone, IsMadeOn, IsOnArc, IsRoutedAs, IsRunAs, IsShownAs, IsWedgedAs, WithNetwork, WithReport, asked_of, labels_on, word_at}
+use Rattle.metacli.specs.Complete.{CompleteBy, IsAnsweredAlone, IsAnsweredOn, IsCompleteOf, IsDecided, IsDone, IsFitFor, IsFloodedOut, IsJudged, IsNetJudged, IsReportJudged, IsRunOut, IsReported, IsUnlessMemory}
 use Rattle.command_words.specs.declared.command.Command.{Command}
 use Rattle.command_words.specs.declared.command.Required.{Required}
 use Rattle.command_words.specs.declared.command.WordsFault.{WordsFault}
@@ -199,6 +200,7 @@ judged_done a file tables (routed s b f rows) h = absurd h
 judged_done a file tables (hopped b f many) h = absurd h
 judged_done a file tables (wedged b v) h = absurd h
 judged_done a file tables (ran b f t past last quiet) h = absurd h
+judged_done a file tables (flooded b f rows journal quiet) h = absurd h
 judged_done a file tables (shown b f last) h = absurd h
 
 report_judged : Laws → (a : PureAlg) (file : PureNetFile) (name bytes : List ℕ) (old new : Moment) (o : PureOutcome) (r : Result (List (List PureRow)) PureRefusal)
@@ -237,6 +239,7 @@ checked_done r a file S (hopped b f many) h = absurd h
 checked_done r a file S (outcome.judged b f tables j) h = absurd h
 checked_done r a file S (wedged b v) h = absurd h
 checked_done r a file S (ran b f t past last quiet) h = absurd h
+checked_done r a file S (flooded b f rows journal quiet) h = absurd h
 checked_done r a file S (shown b f last) h = absurd h
 
 wedged_done : (a : PureAlg) (o : PureOutcome) → IsWedgedAs a o → IsUnlessMemory o done
@@ -256,6 +259,7 @@ wedged_done a (routed s b f rows) h = absurd h
 wedged_done a (hopped b f many) h = absurd h
 wedged_done a (outcome.judged b f tables j) h = absurd h
 wedged_done a (ran b f t past last quiet) h = absurd h
+wedged_done a (flooded b f rows journal quiet) h = absurd h
 wedged_done a (shown b f last) h = absurd h
 
 coded_done : (a : PureAlg) (file : Option PureNetFile) (labels : List PureLabel) (o : PureOutcome) → IsCodedAs a file labels o → IsUnlessMemory o done
@@ -274,6 +278,7 @@ coded_done a file labels (hopped b f many) h = absurd h
 coded_done a file labels (outcome.judged b f tables j) h = absurd h
 coded_done a file labels (wedged b v) h = absurd h
 coded_done a file labels (ran b f t past last quiet) h = absurd h
+coded_done a file labels (flooded b f rows journal quiet) h = absurd h
 coded_done a file labels (shown b f last) h = absurd h
 
 -- a network whose labels are fit has no arc that doesn't have what is asked
@@ -293,6 +298,7 @@ routed_done solution a file (hopped b f many) h fit = absurd h
 routed_done solution a file (outcome.judged b f tables j) h fit = absurd h
 routed_done solution a file (wedged b v) h fit = absurd h
 routed_done solution a file (ran b f t past last quiet) h fit = absurd h
+routed_done solution a file (flooded b f rows journal quiet) h fit = absurd h
 routed_done solution a file (shown b f last) h fit = absurd h
 
 hopped_done : (a : PureAlg) (file : PureNetFile) (o : PureOutcome) → IsHoppedAs a file o → IsFit Unbeaten (changed_net file) → IsUnlessMemory o done
@@ -311,6 +317,7 @@ hopped_done a file (routed s b f rows) h fit = absurd h
 hopped_done a file (outcome.judged b f tables j) h fit = absurd h
 hopped_done a file (wedged b v) h fit = absurd h
 hopped_done a file (ran b f t past last quiet) h fit = absurd h
+hopped_done a file (flooded b f rows journal quiet) h fit = absurd h
 hopped_done a file (shown b f last) h fit = absurd h
 
 run_out : (traced : Bool) (turns : ℕ) (a : PureAlg) (file : PureNetFile) (o : PureOutcome) → IsRunAs traced turns a file o → IsRunOut o
@@ -330,7 +337,42 @@ run_out traced turns a file (routed s b f rows) h = absurd h
 run_out traced turns a file (hopped b f many) h = absurd h
 run_out traced turns a file (outcome.judged b f tables j) h = absurd h
 run_out traced turns a file (wedged b v) h = absurd h
+run_out traced turns a file (flooded b f rows journal quiet) h = absurd h
 run_out traced turns a file (shown b f last) h = absurd h
+
+-- a flood ends by its turns exactly where they are too few
+flood_ends : (turns all : ℕ) (o : PureOutcome) → (quiet : Bool) → (quiet ≡ false) ↔ (turns < all) → answer_in o ≡ (if quiet then done else spent) → all ≤ turns → answer_in o ≡ done
+flood_ends turns all o true exact e enough = e
+flood_ends turns all o false exact e enough = absurd (omega (arith, exact.0 refl, enough))
+
+flood_runs_out : (turns all : ℕ) (o : PureOutcome) → (quiet : Bool) → (quiet ≡ false) ↔ (turns < all) → answer_in o ≡ (if quiet then done else spent) → turns < all → answer_in o ≡ spent
+flood_runs_out turns all o true exact e few = let no : true ≡ false = exact.1 few in absurd cc
+flood_runs_out turns all o false exact e few = e
+
+flooded_out : (turns : ℕ) (a : PureAlg) (file : PureNetFile) (o : PureOutcome) → IsFloodedAs turns a file o → IsFit Unbeaten (changed_net file) → IsFloodedOut (changed_net file) turns o
+flooded_out turns a file (flooded b f rows journal quiet) h fit =
+    let all = cards_told (changed_net file) in
+    let exact = h.3.spent in
+    record {
+      ends = λ enough. inl (flood_ends turns all (flooded b f rows journal quiet) quiet exact refl enough);
+      runs_out = λ few. inl (flood_runs_out turns all (flooded b f rows journal quiet) quiet exact refl few);
+    }
+flooded_out turns a file (stopped b f (misses arc x)) h fit = absurd (first_refutes (asked_of Unbeaten) (changed_net file) arc x.property h.2.first fit)
+flooded_out turns a file (stopped b f memory) h fit = record { ends = λ enough. inr refl; runs_out = λ few. inr refl }
+flooded_out turns a file (stopped b f (words n)) h fit = absurd h
+flooded_out turns a file (stopped b f (expr g)) h fit = absurd h
+flooded_out turns a file (stopped b f (network g)) h fit = absurd h
+flooded_out turns a file (stopped b f (report g)) h fit = absurd h
+flooded_out turns a file (stopped b f (read w)) h fit = absurd h
+flooded_out turns a file (stopped b f (long w)) h fit = absurd h
+flooded_out turns a file (checked b f v u) h fit = absurd h
+flooded_out turns a file (coded b f listing) h fit = absurd h
+flooded_out turns a file (routed s b f rows) h fit = absurd h
+flooded_out turns a file (hopped b f many) h fit = absurd h
+flooded_out turns a file (outcome.judged b f tables j) h fit = absurd h
+flooded_out turns a file (wedged b v) h fit = absurd h
+flooded_out turns a file (ran b f t past last quiet) h fit = absurd h
+flooded_out turns a file (shown b f last) h fit = absurd h
 
 shown_out : (seed nodes : ℕ) (o : PureOutcome) → IsShownAs seed nodes o → IsDone o
 shown_out seed nodes (shown a f last) h = inl refl
@@ -351,6 +393,7 @@ shown_out seed nodes (hopped b f many) h = absurd h
 shown_out seed nodes (outcome.judged b f tables j) h = absurd h
 shown_out seed nodes (wedged b v) h = absurd h
 shown_out seed nodes (ran b f t past last quiet) h = absurd h
+shown_out seed nodes (flooded b f rows journal quiet) h = absurd h
 
 -- what is made of an algebra answers what was asked
 alone_answered : (asked : AlgebraTask) (a : PureAlg) (o : PureOutcome) → IsMadeAlone asked a o → IsAnsweredAlone asked o
@@ -365,19 +408,21 @@ alone_unless alone.Code o e = inr e
 alone_unless alone.Gadget o e = inr e
 
 -- what is made of a network file answers what was asked, where the network is fit
-on_answered : (asked : NetworkTask) (a : PureAlg) (f : PureNetFile) (o : PureOutcome) → IsMadeOn asked a f o → IsFitFor asked (changed_net f) → IsAnsweredOn asked o
+on_answered : (asked : NetworkTask) (a : PureAlg) (f : PureNetFile) (o : PureOutcome) → IsMadeOn asked a f o → IsFitFor asked (changed_net f) → IsAnsweredOn asked (changed_net f) o
 on_answered (joint.Check r) a f o h fit = checked_done r a (Some f) (IsOnArc (changed_net f)) o h
 on_answered joint.Code a f o h fit = coded_done a (Some f) (labels_on (changed_net f)) o h
 on_answered joint.Hops a f o h fit = hopped_done a f o h fit
 on_answered (joint.Route solution workers) a f o h fit = routed_done solution a f o h fit
 on_answered (joint.Run workers turns traced) a f o h fit = run_out traced turns a f o h
+on_answered (joint.Flood workers turns) a f o h fit = flooded_out turns a f o h fit
 
-on_unless : (asked : NetworkTask) (o : PureOutcome) → IsUnlessMemory o done → IsAnsweredOn asked o
-on_unless (joint.Check r) o d = inl d
-on_unless joint.Code o d = d
-on_unless joint.Hops o d = d
-on_unless (joint.Route solution workers) o d = d
-on_unless (joint.Run workers turns traced) o d = inl d
+on_unless : (asked : NetworkTask) (net : PureNet) (o : PureOutcome) → answer_in o ≡ refused memory → IsAnsweredOn asked net o
+on_unless (joint.Check r) net o e = inl (inr e)
+on_unless joint.Code net o e = inr e
+on_unless joint.Hops net o e = inr e
+on_unless (joint.Route solution workers) net o e = inr e
+on_unless (joint.Run workers turns traced) net o e = inl (inr e)
+on_unless (joint.Flood workers turns) net o e = record { ends = λ enough. inr e; runs_out = λ few. inr e }
 
 complete_of : Laws → (text : List (List ℕ)) (old new : Moment) (o : PureOutcome) (t : Task) → ComesOf text t old new o → IsCompleteOf text old new o t
 complete_of laws text old new o (task.Demo seed nodes) h = shown_out seed nodes o h.1
@@ -392,13 +437,13 @@ complete_of laws text old new o (task.Judge file net named) h = λ bytes net_byt
     (λ e net. report_judged_memory report_bytes o net e))
     (λ e a. net_judged_memory net_bytes (IsReportJudged report_bytes o) o a e (λ net. report_judged_memory report_bytes o net e))
 complete_of laws text old new o (task.On file net asked) h = λ bytes net_bytes t u quiet.
-    let Follows : PureNet → Type 0 = λ n. IsFitFor asked n → IsAnsweredOn asked o in
+    let Follows : PureNet → Type 0 = λ n. IsFitFor asked n → IsAnsweredOn asked n o in
     judged laws (word_at text file) bytes (λ a. WithNetwork a (word_at text net) (λ f old new o. (new ≡ old) × IsMadeOn asked a f o)) (IsNetJudged net_bytes Follows o)
     old h.between new o h.expression h.reads.as_read h.goes_on t quiet
     (λ a x. over_network laws a (word_at text net) net_bytes (λ f old new o. (new ≡ old) × IsMadeOn asked a f o) Follows old h.between new o h.reads.keeps x u quiet
     (λ f later k y fit. on_answered asked a f o y.1 fit)
-    (λ e n fit. on_unless asked o (inr e)))
-    (λ e a. net_judged_memory net_bytes Follows o a e (λ n fit. on_unless asked o (inr e)))
+    (λ e n fit. on_unless asked n o e))
+    (λ e a. net_judged_memory net_bytes Follows o a e (λ n fit. on_unless asked n o e))
 
 pub complete : Laws → (text : List (List ℕ)) (old new : Moment) (o : PureOutcome) (r : Result Command WordsFault) → ComesBy text r old new o → CompleteBy text old new o r
 complete laws text old new o (Ok c) h = complete_of laws text old new o (task_of c) h

@@ -2,6 +2,7 @@ mod Alike
 mod Arcs
 mod Codes
 mod Completeness
+mod Floods
 mod Found
 mod Missing
 mod NetsAfter

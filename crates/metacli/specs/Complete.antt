@@ -1,6 +1,6 @@
 -- Nothing is given up: without a fault, words that mean a command are carried out, or refused by their
 -- files alone, unless memory is refused.
-use Rattle.std.specs.Prelude.{◌≡◌, ℕ, ◌≤◌, ◌⊎◌, List, Some, Result, Ok, Err, IsTrue, length}
+use Rattle.std.specs.Prelude.{◌≡◌, ℕ, ◌<◌, ◌≤◌, ◌⊎◌, List, Some, Result, Ok, Err, IsTrue, length}
 use Rattle.meta_base.specs.Count.{HasRisen}
 use Rattle.meta_base.specs.Shelf.{Moment}
 use Rattle.meta_base.specs.Numbers.{max_file_bytes}
@@ -8,6 +8,7 @@ use Rattle.alg_model.specs.Expressions.{PureAlg}
 use Rattle.alg_model.specs.Properties.{PureProperty}
 use Rattle.raml_syntax.specs.ExprText.{ExprText, IsExprFault}
 use Rattle.raml_syntax.specs.declared.faults.ExprFault.{ExprFault}
+use Rattle.flood_node.specs.Reach.{cards_told}
 use Rattle.net_graph.specs.Nets.{PureNet}
 use Rattle.topology_file.specs.NetText.{PureNetFile, NetText, IsNetFault, changed_net}
 use Rattle.topology_file.specs.declared.faults.NetFault.{NetFault}
@@ -70,6 +71,11 @@ IsDecided o = IsDone o ⊎ ((p : PureProperty) × (answer_in o ≡ unmet p))
 abbrev pub IsRunOut : PureOutcome → Type 0
 IsRunOut o = IsDone o ⊎ (answer_in o ≡ spent)
 
+-- or all turns are used exactly where they are fewer than the cards that are told on the network
+pub record IsFloodedOut (net : PureNet) (turns : ℕ) (o : PureOutcome) : Type 0 where
+  pub ends : cards_told net ≤ turns → IsDone o
+  pub runs_out : turns < cards_told net → IsUnlessMemory o spent
+
 -- what a task on an algebra is answered by
 abbrev pub IsAnsweredAlone : AlgebraTask → PureOutcome → Type 0
 IsAnsweredAlone (alone.Check r) = IsDecided
@@ -80,14 +86,16 @@ IsAnsweredAlone alone.Gadget = IsDone
 abbrev pub IsFitFor : NetworkTask → PureNet → Type 0
 IsFitFor (joint.Route solution workers) = IsFit solution
 IsFitFor joint.Hops = IsFit Unbeaten
+IsFitFor (joint.Flood workers turns) = IsFit Unbeaten
 IsFitFor _ = IsAny
 
-abbrev pub IsAnsweredOn : NetworkTask → PureOutcome → Type 0
-IsAnsweredOn (joint.Check r) = IsDecided
-IsAnsweredOn joint.Code = IsDone
-IsAnsweredOn joint.Hops = IsDone
-IsAnsweredOn (joint.Route solution workers) = IsDone
-IsAnsweredOn (joint.Run workers turns traced) = IsRunOut
+abbrev pub IsAnsweredOn : NetworkTask → PureNet → PureOutcome → Type 0
+IsAnsweredOn (joint.Check r) net = IsDecided
+IsAnsweredOn joint.Code net = IsDone
+IsAnsweredOn joint.Hops net = IsDone
+IsAnsweredOn (joint.Route solution workers) net = IsDone
+IsAnsweredOn (joint.Run workers turns traced) net = IsRunOut
+IsAnsweredOn (joint.Flood workers turns) net = IsFloodedOut net turns
 
 -- where the shelf tells the files that a task reads, and no fault came, they are judged
 abbrev pub IsCompleteOf : List (List ℕ) → Moment → Moment → PureOutcome → Task → Type 0
@@ -97,7 +105,7 @@ IsCompleteOf words old new o (task.Alone file asked) = (bytes : List ℕ) → Is
 IsCompleteOf words old new o (task.Judge file net named) = (bytes net_bytes report_bytes : List ℕ) → IsReported old (word_at words file) bytes → IsReported old (word_at words net) net_bytes
     → IsReported old (word_at words named) report_bytes → ¬ HasRisen old.faults new.faults → IsJudged bytes (IsNetJudged net_bytes (IsReportJudged report_bytes o) o) o
 IsCompleteOf words old new o (task.On file net asked) = (bytes net_bytes : List ℕ) → IsReported old (word_at words file) bytes → IsReported old (word_at words net) net_bytes
-    → ¬ HasRisen old.faults new.faults → IsJudged bytes (IsNetJudged net_bytes (λ net. IsFitFor asked net → IsAnsweredOn asked o) o) o
+    → ¬ HasRisen old.faults new.faults → IsJudged bytes (IsNetJudged net_bytes (λ net. IsFitFor asked net → IsAnsweredOn asked net o) o) o
 
 abbrev pub CompleteBy : List (List ℕ) → Moment → Moment → PureOutcome → Result Command WordsFault → Type 0
 CompleteBy words old new o (Ok c) = IsCompleteOf words old new o (task_of c)

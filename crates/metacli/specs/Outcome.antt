@@ -1,5 +1,5 @@
 -- What a run comes to, by its words, and the end that shows it.
-use Rattle.std.specs.Prelude.{◌≡◌, ◌≤◌, ◌↔◌, ℕ, ◌+◌, Bool, true, false, ◌&&◌, find, if◌then◌else◌, List, [], ◌∷◌, ◌++◌, length, map, Option, Some, None, option_map, Result, Ok, Err, slice_index_or}
+use Rattle.std.specs.Prelude.{◌≡◌, ◌<◌, ◌≤◌, ◌↔◌, ℕ, ◌+◌, Bool, true, false, ◌&&◌, find, if◌then◌else◌, List, [], ◌∷◌, ◌++◌, length, map, Option, Some, None, option_map, Result, Ok, Err, slice_index_or}
 use Rattle.std.specs.List.{Contains}
 use Rattle.meta_base.specs.Shelf.{Moment}
 use Rattle.meta_base.specs.declared.ids.Delivery.{Delivery}
@@ -26,6 +26,8 @@ use Rattle.net_gen.specs.Networks.{demo_alg}
 use Rattle.vector_runs.specs.Runs.{PurePhase, IsRun, AreStable, pure_phase}
 use Rattle.vector_runs.specs.Turns.{AreMonotone, deliveries_left, deliveries_made}
 use Rattle.demo_rest.specs.Most.{demo_turns}
+use Rattle.flood_node.specs.Reach.{cards_told}
+use Rattle.flood_runs.specs.Floods.{IsFloodRun}
 use Rattle.report_text.specs.Refusals as refusal
 use Rattle.net_facts.specs.Misses.{IsFirstMissing, NetHasAll}
 use Rattle.report_text.specs.Refusals.{PureRefusal, misses, memory}
@@ -68,6 +70,8 @@ pub data PureOutcome : Type 0 where
   wedged : PureAlg → PureVerdict → PureOutcome
   -- the phases before the last, the last, and whether it is quiet; deliveries are printed or not
   ran : PureAlg → PureNetFile → Bool → List PurePhase → PurePhase → Bool → PureOutcome
+  -- the rows that flooding nodes compute at the end of a flood, its deliveries, and whether it is quiet
+  flooded : PureAlg → PureNetFile → List PureRow → List Delivery → Bool → PureOutcome
   -- the one phase on a generated network, which is quiet
   shown : PureAlg → PureNetFile → PurePhase → PureOutcome
 
@@ -80,6 +84,7 @@ algebra_in (hopped a f many) = Some a
 algebra_in (judged a f tables j) = Some a
 algebra_in (wedged a v) = Some a
 algebra_in (ran a f traced past last quiet) = Some a
+algebra_in (flooded a f rows journal quiet) = Some a
 algebra_in (shown a f last) = Some a
 
 abbrev pub file_in : PureOutcome → Option PureNetFile
@@ -91,6 +96,7 @@ file_in (hopped a f many) = Some f
 file_in (judged a f tables j) = Some f
 file_in (wedged a v) = None
 file_in (ran a f traced past last quiet) = Some f
+file_in (flooded a f rows journal quiet) = Some f
 file_in (shown a f last) = Some f
 
 -- what else an end shows is empty where nothing of the kind was made
@@ -123,11 +129,13 @@ many_in _ = []
 abbrev pub rows_in : PureOutcome → List PureRow
 rows_in (routed s a f rows) = rows
 rows_in (ran a f traced past last quiet) = last.rows
+rows_in (flooded a f rows journal quiet) = rows
 rows_in (shown a f last) = last.rows
 rows_in _ = []
 
 abbrev pub journal_in : PureOutcome → List Delivery
 journal_in (ran a f traced past last quiet) = last.journal
+journal_in (flooded a f rows journal quiet) = journal
 journal_in (shown a f last) = last.journal
 journal_in _ = []
 
@@ -149,6 +157,7 @@ answer_in (hopped a f many) = done
 answer_in (judged a f tables j) = done
 answer_in (wedged a v) = done
 answer_in (ran a f traced past last quiet) = if quiet then done else spent
+answer_in (flooded a f rows journal quiet) = if quiet then done else spent
 answer_in (shown a f last) = done
 
 -- the changes of a network file, if there is one
@@ -304,6 +313,22 @@ IsRunAs traced turns a file (ran b f t past last quiet) =
 IsRunAs traced turns a file (stopped b f memory) = (b ≡ Some a) × (f ≡ Some file)
 IsRunAs traced turns a file _ = ⊥
 
+-- A flood of the network's new nodes. It is spent exactly where it has fewer turns than cards are told on the network.
+-- Where it is quiet, it made as many deliveries, and its rows are those that link state finds.
+pub record IsFlood (net : PureNet) (turns : ℕ) (rows : List PureRow) (journal : List Delivery) (quiet : Bool) : Type 0 where
+  pub is_run : IsFloodRun net turns rows journal quiet
+  pub spent : (quiet ≡ false) ↔ (turns < cards_told net)
+  pub made : quiet ≡ true → length journal ≡ cards_told net
+  pub link_state : quiet ≡ true → (routed : List PureRow) → AreRowsOfTables net (BestFirst net) routed → rows ≡ routed
+
+-- What flood comes to where all was read, on the network after its changes: a flood, where its labels are fit for routes
+-- that no walk beats; else as route does.
+abbrev pub IsFloodedAs : ℕ → PureAlg → PureNetFile → PureOutcome → Type 0
+IsFloodedAs turns a file (flooded b f rows journal quiet) = (b ≡ a) × (f ≡ file) × IsFit Unbeaten (changed_net file) × IsFlood (changed_net file) turns rows journal quiet
+IsFloodedAs turns a file (stopped b f (misses arc x)) = (b ≡ Some a) × (f ≡ Some file) × IsFirstMissing (asked_of Unbeaten) (changed_net file) arc x
+IsFloodedAs turns a file (stopped b f memory) = (b ≡ Some a) × (f ≡ Some file)
+IsFloodedAs turns a file _ = ⊥
+
 -- What demo comes to: a quiet run of the new nodes of the network that the generated text means over add(1..9), without
 -- changes; all labels are strict, so that its rows are the only stable ones; unless memory is refused.
 abbrev pub IsShownAs : ℕ → ℕ → PureOutcome → Type 0
@@ -326,6 +351,7 @@ IsMadeOn joint.Code a f o = IsCodedAs a (Some f) (labels_on (changed_net f)) o
 IsMadeOn joint.Hops a f o = IsHoppedAs a f o
 IsMadeOn (joint.Route solution workers) a f o = IsRoutedAs solution a f o
 IsMadeOn (joint.Run workers turns traced) a f o = IsRunAs traced turns a f o
+IsMadeOn (joint.Flood workers turns) a f o = IsFloodedAs turns a f o
 
 -- What comes of an expression file: over its algebra, what Then says; or it is refused, and nothing more is
 -- begun.

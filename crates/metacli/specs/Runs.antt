@@ -6,7 +6,7 @@ use Rattle.meta_base.specs.Shelf.{Moment}
 use Rattle.meta_base.specs.Sink.{Held}
 use Rattle.net_graph.specs.Nets.{PureNet, IsNet}
 use Rattle.vector_runs.specs.Runs.{AreOfNetworks, AreStable, IsRun, pure_phase}
-use Rattle.vector_runs.specs.declared.run.Run.{Run}
+use Rattle.vector_runs.specs.declared.run.PhasedRun.{PhasedRun}
 use Rattle.metacli.specs.Answers.{pure_answer}
 use Rattle.metacli.specs.Outcome.{PureOutcome, answer_in, ComesTo, ComesToRest, Shows}
 use Rattle.metacli.specs.Texts.{TextOf, WrittenOut}
@@ -22,7 +22,7 @@ pub record Runs (words : List (List ℕ)) (old new : Moment) (before after : Hel
 
 -- a run through these networks: its quiet phases are stable, it comes to rest, and its rows and deliveries are of the
 -- phases' networks
-pub record IsRunThrough (net : PureNet) (nets : List PureNet) (turns : ℕ) (run : Run) : Type 0 where
+pub record IsRunThrough (net : PureNet) (nets : List PureNet) (turns : ℕ) (run : PhasedRun) : Type 0 where
   pub is_net : IsNet net
   pub is_run : IsRun net nets turns (map pure_phase run.past) (pure_phase run.last) run.is_quiet
   pub stable : AreStable net nets (map pure_phase run.past) (pure_phase run.last) run.is_quiet

@@ -23,7 +23,7 @@ use Rattle.metacli.specs.Answers.{PureAnswer, done, refused, spent, unmet, write
 use Rattle.metacli.specs.After.{nets_after}
 use Rattle.metacli.specs.declared.putting.Cut.{Cut}
 use Rattle.metacli.specs.declared.putting.Cut.TheVariants.{Sink, Memory}
-use Rattle.metacli.specs.Outcome.{PureOutcome, stopped, checked, coded, routed, hopped, judged, wedged, ran, shown}
+use Rattle.metacli.specs.Outcome.{PureOutcome, stopped, checked, coded, routed, hopped, judged, wedged, ran, flooded, shown}
 use Rattle.metacli.specs.declared.routing.Solution.{Solution}
 use Rattle.metacli.specs.declared.routing.Solution.TheVariants.{Unbeaten, Settled, AllStable}
 
@@ -80,7 +80,12 @@ run_text traced net nets number [] last quiet = phase_lines traced net number la
 run_text traced net [] number (p ∷ past) last quiet = []
 run_text traced net (m ∷ nets) number (p ∷ past) last quiet = phase_lines traced net number p true ++ run_text traced m nets (number + 1) past last quiet
 
--- the text of what a command came to: verdicts, code, routes, a gadget, phases, a summary, or the one line of a refusal
+-- the rows of a flood and its end, as those of a run of one phase
+abbrev pub flood_text : PureNet → List PureRow → List Delivery → Bool → List ℕ
+flood_text net rows journal quiet = rows_text net rows ++ end_text quiet (length journal)
+
+-- the text of what a command came to: verdicts, code, routes, a gadget, phases, a flood, a summary, or the one line of a
+-- refusal
 abbrev pub TextOf : PureOutcome → List ℕ
 TextOf (stopped a f r) = refusal_text r (last_net f)
 TextOf (checked a f v u) = verdicts_text a.expression v ++ unmet_text u
@@ -90,6 +95,7 @@ TextOf (hopped a f many) = many_text f.net many
 TextOf (judged a f tables j) = judgement_text (changed_net f) j
 TextOf (wedged a v) = gadget_text a v
 TextOf (ran a f traced past last quiet) = run_text traced f.net (nets_after f.net f.changes) 0 past last quiet
+TextOf (flooded a f rows journal quiet) = flood_text f.net rows journal quiet
 TextOf (shown a f last) = summary_text f.net last.rows
 
 -- that text can be made
@@ -102,6 +108,7 @@ IsPrintable (hopped a f many) = AllByRecursion (CanPrintHops f.net) many
 IsPrintable (judged a f tables j) = CanPrintJudgement (changed_net f) j
 IsPrintable (wedged a v) = HasGadget a v
 IsPrintable (ran a f traced past last quiet) = AreOfNetworks f.net (nets_after f.net f.changes) past last
+IsPrintable (flooded a f rows journal quiet) = AllByRecursion (IsRowOf f.net) rows
 IsPrintable (shown a f last) = AreSummed last.rows
 
 -- a front of the text was appended, and this is what comes after it

@@ -13,7 +13,7 @@ use Rattle.report_text.specs.Refusals.{PureRefusal, misses}
 use Rattle.vector_runs.specs.Runs.{pure_phase}
 use Rattle.metacli.specs.Answers.{pure_answer, pure_stop}
 use Rattle.metacli.specs.Texts.{IsPrintable}
-use Rattle.metacli.specs.Outcome.{PureOutcome, stopped, checked, coded, routed, hopped, judged, wedged, ran, shown, algebra_in, answer_in, file_in, gadget_in, journal_in, judgement_in, listing_in, many_in, past_in, report_in, rows_in, verdicts_in}
+use Rattle.metacli.specs.Outcome.{PureOutcome, stopped, checked, coded, routed, hopped, judged, wedged, ran, flooded, shown, algebra_in, answer_in, file_in, gadget_in, journal_in, judgement_in, listing_in, many_in, past_in, report_in, rows_in, verdicts_in}
 use Rattle.metacli.specs.declared.outcome.Stop.{Stop}
 use Rattle.metacli.specs.declared.outcome.Made.{Made}
 use Rattle.metacli.specs.declared.outcome.Parts.{Parts}
@@ -30,6 +30,7 @@ pure_outcome (outcome.Hopped it) = hopped it.alg (pure_file it.file) (map pure_h
 pure_outcome (outcome.Judged it) = judged it.alg (pure_file it.file) (map rows_of it.tables) (pure_judgement it.judgement)
 pure_outcome (outcome.Wedged it) = wedged it.alg (pure_verdict it.verdict)
 pure_outcome (outcome.Ran it) = ran it.alg (pure_file it.file) it.is_traced (map pure_phase it.run.past) (pure_phase it.run.last) it.run.is_quiet
+pure_outcome (outcome.Flooded it) = flooded it.alg (pure_file it.file) (map pure_row it.run.rows) it.run.journal it.run.is_quiet
 pure_outcome (outcome.Shown it) = shown it.alg (pure_file it.file) (pure_phase it.last)
 
 -- what was made is what the outcome says: a field that it says nothing of is empty

@@ -69,10 +69,11 @@ pub struct Ended {
     /// The rows with all their next hops, where `hops` was carried out, on the network after all changes: for each
     /// destination in order, each node in order.
     pub many: List<ManyHops>,
-    /// The routes, where `route`, `settle` or `stable` was carried out, on the network after all changes; those of the
-    /// last phase, where `run` or `trace` was: for each destination in order, each node in order.
+    /// The routes, where `route`, `settle`, `stable` or `flood` was carried out, on the network after all changes; those
+    /// of the last phase, where `run` or `trace` was: for each destination in order, each node in order.
     pub rows: List<RouteRow>,
-    /// The deliveries of the last phase, where `run` or `trace` was carried out, by clock, then by listener.
+    /// The deliveries of the last phase, where `run` or `trace` was carried out, or of the flood, where `flood` was: by
+    /// clock, then by listener.
     pub journal: List<Delivery>,
     /// The phases before the last, where `run` or `trace` was carried out.
     pub past: List<Phase>,

@@ -1,16 +1,17 @@
 //! Laws of what words come to.
-ghost use Rattle.std.specs.Prelude.{◌≡◌, ℕ, Bool, List};
+ghost use Rattle.std.specs.Prelude.{◌≡◌, ◌++◌, ℕ, Bool, List, length, true};
 ghost use Rattle.meta_base.specs.Shelf.{Moment};
 ghost use Rattle.alg_model.specs.Expressions.{PureAlg};
+ghost use Rattle.report_text.specs.RunTexts.{end_text};
 ghost use Rattle.topology_file.specs.NetText.{PureNetFile};
 ghost use Rattle.vector_runs.specs.Turns.{AreMonotone};
 ghost use Rattle.metacli.specs.Alike.{undelivered};
 ghost use Rattle.metacli.specs.Answers.{done};
 ghost use Rattle.metacli.specs.After.{nets_after};
 ghost use Rattle.metacli.specs.Complete.{IsComplete};
-ghost use Rattle.metacli.specs.Outcome.{ComesTo, IsRoutedAs, IsRunAs, IsShownAs, PureOutcome, answer_in, rows_in};
+ghost use Rattle.metacli.specs.Outcome.{ComesTo, IsFloodedAs, IsRoutedAs, IsRunAs, IsShownAs, PureOutcome, answer_in, journal_in, rows_in};
 ghost use Rattle.metacli.specs.Texts.{TextOf};
-ghost use Rattle.metacli.specs.declared.routing.Solution.TheVariants.{AllStable};
+ghost use Rattle.metacli.specs.declared.routing.Solution.TheVariants.{AllStable, Unbeaten};
 
 use raml_syntax::{no_fault_beside_an_algebra, one_text_one_algebra, one_text_one_fault};
 use settled_laws::strict_is_monotone;
@@ -46,6 +47,18 @@ pub fn quiet_runs_have_the_stable_rows()
     ensures { (traced : Bool) (turns : ℕ) (a : PureAlg) (f : PureNetFile) (o p : PureOutcome) →
         IsRunAs traced turns a f o → IsRoutedAs AllStable a f p →
         answer_in o ≡ done → answer_in p ≡ done → rows_in o ≡ rows_in p }
+{}
+
+/// A quiet flood prints what `route` prints on the same files, and then its end: its rows are those routes, which no walk
+/// beats, by whatever workers, in whatever order and with whatever turns.
+#[tactic(auto, using(crate::proofs::Floods::flood_rows_alike, crate::proofs::Floods::flood_text_alike))]
+pub fn quiet_floods_have_the_rows_of_route()
+    ensures rows { (turns : ℕ) (a : PureAlg) (f : PureNetFile) (o p : PureOutcome) →
+        IsFloodedAs turns a f o → IsRoutedAs Unbeaten a f p →
+        answer_in o ≡ done → answer_in p ≡ done → rows_in o ≡ rows_in p }
+    ensures text { (turns : ℕ) (a : PureAlg) (f : PureNetFile) (o p : PureOutcome) →
+        IsFloodedAs turns a f o → IsRoutedAs Unbeaten a f p →
+        answer_in o ≡ done → answer_in p ≡ done → TextOf o ≡ TextOf p ++ end_text true (length (journal_in o)) }
 {}
 
 /// What `demo` comes to with a seed and a number of nodes is the same but for its deliveries, of which the summary says

@@ -14,6 +14,7 @@ use crate::{Answer, Command, Ended, WordsFault};
 use alg_classes::Property;
 use alg_model::Alg;
 use code_gen::Listing;
+use flood_runs::FloodRun;
 use meta_base::{Delivery, List, NoMemory, Which};
 use net_facts::Missing;
 use net_graph::{DestTable, Net, RouteRow};
@@ -23,7 +24,7 @@ use report_check::{Judgement, ManyHops, ReportFault};
 use report_text::Refusal;
 use std::alloc::Global;
 use topology_file::{NetFault, NetFile};
-use vector_runs::{Phase, Run};
+use vector_runs::{Phase, PhasedRun};
 
 /// Why a command isn't carried out.
 #[derive(Clone, Copy, Debug)]
@@ -94,6 +95,7 @@ pub enum Outcome {
     Judged(Judged),
     Wedged(Wedged),
     Ran(Ran),
+    Flooded(Flooded),
     Shown(Shown),
 }
 
@@ -168,7 +170,15 @@ pub struct Ran {
     pub changed: List<Net>,
     /// Deliveries are printed.
     pub is_traced: bool,
-    pub run: Run,
+    pub run: PhasedRun,
+}
+
+/// The flood of flooding nodes on the network of a file, after its changes.
+#[derive(Debug, Drop)]
+pub struct Flooded {
+    pub alg: Alg,
+    pub file: NetFile,
+    pub run: FloodRun,
 }
 
 /// The phase of path-vector nodes on a generated network, which is quiet.
@@ -240,6 +250,7 @@ impl Outcome {
             Outcome::Judged(it) => it.parts(alloc),
             Outcome::Wedged(it) => it.parts(alloc),
             Outcome::Ran(it) => it.parts(alloc),
+            Outcome::Flooded(it) => it.parts(alloc),
             Outcome::Shown(it) => it.parts(alloc),
         }
     }
@@ -374,7 +385,7 @@ impl Ran {
     fn parts(self, alloc: Global) -> Parts
         ensures { AreParts result (pure_outcome (Outcome.Ran self)) }
     {
-        let Run {
+        let PhasedRun {
             past,
             last,
             is_quiet,
@@ -383,6 +394,27 @@ impl Ran {
             alg: Some(self.alg),
             file: Some(self.file),
             made: Made::of_phases(alloc, past, last),
+            decided: end_answer(is_quiet),
+        }
+    }
+}
+
+impl Flooded {
+    fn parts(self, alloc: Global) -> Parts
+        ensures { AreParts result (pure_outcome (Outcome.Flooded self)) }
+    {
+        let FloodRun {
+            rows,
+            journal,
+            is_quiet,
+        } = self.run;
+        let mut made = Made::nothing(alloc);
+        made.rows = rows;
+        made.journal = journal;
+        Parts {
+            alg: Some(self.alg),
+            file: Some(self.file),
+            made,
             decided: end_answer(is_quiet),
         }
     }
@@ -485,7 +517,7 @@ pub(crate) fn checked_answer(unmet: Option<Property>) -> Answer
     }
 }
 
-// The answer to a run that ended with nothing on its way, or with all turns used.
+// The answer to a run or a flood that ended with nothing on its way, or with all turns used.
 pub(crate) fn end_answer(is_quiet: bool) -> Answer
     ensures answer { pure_answer result ≡ if is_quiet then done else spent }
     ensures sink { pure_answer result ≢ write_fault }

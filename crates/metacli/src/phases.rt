@@ -1,12 +1,15 @@
-// Putting the lines of runs.
+// Putting the lines of runs and floods.
 ghost use Rattle.std.specs.Prelude.{◌+◌, ◌^◌, ◌<◌, length, map};
 ghost use Rattle.std.specs.List.{AllByRecursion};
-ghost use Rattle.metacli.specs.Texts.{PutsText, journal_text, number_text, phase_lines, run_text, trace_text};
+ghost use Rattle.net_graph.specs.RowTexts.{IsRowOf};
+ghost use Rattle.net_graph.specs.Views.{pure_row};
+ghost use Rattle.metacli.specs.Texts.{PutsText, flood_text, journal_text, number_text, phase_lines, run_text, trace_text};
 ghost use Rattle.vector_runs.specs.Runs.{AreOfNetworks, IsOfNetwork, pure_phase};
 
 use crate::outcome::Ran;
 use crate::putting::{Cut, put_line, put_room, room_for_lines};
 use crate::writing::put_rows;
+use flood_runs::FloodRun;
 use meta_base::{Delivery, Sink};
 use net_graph::Net;
 use report_text::{end_line, phase_line, push_delivery_line};
@@ -67,6 +70,22 @@ fn put_phase<K: Sink>(
     put_trace(alloc, out, net, is_traced, journal)?;
     put_rows(alloc, out, net, phase.rows.as_slice())?;
     put_line(out, end_line(alloc, is_quiet, journal.len()))
+}
+
+/// Puts the rows of a flood on the network and its end.
+pub(crate) fn put_flood<K: Sink>(
+    alloc: Global,
+    out: &mut K,
+    net: &Net,
+    run: &FloodRun,
+) -> Result<(), Cut>
+    requires { AllByRecursion (IsRowOf net.now) (map pure_row run.now.rows) }
+    ensures { PutsText (K.holds out.old)
+        (flood_text net.now (map pure_row run.now.rows) run.now.journal run.now.is_quiet) result (K.holds out.new) }
+{
+    put_rows(alloc, out, net, run.rows.as_slice())?;
+    let made = run.journal.as_slice().len();
+    put_line(out, end_line(alloc, run.is_quiet, made))
 }
 
 // Puts the number of a phase, where it isn't the first.

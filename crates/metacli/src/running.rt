@@ -25,7 +25,7 @@ use std::sync::Wait;
 use std::thread::Threads;
 use topology_file::NetFile;
 use vector_runs::{
-    Budget, Run, enough_turns_are_quiet, phases_are_of_networks, quiet_phases_are_stable,
+    Budget, PhasedRun, enough_turns_are_quiet, phases_are_of_networks, quiet_phases_are_stable,
     run_phases, runs_are_short,
 };
 
@@ -70,7 +70,7 @@ pub(crate) fn run_through<R: AllocGlobal + Threads + Wait + Sync, G: Gate>(
     workers: u32,
     turns: u64,
     gate: &G,
-) -> Result<(List<Net>, Run), NoMemory>
+) -> Result<(List<Net>, PhasedRun), NoMemory>
     requires workers { AreWorkers workers }
     requires turns { AreTurns turns }
     requires changes { AreChanges file.now.net (map pure_change file.now.changes) }
@@ -100,7 +100,7 @@ fn run_on<R: AllocGlobal + Threads + Wait + Sync, G: Gate>(
     workers: u32,
     turns: u64,
     gate: &G,
-) -> Result<Run, NoMemory>
+) -> Result<PhasedRun, NoMemory>
     requires changed { AreLater net.now changed.now }
     requires workers { AreWorkers workers }
     requires turns { AreTurns turns }
@@ -126,7 +126,7 @@ fn run_over<W: HeldRow + Send + Sync, R: AllocGlobal + Threads + Wait + Sync, G:
     workers: u32,
     turns: u64,
     gate: &G,
-) -> Result<Run, NoMemory>
+) -> Result<PhasedRun, NoMemory>
     requires changed { AreLater net.now changed.now }
     requires workers { AreWorkers workers }
     requires turns { AreTurns turns }

@@ -2,7 +2,7 @@
 ghost use Rattle.std.specs.Prelude.{◌≡◌};
 ghost use Rattle.command_words.specs.declared.command.Command.TheVariants.{Check, Code};
 ghost use Rattle.metacli.specs.Tasks.{task_of};
-ghost use Rattle.metacli.specs.declared.task.NetworkTask.TheVariants.{Route, Run};
+ghost use Rattle.metacli.specs.declared.task.NetworkTask.TheVariants.{Flood, Route, Run};
 ghost use Rattle.metacli.specs.declared.task.Task.TheVariants.{On};
 
 use crate::routing::Solution;
@@ -69,6 +69,11 @@ pub enum NetworkTask {
         turns: u64,
         is_traced: bool,
     },
+    /// The routes that flooding nodes compute, run by so many workers with so many turns.
+    Flood {
+        workers: u32,
+        turns: u64,
+    },
 }
 
 /// What the command asks for.
@@ -93,6 +98,12 @@ pub fn task_of(command: Command) -> Task
             workers,
             turns,
         } => run_task(file, net, workers, turns, true),
+        Command::Flood {
+            file,
+            net,
+            workers,
+            turns,
+        } => flood_task(file, net, workers, turns),
         Command::Verify { file, net, report } => Task::Judge { file, net, report },
         Command::Hops { file, net } => Task::On {
             file,
@@ -160,5 +171,15 @@ fn run_task(file: usize, net: usize, workers: u32, turns: u64, is_traced: bool) 
             turns,
             is_traced,
         },
+    }
+}
+
+fn flood_task(file: usize, net: usize, workers: u32, turns: u64) -> Task
+    ensures { result ≡ On file net (Flood workers turns) }
+{
+    Task::On {
+        file,
+        net,
+        task: NetworkTask::Flood { workers, turns },
     }
 }

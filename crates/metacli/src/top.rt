@@ -11,6 +11,7 @@ ghost use Rattle.metacli.specs.Views.{CanBeWritten, pure_outcome};
 
 use crate::checking::{check, check_network};
 use crate::coding::{code, code_network};
+use crate::flooding::flood;
 use crate::generating::demo;
 use crate::hopping::hops;
 use crate::judging::verify;
@@ -212,5 +213,6 @@ fn on_network<R: AllocGlobal + Threads + Wait + Sync, G: Gate>(
             turns,
             is_traced,
         } => run(rt, alg, file, workers, turns, is_traced, gate),
+        NetworkTask::Flood { workers, turns } => flood(rt, alg, file, workers, turns, gate),
     }
 }

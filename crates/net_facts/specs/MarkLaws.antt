@@ -1,10 +1,11 @@
 -- Labels of a network that are marked by their numbers once something was found to hold of them. Lemmas, so that
 -- proofs of other crates may cite them.
-use Rattle.std.proofs.Common.{◌≡◌, arith, ℕ, zero, suc, List, [], Bool, true, false, ◌⊎◌, ⊎_elim, Some, option_map, get_or, set, replicate, slice_get, ap, sym, subst, ◌∙◌}
+use Rattle.std.proofs.Common.{◌≡◌, arith, ℕ, zero, suc, List, [], Bool, true, false, ◌⊎◌, ⊎_elim, Some, get_or, set, replicate, slice_get, ap, sym, subst, ◌∙◌}
 use Rattle.std.proofs.lemmas.Bool.{cases_order}
-use Rattle.std.proofs.lemmas.Option.{same_Some, slice_get-map}
+use Rattle.std.proofs.lemmas.Option.{same_Some}
 use Rattle.std.proofs.lemmas.List.{get_or-set_other}
 use Rattle.alg_model.specs.Expressions.{PureLabel}
+use Rattle.net_graph.specs.LabelLaws.{label_at}
 use Rattle.net_graph.specs.LabelNumbers.{AreLabelNumbers}
 use Rattle.net_graph.specs.Nets.{PureArc, PureNet}
 
@@ -28,15 +29,6 @@ none_held P net numbers marks count numbered none = record {
       (λ empty. absurd (unmarked 0 n (subst (λ (ms : List Bool). get_or ms n false ≡ true) empty e)))
       none;
 }
-
--- the label of an arc stands at its number
-label_at : (net : PureNet) (numbers : List ℕ) (r : AreLabelNumbers net numbers) (k n : ℕ) (a : PureArc)
-    → slice_get numbers k ≡ Some n → slice_get net.arcs k ≡ Some a → slice_get r.labels n ≡ Some a.label
-label_at net numbers r k n a number arc =
-    same_Some (slice_get r.labels n) (Some a.label)
-    (sym (slice_get-map (slice_get r.labels) numbers k ∙ ap (option_map (slice_get r.labels)) number)
-    ∙ ap (λ xs. slice_get xs k) r.places
-    ∙ slice_get-map (λ (b : PureArc). Some b.label) net.arcs k ∙ ap (option_map (λ (b : PureArc). Some b.label)) arc)
 
 -- an arc whose label's number is marked
 pub held_at : (P : PureLabel → Type 0) (net : PureNet) (numbers : List ℕ) (marks : List Bool) (k n : ℕ) (a : PureArc) → AreHeld P net numbers marks

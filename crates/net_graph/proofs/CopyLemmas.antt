@@ -13,7 +13,7 @@ use Rattle.net_graph.specs.declared.groups.Spot.{Spot}
 use Rattle.net_graph.proofs.GroupLemmas.{item_at-stand}
 use Rattle.net_graph.specs.Parts.{arc_pair}
 use Rattle.net_graph.specs.Views.{pure_origin}
-use Rattle.net_graph.specs.declared.parts.Known.{Known}
+use Rattle.net_graph.specs.declared.parts.NetIndex.{NetIndex}
 use Rattle.net_graph.specs.declared.parts.Origin.{Origin}
 use Rattle.net_graph.proofs.NetLemmas.{any_mapped, all_got}
 
@@ -62,13 +62,13 @@ item_stands groups spots read i d s e h =
     rw e (item_at-stand groups spots (items_at groups spots) i (get_or spots i d) s within (get_or_any spots i d (get_or spots i d) within))
 
 -- the parts of a network with a change
-pub changed_draft : (old known : Known) (was arcs : List PureArc) (had origins : List Origin) (c : PureChange) → IsDraft old was had → MayChange (net_with old was had) c
+pub changed_draft : (old known : NetIndex) (was arcs : List PureArc) (had origins : List Origin) (c : PureChange) → IsDraft old was had → MayChange (net_with old was had) c
     → arcs ≡ changed_arcs c was → map pure_origin origins ≡ map pure_origin had → known ≡ record old { arc_pairs = map arc_pair arcs }
     → IsDraft known arcs origins
 changed_draft old known was arcs had origins c k m a o e =
     let net : IsNet (changed (net_with old was had) c) = changed_is_net (net_with old was had) c k.is_net m in
     rw e (record { is_net = rw (a, o) net; arc_pairs = refl; origin_pairs = rw o k.origin_pairs })
 
-pub changed_parts : (old known : Known) (was arcs : List PureArc) (had origins : List Origin) (c : PureChange) → arcs ≡ changed_arcs c was
+pub changed_parts : (old known : NetIndex) (was arcs : List PureArc) (had origins : List Origin) (c : PureChange) → arcs ≡ changed_arcs c was
     → map pure_origin origins ≡ map pure_origin had → known ≡ record old { arc_pairs = map arc_pair arcs } → net_with known arcs origins ≡ changed (net_with old was had) c
 changed_parts old known was arcs had origins c a o e = rw (e, a, o) refl

@@ -2,13 +2,13 @@
 use Rattle.std.specs.Prelude.{List}
 use Rattle.net_graph.specs.Nets.{PureArc, PureNet}
 use Rattle.net_graph.specs.Parts.{net_from, IsKnown}
-use Rattle.net_graph.specs.declared.parts.Known.{Known}
+use Rattle.net_graph.specs.declared.parts.NetIndex.{NetIndex}
 use Rattle.net_graph.specs.declared.parts.Origin.{Origin}
 
 -- the network that is known by these names, with these arcs and origins
-abbrev pub net_with : Known → List PureArc → List Origin → PureNet
+abbrev pub net_with : NetIndex → List PureArc → List Origin → PureNet
 net_with known arcs origins = net_from known.alg known.nodes known.dests arcs origins
 
 -- its arcs and origins are those that are looked up
-abbrev pub IsDraft : Known → List PureArc → List Origin → Type 0
+abbrev pub IsDraft : NetIndex → List PureArc → List Origin → Type 0
 IsDraft known arcs origins = IsKnown (net_with known arcs origins) known.arc_pairs known.origin_pairs

@@ -14,6 +14,7 @@ pub mod Codes
 pub mod Kept
 pub mod Groups
 pub mod LabelNumbers
+pub mod LabelLaws
 pub mod Cuts
 pub mod Dests
 pub mod Pairs

@@ -9,10 +9,10 @@ use Rattle.net_graph.specs.Parts.{IsKnown, IsFiled}
 use Rattle.net_graph.specs.Drafts.{net_with}
 use Rattle.net_graph.specs.declared.filed.FiledLines.{FiledLines}
 use Rattle.net_graph.specs.declared.net.Net.TheInside.{Inside}
-use Rattle.net_graph.specs.declared.parts.Known.{Known}
+use Rattle.net_graph.specs.declared.parts.NetIndex.{NetIndex}
 
 -- the network that is known by these names and pairs, with these labels, and whose lines are filed so
-abbrev pub net_in : Known → List Label → FiledLines → PureNet
+abbrev pub net_in : NetIndex → List Label → FiledLines → PureNet
 net_in known labels lines = net_with known (arcs_of labels (items_at lines.out.groups lines.out.spots.items)) (items_at lines.homes.groups lines.homes.spots.items)
 
 abbrev pub net_of : Inside → PureNet

@@ -12,7 +12,7 @@ use crate::arcs::Arcs;
 use crate::filed::file_lines;
 use crate::names::Names;
 use crate::pairs::Pairs;
-use crate::parts::Known;
+use crate::parts::NetIndex;
 use crate::{Net, Origin};
 use alg_model::{Alg, Edition, Label, Value};
 use meta_base::{ArcId, DestId, NoMemory, NodeId};
@@ -23,7 +23,7 @@ use std::marker::Model;
 #[derive(Debug, Drop)]
 pub struct NetDraft {
     alloc: Global,
-    known: Known,
+    known: NetIndex,
     // In file order.
     arcs: Arcs,
     origins: Vec<Origin>,
@@ -56,7 +56,7 @@ impl NetDraft {
         let _ = alg.tree();
         NetDraft {
             alloc,
-            known: Known {
+            known: NetIndex {
                 alg,
                 nodes: Names::new(alloc),
                 dests: Names::new(alloc),
@@ -71,7 +71,7 @@ impl NetDraft {
     // The draft of these parts.
     pub(crate) fn from_parts(
         alloc: Global,
-        known: Known,
+        known: NetIndex,
         arcs: Arcs,
         origins: Vec<Origin>,
     ) -> NetDraft
@@ -143,6 +143,7 @@ impl NetDraft {
         }
         added
     }
+
     /// Adds a destination of that name without an origin, with the next number. The name is 1 to 32
     /// letters, digits and bytes of `_-.`, no other destination has it, and there are fewer than
     /// [`crate::max_dests`] of the edition. After a refusal the draft is as it was.

@@ -9,7 +9,7 @@ use crate::filed::FiledLines;
 use crate::groups::{Groups, Spot};
 use crate::label_numbers::LabelNumbers;
 use crate::out_arcs::OutArcs;
-use crate::parts::Known;
+use crate::parts::NetIndex;
 use crate::{NetDraft, Origin};
 use alg_model::{Alg, Edition, Label};
 use meta_base::{ArcId, DestId, NoMemory, NodeId};
@@ -21,7 +21,7 @@ use std::marker::Model;
 /// is below the count of its kind.
 #[derive(Debug, Drop)]
 pub struct Net {
-    known: Known,
+    known: NetIndex,
     // The labels of arcs, some of which many arcs have.
     labels: Vec<Label>,
     // The arcs by their tails, and where each arc stands, in file order.
@@ -60,7 +60,7 @@ impl Net {
     ghost use Rattle.net_graph.specs.RowTexts.{node_text, dest_text};
 
     // The network of these parts.
-    pub(crate) fn from_parts(known: Known, labels: Vec<Label>, lines: FiledLines) -> Net
+    pub(crate) fn from_parts(known: NetIndex, labels: Vec<Label>, lines: FiledLines) -> Net
         requires known { IsKnown (net_in known labels.items lines) known.arc_pairs known.origin_pairs }
         requires filed { IsFiled (net_in known labels.items lines) (map pure_label labels.items)
             lines.out.groups lines.out.spots.items lines.heard lines.homes.groups lines.homes.spots.items }

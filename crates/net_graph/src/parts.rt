@@ -42,7 +42,7 @@ fn copy_alg(alloc: Global, alg: &Alg) -> Result<Alg, NoMemory>
 
 // What a network is looked up by.
 #[derive(Debug, Drop)]
-pub(crate) struct Known {
+pub(crate) struct NetIndex {
     pub alg: Alg,
     pub nodes: Names,
     pub dests: Names,
@@ -52,7 +52,7 @@ pub(crate) struct Known {
     pub origin_pairs: Pairs,
 }
 
-impl Known {
+impl NetIndex {
     ghost use Rattle.std.specs.Prelude.{map};
     ghost use Rattle.net_graph.specs.Nets.{AreDistinct, joins_same};
     ghost use Rattle.net_graph.specs.Parts.{arc_pair};
@@ -74,11 +74,11 @@ impl Known {
     }
 
     /// The same, with these arcs in place of those that there are.
-    pub fn copy_with(&self, alloc: Global, arcs: &Arcs) -> Result<Known, NoMemory>
+    pub fn copy_with(&self, alloc: Global, arcs: &Arcs) -> Result<NetIndex, NoMemory>
         requires { AreDistinct joins_same arcs.now }
         ensures { IfOk result (λ known. known ≡ record self.now { arc_pairs = map arc_pair arcs.now }) }
     {
-        Ok(Known {
+        Ok(NetIndex {
             alg: copy_alg(alloc, &self.alg)?,
             nodes: self.nodes.copy(alloc)?,
             dests: self.dests.copy(alloc)?,

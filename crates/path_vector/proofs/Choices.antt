@@ -21,6 +21,7 @@ use Rattle.net_graph.specs.Tables.{is_among}
 use Rattle.alg_model.specs.Application.{App}
 use Rattle.meta_base.specs.NodePaths.{numbers}
 use Rattle.net_graph.specs.RouteOrder.{not_better_trans, better_asymmetric}
+use Rattle.arc_labels.specs.Images.{made_in}
 use Rattle.path_vector.specs.declared.known.Known.{Known}
 use Rattle.std.specs.Borrow.{Bor}
 use Rattle.meta_base.specs.declared.ids.NodeId.{NodeId}
@@ -378,6 +379,16 @@ pub placed_routes : {S : Type 0} (value : S → PureValue) (node : ℕ) (b : Bor
     → option_map {U = PureRoute} (offered_route value node) (placed (Some b) place) ≡ option_map {U = PureRoute} (λ s. record { value = value s; path = node ∷ numbers b.now }) place
 placed_routes value node b None = refl
 placed_routes value node b (Some s) = refl
+
+-- what a label made of a value stands in the place that it was put in
+pub image_stands : {S : Type 0} (value : S → PureValue) (place : Option S) (image : Option PureValue) → option_map value (made_in true place) ≡ image → option_map value place ≡ image
+image_stands value None image e = e
+image_stands value (Some s) image e = e
+
+-- and where it made nothing, none does
+pub no_image_stands : {S : Type 0} (value : S → PureValue) (place : Option S) (image : Option PureValue) → option_map value (made_in false place) ≡ image → None ≡ image
+no_image_stands value None image e = e
+no_image_stands value (Some s) image e = e
 
 -- and of one that passes it the arc makes nothing
 pub passing_offers_none : {S : Type 0} (value : S → PureValue) (net : PureNet) (a : PureArc) (k : Known S) (node : ℕ) → a.tail ≡ node → is_among (numbers k.path) node ≡ true → offer_by net a (known_route value k) ≡ None

@@ -1,5 +1,5 @@
 -- Routes in an algebra's own form, and what a node offers itself by them. Sigs stand for values by `value`.
-use Rattle.std.specs.Prelude.{◌≡◌, ℕ, ◌==◌, Bool, true, false, List, [], ◌∷◌, Option, Some, None, cond, find, length, option_map, option_and_then, slice_get}
+use Rattle.std.specs.Prelude.{◌≡◌, ℕ, ◌==◌, true, List, [], ◌∷◌, Option, Some, None, cond, find, length, option_map, option_and_then, slice_get}
 use Rattle.std.proofs.Math.ListN.{set}
 use Rattle.std.specs.Borrow.{Bor}
 use Rattle.alg_model.specs.Expressions.{PureCarrier, PureValue, PureLabel}
@@ -28,11 +28,6 @@ module _ {S : Type 0} (value : S → PureValue) where
 -- the offer whose value stands in a place, by what lies after the node on its path
 abbrev pub placed : {S : Type 0} → Option (Bor (List NodeId)) → Option S → Option (Offer S)
 placed after place = option_and_then (λ b. option_map (λ s. record { sig = s; after = b }) place) after
-
--- the value in a place, if it was put there
-abbrev pub standing : {S : Type 0} → Bool → Option S → Option S
-standing true place = place
-standing false place = None
 
 -- a neighbour at an arc, and what was heard of it for each destination
 pub record Listened (L S : Type 0) : Type 0 where

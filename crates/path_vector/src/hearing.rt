@@ -11,7 +11,7 @@ ghost use Rattle.path_vector.specs.Words.{fits_on};
 
 use crate::heard::Heard;
 use crate::known::{Known, known_of};
-use crate::rechoosing::{Change, rechoose};
+use crate::rechoosing::{RowChange, rechoose};
 use crate::shared::Shared;
 use crate::site::{Arrival, Site};
 use crate::update::SharedRoute;
@@ -46,7 +46,7 @@ pub(crate) fn hear<A: Algebra>(
     rows: &[Option<Known<A::Sig>>],
     arrival: &Arrival<'_>,
     spare: &mut Option<A::Sig>,
-) -> Result<Option<Change<A::Sig>>, NoMemory>
+) -> Result<Option<RowChange<A::Sig>>, NoMemory>
     requires algebra { let at = site.now in A.expression at.algebra.now ≡ at.net.now.alg.expression }
     requires net { IsNet site.now.net.now }
     requires kept { let at = site.now in IsKept (A.stands_for at.algebra.now) (A.is_sig at.algebra.now)

@@ -1,5 +1,5 @@
 //! Path vector: nodes that tell each other their rows, over any algebra, and what holds of every machine of
-//! such nodes. It stands on `node_core`, `path_store`, `net_graph` and `alg_model`.
+//! such nodes. It stands on `node_core`, `path_store`, `arc_labels`, `net_graph` and `alg_model`.
 #![tactic(auto)]
 
 mod beginning;

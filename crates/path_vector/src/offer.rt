@@ -1,12 +1,8 @@
 ghost use Rattle.std.specs.Prelude.{◌≡◌, ◌<◌, ◌∷◌, ℕ, IfOk, IfSome, option_map, option_and_then};
-ghost use Rattle.alg_model.specs.declared.alg.TheConstants.{MAX_VALUE_NUMBER};
-ghost use Rattle.alg_model.specs.Application.{App};
-ghost use Rattle.alg_model.specs.Bounds.{AtMost};
 ghost use Rattle.alg_model.specs.Carriers.{carrier_of};
-ghost use Rattle.alg_model.specs.Expressions.{PureLabel};
 ghost use Rattle.net_graph.specs.Nets.{PureArc, IsNet};
 ghost use Rattle.net_graph.specs.Routes.{is_better};
-ghost use Rattle.path_vector.specs.Known.{known_route, offered_route, placed, standing, route_through};
+ghost use Rattle.path_vector.specs.Known.{known_route, offered_route, placed, route_through};
 ghost use Rattle.path_vector.specs.Known.{better_of, MayOffer};
 ghost use Rattle.path_vector.specs.Node.{offer_by};
 
@@ -14,6 +10,7 @@ use crate::known::Known;
 use crate::paths::passes;
 use crate::shared::Shared;
 use alg_model::Algebra;
+use arc_labels::image_into;
 use meta_base::{List, NoMemory, NodeId};
 use net_graph::Net;
 use path_store::compare;
@@ -28,30 +25,6 @@ use std::mem::swap;
 pub(crate) struct Offer<'p, S> {
     pub sig: S,
     pub after: &'p [NodeId],
-}
-
-// What the label makes of the value, put into `place`, in the memory of the value that stands there. True where it
-// stands there, and false where the label prohibits the value.
-fn image_into<A: Algebra>(
-    alloc: Global,
-    algebra: &A,
-    lab: &A::Lab,
-    sig: &A::Sig,
-    place: &mut Option<A::Sig>,
-) -> Result<bool, NoMemory>
-    requires lab { (l : PureLabel) × A.stands_for algebra.now lab.now l }
-    requires sig { A.is_sig algebra.now sig.now }
-    requires small { AtMost MAX_VALUE_NUMBER (A.sig_value algebra.now sig.now) }
-    ensures sig { IfOk result (λ placed. IfSome (standing placed place.new) (A.is_sig algebra.now)) }
-    ensures image { (l : PureLabel) → A.stands_for algebra.now lab.now l → IfOk result (λ placed.
-        option_map (A.sig_value algebra.now) (standing placed place.new) ≡
-        App (A.expression algebra.now) l (A.sig_value algebra.now sig.now)) }
-{
-    if let Some(out) = place {
-        return algebra.apply_into(alloc, lab, sig, out);
-    }
-    *place = algebra.apply(alloc, lab, sig)?;
-    Ok(place.is_some())
 }
 
 // What a neighbour offers the node by the label of its arc, if what was heard of it makes a route: its value is put

@@ -61,7 +61,7 @@ pub(crate) fn update_of<A: Algebra>(
 
 // A row that is another than it was, and what the node tells of it.
 #[derive(Drop)]
-pub(crate) struct Change<S> {
+pub(crate) struct RowChange<S> {
     pub row: Option<Known<S>>,
     pub reported: Outgoing<Update>,
 }
@@ -74,7 +74,7 @@ fn change_of<A: Algebra>(
     row: Option<Known<A::Sig>>,
     dest: DestId,
     clock: u64,
-) -> Result<Option<Change<A::Sig>>, NoMemory>
+) -> Result<Option<RowChange<A::Sig>>, NoMemory>
     requires node { site.now.node.0 < length site.now.net.now.nodes }
     requires before { IfSome before.now (λ k. A.is_sig site.now.algebra.now k.sig) }
     requires row { IfSome row (λ k. A.is_sig site.now.algebra.now k.sig) }
@@ -88,7 +88,7 @@ fn change_of<A: Algebra>(
     }
     let update = update_of(alloc, site.algebra, dest, &row, clock)?;
     let reported = reported(alloc, site.net, site.node, update)?;
-    Ok(Some(Change { row, reported }))
+    Ok(Some(RowChange { row, reported }))
 }
 
 // Whether the row goes by that neighbour.
@@ -137,7 +137,7 @@ pub(crate) fn rechoose<A: Algebra>(
     before: &Option<Known<A::Sig>>,
     arrival: &Arrival<'_>,
     spare: &mut Option<A::Sig>,
-) -> Result<Option<Change<A::Sig>>, NoMemory>
+) -> Result<Option<RowChange<A::Sig>>, NoMemory>
     requires algebra { let at = site.now in A.expression at.algebra.now ≡ at.net.now.alg.expression }
     requires net { IsNet site.now.net.now }
     requires node { site.now.node.0 < length site.now.net.now.nodes }
@@ -157,7 +157,8 @@ pub(crate) fn rechoose<A: Algebra>(
     ensures change { let at = site.now in let value = A.sig_value at.algebra.now in
         let dest = arrival.now.update.now.dest.0 in
         IfOk result (IsChange value at.net.now at.node.0 dest arrival.now.clock
-        (option_map (known_route value) before.now) (choice at.net.now dest at.node.0 (heard_by value neighbours.now))) }
+        (option_map (known_route value) before.now)
+        (choice at.net.now dest at.node.0 (heard_by value neighbours.now))) }
 {
     let dest = arrival.update.dest;
     let place = site.net.place_of(arrival.arc);

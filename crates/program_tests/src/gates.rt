@@ -1,6 +1,8 @@
 // Tests of the gate of a run: that it is the one that was handed in, and that as many workers pass it as the words say.
+use crate::floods::RING;
 use crate::program::{BAD_GADGET, run_at};
 use crate::runs::GADGET;
+use crate::settled::SHORTEST;
 use meta_base::{Delivery, Gate};
 use std::sync::atomic::{AtomicU64, Ordering};
 use std::test::Fail;
@@ -62,6 +64,19 @@ fn workers_pass_the_gate(rt: HostRuntime) -> Result<(), Fail> {
             assert!(rt; gate.deliveries() == 50, "{command} by {word}");
             assert!(rt; gate.saw_workers(workers), "{command} by {word}");
         }
+    }
+    Ok(())
+}
+
+// Each delivery of a flood passes, and each worker has a node to which cards are on their way at once.
+#[test]
+fn workers_of_a_flood_pass_the_gate(rt: HostRuntime) -> Result<(), Fail> {
+    for (word, workers) in [("1", 1), ("2", 2), ("3", 3)] {
+        let gate = Watch::new();
+        let words = ["flood", "f", "n", "--workers", word];
+        run_at(&rt, &words, SHORTEST, RING, &gate)?;
+        assert!(rt; gate.deliveries() == 18, "by {word}");
+        assert!(rt; gate.saw_workers(workers), "by {word}");
     }
     Ok(())
 }

@@ -8,6 +8,8 @@ mod codes;
 #[cfg(test)]
 mod demos;
 #[cfg(test)]
+mod floods;
+#[cfg(test)]
 mod gadgets;
 #[cfg(test)]
 mod gates;

@@ -27,7 +27,7 @@ const BOTH_WAYS: &[u8] = b"node a b c\nboth a b : 3\norigin x at b : 0\n";
 const BOTH_WAYS_ROUTES: &[u8] = b"a x 3 a b\nb x 0 b\nc x none\n";
 
 // Routes are those of the network after all its changes.
-const CHANGED: &[u8] = b"node a b c
+pub(crate) const CHANGED: &[u8] = b"node a b c
 link a b : 1
 link b c : 1
 link a c : 5
@@ -40,12 +40,12 @@ const CHANGED_ROUTES: &[u8] = b"a x 10 a b c\nb x 1 b c\nc x 0 c\n";
 
 const SHORTEST: &[u8] = b"main add(1..10);";
 
-const SHORT_THEN_WIDE: &[u8] = b"main lex(add(1..10), width(100; 0..100));";
+pub(crate) const SHORT_THEN_WIDE: &[u8] = b"main lex(add(1..10), width(100; 0..100));";
 
 const WIDE_THEN_SHORT: &[u8] = b"main lex(width(100; 0..100), add(1..10));";
 
 // The short way is the wide one's, by three arcs.
-const THREE_ARCS: &[u8] = b"node a b c d
+pub(crate) const THREE_ARCS: &[u8] = b"node a b c d
 link b d : (7,10)
 link c d : (1,6)
 link b c : (1,6)
@@ -71,7 +71,7 @@ const TIES_ROUTES: &[u8] =
     b"a x unit a b d\nb x unit b d\nc x unit c d\nd x unit d\ne x unit e b d\n";
 
 // The labels on these arcs are fit, though others of the algebra aren't.
-const FULL_WIDTH: &[u8] = b"node a b\nlink a b : (100,1)\norigin x at b : (7,0)\n";
+pub(crate) const FULL_WIDTH: &[u8] = b"node a b\nlink a b : (100,1)\norigin x at b : (7,0)\n";
 
 const FULL_WIDTH_ROUTES: &[u8] = b"a x (7,1) a b\nb x (7,0) b\n";
 
@@ -98,7 +98,9 @@ fn routes_are_found(rt: HostRuntime) -> Result<(), Fail> {
 }
 
 // In profile 2 a label may be as great as a word of 64 bits, and sums pass it.
-const WIDE: &[u8] = b"node a b c
+pub(crate) const WIDE_SUMS: &[u8] = b"raml 2; main add(1..18446744073709551615);";
+
+pub(crate) const WIDE: &[u8] = b"node a b c
 link a b : 18446744073709551615
 link b c : 18446744073709551615
 origin x at c : 18446744073709551615
@@ -111,8 +113,7 @@ c x 18446744073709551615 c
 
 #[test]
 fn sums_pass_a_word(rt: HostRuntime) -> Result<(), Fail> {
-    let file = b"raml 2; main add(1..18446744073709551615);";
-    let outcome = run_on(&rt, &["route", "f", "n"], file, WIDE)?;
+    let outcome = run_on(&rt, &["route", "f", "n"], WIDE_SUMS, WIDE)?;
     assert!(rt; ended_with(outcome, WIDE_ROUTES, 0));
     Ok(())
 }
@@ -166,8 +167,8 @@ fn dropped_arcs_forbid_nothing(rt: HostRuntime) -> Result<(), Fail> {
 
 // Numbers that look random, the same in every run.
 #[derive(Drop)]
-struct Draw {
-    state: u64,
+pub(crate) struct Draw {
+    pub(crate) state: u64,
 }
 
 impl Draw {
@@ -182,18 +183,18 @@ impl Draw {
 }
 
 // A cost, and a width that plays no part in some policies.
-type Measure = (u64, u64);
+pub(crate) type Measure = (u64, u64);
 
 // A policy, written once more by hand.
 #[derive(Clone, Copy)]
-enum Policy {
+pub(crate) enum Policy {
     Sum,
     Greatest,
     SumThenWidth,
 }
 
 impl Policy {
-    fn file(self) -> &'static [u8] {
+    pub(crate) fn file(self) -> &'static [u8] {
         match self {
             Policy::Sum => b"main add(1..9);",
             Policy::Greatest => b"main worst(9; 1..9);",
@@ -228,9 +229,9 @@ fn is_better(u: Measure, v: Measure) -> bool {
 const NODES: usize = 8;
 
 // An arc from a node to another, with its label.
-type Arc = (usize, usize, Measure);
+pub(crate) type Arc = (usize, usize, Measure);
 
-fn drawn_arcs(alloc: Global, draw: &mut Draw) -> Result<Vec<Arc>, NoMemory> {
+pub(crate) fn drawn_arcs(alloc: Global, draw: &mut Draw) -> Result<Vec<Arc>, NoMemory> {
     let mut arcs = Vec::new(alloc);
     for tail in 0..NODES {
         for head in 0..NODES {
@@ -244,7 +245,7 @@ fn drawn_arcs(alloc: Global, draw: &mut Draw) -> Result<Vec<Arc>, NoMemory> {
 }
 
 // The network of these arcs, with an origin at node 0.
-fn network_of(alloc: Global, policy: Policy, arcs: &[Arc]) -> Result<String, Fail> {
+pub(crate) fn network_of(alloc: Global, policy: Policy, arcs: &[Arc]) -> Result<String, Fail> {
     let mut text = String::new(alloc);
     for node in 0..NODES {
         writeln!(text, "node n{node}")?;

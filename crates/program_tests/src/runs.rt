@@ -14,7 +14,7 @@ const PAIR: &[u8] = b"node a b\nlink a b : 3\norigin x at b : 0\n";
 const PAIR_RUN: &[u8] = b"a x 3 a b\nb x 0 b\nquiet 1\n";
 
 // What a tells b is b's own way, which b refuses.
-const BOTH_WAYS: &[u8] = b"node a b\nboth a b : 3\norigin x at b : 0\n";
+pub(crate) const BOTH_WAYS: &[u8] = b"node a b\nboth a b : 3\norigin x at b : 0\n";
 
 const BOTH_WAYS_RUN: &[u8] = b"a x 3 a b\nb x 0 b\nquiet 2\n";
 
@@ -22,7 +22,7 @@ const BOTH_WAYS_TRACE: &[u8] = b"1 a b\n2 b a\na x 3 a b\nb x 0 b\nquiet 2\n";
 
 const BOTH_WAYS_SPENT: &[u8] = b"a x 3 a b\nb x 0 b\nspent 1\n";
 
-const BOTH_WAYS_UNHEARD: &[u8] = b"a x none\nb x 0 b\nspent 0\n";
+pub(crate) const BOTH_WAYS_UNHEARD: &[u8] = b"a x none\nb x 0 b\nspent 0\n";
 
 const PROVIDERS_RUN: &[u8] = b"u x (p,2) u v w\nv x (c,1) v w\nw x (c,0) w\nquiet 2\n";
 

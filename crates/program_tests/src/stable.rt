@@ -83,7 +83,7 @@ fn labels_forbid_stable_tables(rt: HostRuntime) -> Result<(), Fail> {
 }
 
 // Whether the run came to rest with these rows, after any number of deliveries.
-fn is_at_rest(outcome: Outcome, rows: &str) -> Result<bool, Fail> {
+pub(crate) fn is_at_rest(outcome: Outcome, rows: &str) -> Result<bool, Fail> {
     let text = str::from_utf8(&outcome.taken)?;
     match text.strip_prefix(rows) {
         Some(rest) => {

@@ -9,6 +9,7 @@ ghost use Rattle.arc_labels.specs.Neighbours.{AreSpeakerLabels};
 ghost use Rattle.report_check.specs.Compiled.{IsCompiled, IsHopFrom};
 ghost use Rattle.report_check.specs.Hops.{are_equivalent, heads_at, hops_at, hops_of};
 ghost use Rattle.report_check.specs.Views.{pure_hops};
+ghost use Rattle.stable_check.specs.Checks.{own_at};
 
 use crate::compiled::{Compiled, sig_at};
 use crate::look::image_along;
@@ -124,21 +125,24 @@ fn heads_at<A: Algebra>(
     ensures { IfOk result (λ heads. numbers heads ≡
         heads_at form.now.net.now (rows_of form.now.table.now) node.0) }
 {
+    let row = sig_at(&form.rows, node);
     let hops = form.labels.of(node);
     let mut heads = Vec::with_capacity(alloc, hops.len())?;
     for hop in hops {
-        if is_hop(alloc, form, node, hop, spare)? {
+        if is_hop(alloc, form, node, row, hop, spare)? {
             heads.push(hop.node)?;
         }
     }
     Ok(List::from_vec(heads))
 }
 
-// Whether what the arc to the hop makes of its head's row is as good as the node's row.
+// Whether what the arc to the hop makes of its head's row is as good as the node's row, for whose value the one handed in
+// stands.
 fn is_hop<A: Algebra>(
     alloc: Global,
     form: &Compiled<'_, A>,
     node: NodeId,
+    row: Option<&A::Sig>,
     hop: &Neighbour<'_, A::Lab>,
     spare: &mut Option<A::Sig>,
 ) -> Result<bool, NoMemory>
@@ -146,6 +150,7 @@ fn is_hop<A: Algebra>(
     requires compiled { let a = form.now.algebra.now in IsCompiled (A.is_sig a) (A.sig_value a) (A.stands_for a)
         form.now.net.now form.now.table.now.dest.0 (rows_of form.now.table.now)
         form.now.labels.now form.now.rows.items form.now.own.items }
+    requires row { option_map (λ s. s.now) row ≡ own_at form.now.rows.items node.0 }
     requires hop { IsHopFrom (A.stands_for form.now.algebra.now) form.now.net.now node.0 hop.now }
     ensures { IfOk result (λ r. r ≡ are_equivalent (carrier form.now.net.now) (along form.now.net.now node.0
         hop.now.node.0 (value_at (rows_of form.now.table.now) hop.now.node.0))
@@ -154,5 +159,5 @@ fn is_hop<A: Algebra>(
     if !image_along(alloc, form, hop, spare)? {
         return Ok(false);
     }
-    Ok(is_as_good(form.algebra, spare.as_ref(), sig_at(&form.rows, node)))
+    Ok(is_as_good(form.algebra, spare.as_ref(), row))
 }

@@ -7,8 +7,8 @@ use Rattle.alg_model.specs.declared.tree.Label.{Label}
 use Rattle.alg_model.specs.Expressions.{Expression, PureCarrier, PureValue, PureLabel}
 use Rattle.alg_model.specs.Views.{pure_value, pure_label}
 use Rattle.sig_text.specs.declared.faults.LitFault.{LitFault}
-use Rattle.sig_text.specs.declared.faults.Stop.{Stop}
-use Rattle.sig_text.specs.declared.faults.Stop.TheVariants.{NoShape}
+use Rattle.sig_text.specs.declared.faults.ReadStop.{ReadStop}
+use Rattle.sig_text.specs.declared.faults.ReadStop.TheVariants.{NoShape}
 use Rattle.sig_text.specs.declared.parts.Next.{Next}
 use Rattle.sig_text.specs.declared.parts.Next.TheVariants.{End, Word, Number, TooLarge, Mark}
 use Rattle.sig_text.specs.Parts.{Part, word, digits, mark, Step, end, part}
@@ -42,37 +42,37 @@ label_outcome (Ok l) = Ok (pure_label l)
 label_outcome (Err fault) = Err fault
 
 -- a reader took this from the front of the parts, or stopped where there is nothing to take
-abbrev pub Takes : {A B : Type 0} → (A → B) → Option (B × List Part) → Result (A × Bor (List ℕ)) Stop → Type 0
+abbrev pub Takes : {A B : Type 0} → (A → B) → Option (B × List Part) → Result (A × Bor (List ℕ)) ReadStop → Type 0
 Takes view taken result =
     IfOk result (λ found. taken ≡ Some (view found.0, parts_of found.1.now)) × (result ≡ Err NoShape → taken ≡ None)
 
 -- a reader took away what leaves these parts, or stopped where it isn't there
-abbrev pub Leaves : Option (List Part) → Result (Bor (List ℕ)) Stop → Type 0
+abbrev pub Leaves : Option (List Part) → Result (Bor (List ℕ)) ReadStop → Type 0
 Leaves left result = IfOk result (λ rest. left ≡ Some (parts_of rest.now)) × (result ≡ Err NoShape → left ≡ None)
 
 -- a reader took this, which is all, or stopped where there is nothing to take or not all is taken
-abbrev pub TakesAll : {A B : Type 0} → (A → B) → Option (B × List Part) → Result A Stop → Type 0
+abbrev pub TakesAll : {A B : Type 0} → (A → B) → Option (B × List Part) → Result A ReadStop → Type 0
 TakesAll view taken result =
     IfOk result (λ found. taken ≡ Some (view found, [])) × (result ≡ Err NoShape → NotWhole taken)
 
 -- a reader took a value of the carrier, or a label of the algebra, from the front of a text
-abbrev pub TakesValue : ℕ → PureCarrier → List ℕ → Result (Result Value LitFault × Bor (List ℕ)) Stop → Type 0
+abbrev pub TakesValue : ℕ → PureCarrier → List ℕ → Result (Result Value LitFault × Bor (List ℕ)) ReadStop → Type 0
 TakesValue greatest c text result = Takes value_outcome (value_at greatest c (parts_of text)) result
 
-abbrev pub TakesLabel : ℕ → Expression → List ℕ → Result (Result Label LitFault × Bor (List ℕ)) Stop → Type 0
+abbrev pub TakesLabel : ℕ → Expression → List ℕ → Result (Result Label LitFault × Bor (List ℕ)) ReadStop → Type 0
 TakesLabel greatest a text result = Takes label_outcome (label_at greatest a (parts_of text)) result
 
 -- a reader took two labels in parentheses, with that mark between them
 abbrev pub TakesTwo : ℕ → ℕ → Expression → Expression → List ℕ
-    → Result ((Result Label LitFault × Result Label LitFault) × Bor (List ℕ)) Stop → Type 0
+    → Result ((Result Label LitFault × Result Label LitFault) × Bor (List ℕ)) ReadStop → Type 0
 TakesTwo greatest between a b text result =
     Takes (λ two. (label_outcome two.0, label_outcome two.1))
     (take_both between (label_at greatest a) (label_at greatest b) (parts_of text)) result
 
 -- a reader took what follows `out` and what follows `in`
 abbrev pub TakesOuter : ℕ → Expression → Expression → List ℕ
-    → Result (Result Label LitFault × Bor (List ℕ)) Stop → Type 0
+    → Result (Result Label LitFault × Bor (List ℕ)) ReadStop → Type 0
 TakesOuter greatest a b text result = Takes label_outcome (outer_at greatest a b (parts_of text)) result
 
-abbrev pub TakesInner : ℕ → Expression → List ℕ → Result (Result Label LitFault × Bor (List ℕ)) Stop → Type 0
+abbrev pub TakesInner : ℕ → Expression → List ℕ → Result (Result Label LitFault × Bor (List ℕ)) ReadStop → Type 0
 TakesInner greatest b text result = Takes label_outcome (inner_at greatest b (parts_of text)) result

@@ -2,7 +2,7 @@ ghost use Rattle.std.specs.Prelude.{◌≡◌, IfOk};
 ghost use Rattle.sig_text.specs.Faults.{lit_fault_number};
 ghost use Rattle.sig_text.specs.Literals.{both_of, one_of};
 ghost use Rattle.sig_text.specs.declared.faults.LitError.TheVariants as error;
-ghost use Rattle.sig_text.specs.declared.faults.Stop.TheVariants as stop;
+ghost use Rattle.sig_text.specs.declared.faults.ReadStop.TheVariants as stop;
 
 use meta_base::NoMemory;
 use std::alloc::{AllocError, AllocFailed, Global};
@@ -92,32 +92,32 @@ pub(crate) fn boxed<T: Drop>(
 
 /// Why a reader stopped before the end of a shape.
 #[derive(Clone, Copy)]
-pub(crate) enum Stop {
+pub(crate) enum ReadStop {
     /// What stands there has not the shape that is asked for.
     NoShape,
     NoMemory,
 }
 
-impl From<NoMemory> for Stop {
+impl From<NoMemory> for ReadStop {
     ghost from_gives = { λ _ e. e ≡ stop.NoMemory };
 
     fn from(_: NoMemory) -> Self {
-        Stop::NoMemory
+        ReadStop::NoMemory
     }
 }
 
-impl From<AllocError> for Stop {
+impl From<AllocError> for ReadStop {
     ghost from_gives = { λ _ e. e ≡ stop.NoMemory };
 
     fn from(_: AllocError) -> Self {
-        Stop::NoMemory
+        ReadStop::NoMemory
     }
 }
 
-impl<T: Drop> From<AllocFailed<T>> for Stop {
+impl<T: Drop> From<AllocFailed<T>> for ReadStop {
     ghost from_gives = { λ _ e. e ≡ stop.NoMemory };
 
     fn from(_: AllocFailed<T>) -> Self {
-        Stop::NoMemory
+        ReadStop::NoMemory
     }
 }

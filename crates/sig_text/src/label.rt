@@ -13,7 +13,7 @@ ghost use Rattle.sig_text.specs.declared.bytes.TheConstants.{MAX_LITERAL_NUMBER}
 ghost use Rattle.sig_text.specs.Reading.{take_word, keep_at, gate_at, row_at, ranged_at, symbol_at, tag_at, guard_at};
 
 use crate::LitFault;
-use crate::faults::{Stop, both, boxed};
+use crate::faults::{ReadStop, both, boxed};
 use crate::parts::{
     Next, Scope, Side, mark_at, marked_at, next_part, number_at, scope_at, side_at, word_at,
 };
@@ -32,7 +32,7 @@ pub fn label_at<'a>(
     tree: &Tree,
     greatest: Amount,
     text: &'a [u8],
-) -> Result<(Result<Label, LitFault>, &'a [u8]), Stop>
+) -> Result<(Result<Label, LitFault>, &'a [u8]), ReadStop>
     requires ranges { MeetsRanges (expression_of tree.now) }
     requires greatest { greatest ≤ MAX_LITERAL_NUMBER }
     ensures { TakesLabel greatest (expression_of tree.now) text.now result }
@@ -47,7 +47,7 @@ fn form_label_at<'a>(
     form: LabelForm<'_>,
     greatest: Amount,
     text: &'a [u8],
-) -> Result<(Result<Label, LitFault>, &'a [u8]), Stop>
+) -> Result<(Result<Label, LitFault>, &'a [u8]), ReadStop>
     requires ranges { MeetsRanges (form_expression form) }
     requires greatest { greatest ≤ MAX_LITERAL_NUMBER }
     ensures { TakesLabel greatest (form_expression form.entry) text.now result }
@@ -76,7 +76,7 @@ fn lex_at<'a>(
     b: &Tree,
     greatest: Amount,
     text: &'a [u8],
-) -> Result<(Result<Label, LitFault>, &'a [u8]), Stop>
+) -> Result<(Result<Label, LitFault>, &'a [u8]), ReadStop>
     requires first { MeetsRanges (expression_of a.now) }
     requires second { MeetsRanges (expression_of b.now) }
     requires greatest { greatest ≤ MAX_LITERAL_NUMBER }
@@ -93,7 +93,7 @@ fn sum_at<'a>(
     b: &Tree,
     greatest: Amount,
     text: &'a [u8],
-) -> Result<(Result<Label, LitFault>, &'a [u8]), Stop>
+) -> Result<(Result<Label, LitFault>, &'a [u8]), ReadStop>
     requires first { MeetsRanges (expression_of a.now) }
     requires second { MeetsRanges (expression_of b.now) }
     requires greatest { greatest ≤ MAX_LITERAL_NUMBER }
@@ -112,7 +112,7 @@ fn two_at<'a>(
     between: u8,
     greatest: Amount,
     text: &'a [u8],
-) -> Result<((Result<Label, LitFault>, Result<Label, LitFault>), &'a [u8]), Stop>
+) -> Result<((Result<Label, LitFault>, Result<Label, LitFault>), &'a [u8]), ReadStop>
     requires first { MeetsRanges (expression_of a.now) }
     requires second { MeetsRanges (expression_of b.now) }
     requires greatest { greatest ≤ MAX_LITERAL_NUMBER }
@@ -130,7 +130,7 @@ fn scoped_at<'a>(
     b: &Tree,
     greatest: Amount,
     text: &'a [u8],
-) -> Result<(Result<Label, LitFault>, &'a [u8]), Stop>
+) -> Result<(Result<Label, LitFault>, &'a [u8]), ReadStop>
     requires first { MeetsRanges (expression_of a.now) }
     requires second { MeetsRanges (expression_of b.now) }
     requires greatest { greatest ≤ MAX_LITERAL_NUMBER }
@@ -149,7 +149,7 @@ fn outer_at<'a>(
     b: &Tree,
     greatest: Amount,
     text: &'a [u8],
-) -> Result<(Result<Label, LitFault>, &'a [u8]), Stop>
+) -> Result<(Result<Label, LitFault>, &'a [u8]), ReadStop>
     requires first { MeetsRanges (expression_of a.now) }
     requires second { MeetsRanges (expression_of b.now) }
     requires greatest { greatest ≤ MAX_LITERAL_NUMBER }
@@ -167,7 +167,7 @@ fn inner_at<'a>(
     b: &Tree,
     greatest: Amount,
     text: &'a [u8],
-) -> Result<(Result<Label, LitFault>, &'a [u8]), Stop>
+) -> Result<(Result<Label, LitFault>, &'a [u8]), ReadStop>
     requires ranges { MeetsRanges (expression_of b.now) }
     requires greatest { greatest ≤ MAX_LITERAL_NUMBER }
     ensures { TakesInner greatest (expression_of b.now) text.now result }
@@ -184,7 +184,7 @@ fn sided_at<'a>(
     b: &Tree,
     greatest: Amount,
     text: &'a [u8],
-) -> Result<(Result<Label, LitFault>, &'a [u8]), Stop>
+) -> Result<(Result<Label, LitFault>, &'a [u8]), ReadStop>
     requires first { MeetsRanges (expression_of a.now) }
     requires second { MeetsRanges (expression_of b.now) }
     requires greatest { greatest ≤ MAX_LITERAL_NUMBER }
@@ -207,7 +207,7 @@ fn const_at<'a>(
     tree: &Tree,
     greatest: Amount,
     text: &'a [u8],
-) -> Result<(Result<Label, LitFault>, &'a [u8]), Stop>
+) -> Result<(Result<Label, LitFault>, &'a [u8]), ReadStop>
     requires ranges { MeetsRanges (expression_of tree.now) }
     requires greatest { greatest ≤ MAX_LITERAL_NUMBER }
     ensures { TakesLabel greatest (left (expression_of tree.now)) text.now result }
@@ -221,7 +221,7 @@ fn ranged_at(
     high: u64,
     greatest: Amount,
     text: &[u8],
-) -> Result<(Result<Label, LitFault>, &[u8]), Stop>
+) -> Result<(Result<Label, LitFault>, &[u8]), ReadStop>
     requires { greatest ≤ MAX_LITERAL_NUMBER }
     ensures { Takes label_outcome (ranged_at greatest low high (parts_of text.now)) result }
 {
@@ -243,7 +243,7 @@ fn bounded_at(
     top: u64,
     greatest: Amount,
     text: &[u8],
-) -> Result<(Result<Label, LitFault>, &[u8]), Stop>
+) -> Result<(Result<Label, LitFault>, &[u8]), ReadStop>
     requires { greatest ≤ MAX_LITERAL_NUMBER }
     ensures { TakesLabel greatest (pref top) text.now result }
 {
@@ -265,7 +265,7 @@ fn symbol_at(
     count: u64,
     greatest: Amount,
     text: &[u8],
-) -> Result<(Result<Label, LitFault>, &[u8]), Stop>
+) -> Result<(Result<Label, LitFault>, &[u8]), ReadStop>
     requires { greatest ≤ MAX_LITERAL_NUMBER }
     ensures { Takes label_outcome (symbol_at greatest count (parts_of text.now)) result }
 {
@@ -283,12 +283,12 @@ fn symbol_below(count: u64, n: Amount) -> Result<Label, LitFault>
     }
 }
 
-fn keep_at(text: &[u8]) -> Result<(Result<Label, LitFault>, &[u8]), Stop>
+fn keep_at(text: &[u8]) -> Result<(Result<Label, LitFault>, &[u8]), ReadStop>
     ensures { Takes label_outcome (option_and_then keep_at (take_word (parts_of text.now))) result }
 {
     match word_at(text)? {
         (b"keep", rest) => Ok((Ok(Label::Keep), rest)),
-        _ => Err(Stop::NoShape),
+        _ => Err(ReadStop::NoShape),
     }
 }
 
@@ -296,7 +296,7 @@ fn tag_at(
     count: u64,
     greatest: Amount,
     text: &[u8],
-) -> Result<(Result<Label, LitFault>, &[u8]), Stop>
+) -> Result<(Result<Label, LitFault>, &[u8]), ReadStop>
     requires count { count ≤ MAX_MARKS }
     requires greatest { greatest ≤ MAX_LITERAL_NUMBER }
     ensures { Takes label_outcome (tag_at greatest count (parts_of text.now)) result }
@@ -326,7 +326,7 @@ fn guard_at(
     count: u64,
     greatest: Amount,
     text: &[u8],
-) -> Result<(Result<Label, LitFault>, &[u8]), Stop>
+) -> Result<(Result<Label, LitFault>, &[u8]), ReadStop>
     requires count { count ≤ MAX_MARKS }
     requires greatest { greatest ≤ MAX_LITERAL_NUMBER }
     ensures { Takes label_outcome (guard_at greatest count (parts_of text.now)) result }
@@ -349,20 +349,20 @@ fn guard_of(count: u64, mark: u8, n: Amount) -> Result<Label, LitFault>
     }
 }
 
-fn gate_at(text: &[u8]) -> Result<(Result<Label, LitFault>, &[u8]), Stop>
+fn gate_at(text: &[u8]) -> Result<(Result<Label, LitFault>, &[u8]), ReadStop>
     ensures { Takes label_outcome (option_and_then gate_at (take_word (parts_of text.now))) result }
 {
     match word_at(text)? {
         (b"allow", rest) => Ok((Ok(Label::Allow), rest)),
         (b"deny", rest) => Ok((Ok(Label::Deny), rest)),
-        _ => Err(Stop::NoShape),
+        _ => Err(ReadStop::NoShape),
     }
 }
 
 fn row_at<'a>(
     rows: &[TableRow],
     text: &'a [u8],
-) -> Result<(Result<Label, LitFault>, &'a [u8]), Stop>
+) -> Result<(Result<Label, LitFault>, &'a [u8]), ReadStop>
     requires { length rows.now ≤ MAX_TABLE_NAMES }
     ensures { Takes label_outcome (row_at rows.now (parts_of text.now)) result }
 {

@@ -5,10 +5,10 @@ ghost use Rattle.sig_text.specs.Sequences.{parts_of};
 ghost use Rattle.sig_text.specs.Views.{IsStep, IsFront, Takes, Leaves};
 ghost use Rattle.sig_text.specs.declared.bytes.TheConstants.{MAX_LITERAL_NUMBER};
 ghost use Rattle.sig_text.specs.Reading.{take_mark, take_number, take_word, take_side, take_list, items_until, take_either, take_marked, take_scope};
-ghost use Rattle.sig_text.specs.declared.faults.Stop.TheVariants.{NoShape};
+ghost use Rattle.sig_text.specs.declared.faults.ReadStop.TheVariants.{NoShape};
 
 use crate::bytes::{split_number, split_word};
-use crate::faults::Stop;
+use crate::faults::ReadStop;
 use alg_model::Amount;
 use meta_base::bytes::{after_blanks, is_digit, is_letter};
 use std::alloc::Global;
@@ -50,44 +50,44 @@ fn next_at(text: &[u8]) -> Next<'_>
 }
 
 // Only blanks are left.
-pub fn end_at(text: &[u8]) -> Result<(), Stop>
+pub fn end_at(text: &[u8]) -> Result<(), ReadStop>
     ensures found { OnOk result (parts_of text.now ≡ []) }
     ensures none { result ≡ Err NoShape → parts_of text.now ≡ [] → ⊥ }
 {
     match next_part(text) {
         Next::End => Ok(()),
-        _ => Err(Stop::NoShape),
+        _ => Err(ReadStop::NoShape),
     }
 }
 
 // What comes after that mark.
-pub fn mark_at(text: &[u8], wanted: u8) -> Result<&[u8], Stop>
+pub fn mark_at(text: &[u8], wanted: u8) -> Result<&[u8], ReadStop>
     ensures { Leaves (take_mark wanted (parts_of text.now)) result }
 {
     match next_part(text) {
         Next::Mark(mark, rest) if mark == wanted => Ok(rest),
-        _ => Err(Stop::NoShape),
+        _ => Err(ReadStop::NoShape),
     }
 }
 
 // A number that is at most the greatest, and what comes after it.
-pub fn number_at(text: &[u8], greatest: Amount) -> Result<(Amount, &[u8]), Stop>
+pub fn number_at(text: &[u8], greatest: Amount) -> Result<(Amount, &[u8]), ReadStop>
     requires { greatest ≤ MAX_LITERAL_NUMBER }
     ensures { Takes (λ n. n) (take_number greatest (parts_of text.now)) result }
 {
     match next_part(text) {
         Next::Number(n, rest) if n <= greatest => Ok((n, rest)),
-        _ => Err(Stop::NoShape),
+        _ => Err(ReadStop::NoShape),
     }
 }
 
 // A word, and what comes after it.
-pub fn word_at(text: &[u8]) -> Result<(&[u8], &[u8]), Stop>
+pub fn word_at(text: &[u8]) -> Result<(&[u8], &[u8]), ReadStop>
     ensures { Takes (λ w. w.now) (take_word (parts_of text.now)) result }
 {
     match next_part(text) {
         Next::Word(word, rest) => Ok((word, rest)),
-        _ => Err(Stop::NoShape),
+        _ => Err(ReadStop::NoShape),
     }
 }
 
@@ -99,7 +99,7 @@ pub enum Side {
 }
 
 // The side that `l:` or `r:` says, and what comes after it.
-pub fn side_at(text: &[u8]) -> Result<(Side, &[u8]), Stop>
+pub fn side_at(text: &[u8]) -> Result<(Side, &[u8]), ReadStop>
     ensures { Takes (λ side. side) (take_side (parts_of text.now)) result }
 {
     let (word, rest) = word_at(text)?;
@@ -107,7 +107,7 @@ pub fn side_at(text: &[u8]) -> Result<(Side, &[u8]), Stop>
     match word {
         b"l" => Ok((Side::First, rest)),
         b"r" => Ok((Side::Second, rest)),
-        _ => Err(Stop::NoShape),
+        _ => Err(ReadStop::NoShape),
     }
 }
 
@@ -121,23 +121,23 @@ pub enum Scope {
 }
 
 // The scope that `out` or `in` says, and what comes after it.
-pub fn scope_at(text: &[u8]) -> Result<(Scope, &[u8]), Stop>
+pub fn scope_at(text: &[u8]) -> Result<(Scope, &[u8]), ReadStop>
     ensures { Takes (λ scope. scope) (take_scope (parts_of text.now)) result }
 {
     match word_at(text)? {
         (b"out", rest) => Ok((Scope::Outer, rest)),
         (b"in", rest) => Ok((Scope::Inner, rest)),
-        _ => Err(Stop::NoShape),
+        _ => Err(ReadStop::NoShape),
     }
 }
 
 // One of two marks, and what comes after it.
-fn either_at(text: &[u8], one: u8, other: u8) -> Result<(u8, &[u8]), Stop>
+fn either_at(text: &[u8], one: u8, other: u8) -> Result<(u8, &[u8]), ReadStop>
     ensures { Takes (λ mark. mark) (take_either one other (parts_of text.now)) result }
 {
     match next_part(text) {
         Next::Mark(mark, rest) if mark == one || mark == other => Ok((mark, rest)),
-        _ => Err(Stop::NoShape),
+        _ => Err(ReadStop::NoShape),
     }
 }
 
@@ -147,7 +147,7 @@ pub fn marked_at(
     one: u8,
     other: u8,
     greatest: Amount,
-) -> Result<((u8, Amount), &[u8]), Stop>
+) -> Result<((u8, Amount), &[u8]), ReadStop>
     requires { greatest ≤ MAX_LITERAL_NUMBER }
     ensures { Takes (λ marked. marked) (take_marked greatest one other (parts_of text.now)) result }
 {
@@ -163,7 +163,7 @@ pub fn list_at(
     opening: u8,
     closing: u8,
     greatest: Amount,
-) -> Result<(Vec<Amount>, &[u8]), Stop>
+) -> Result<(Vec<Amount>, &[u8]), ReadStop>
     requires { greatest ≤ MAX_LITERAL_NUMBER }
     ensures { Takes (λ ns. ns.items) (take_list greatest opening closing (parts_of text.now)) result }
 {
@@ -180,7 +180,7 @@ fn items_until(
     text: &[u8],
     closing: u8,
     greatest: Amount,
-) -> Result<(Vec<Amount>, &[u8]), Stop>
+) -> Result<(Vec<Amount>, &[u8]), ReadStop>
     requires { greatest ≤ MAX_LITERAL_NUMBER }
     ensures { Takes (λ ns. ns.items) (items_until greatest closing [] (parts_of text.now)) result }
 {
@@ -192,7 +192,7 @@ fn items_until(
         match next_part(after) {
             Next::Mark(mark, rest) if mark == closing => return Ok((numbers, rest)),
             Next::Mark(b',', rest) => text = rest,
-            _ => return Err(Stop::NoShape),
+            _ => return Err(ReadStop::NoShape),
         }
     }
 }

@@ -11,7 +11,7 @@ ghost use Rattle.sig_text.specs.Sequences.{parts_of};
 ghost use Rattle.sig_text.specs.Spelled.{spelled_value, spelled_value_to, spelled_label};
 ghost use Rattle.sig_text.specs.Views.{value_outcome, label_outcome, TakesAll};
 
-use crate::faults::Stop;
+use crate::faults::ReadStop;
 use crate::label::label_at;
 use crate::parts::end_at;
 use crate::value::value_at;
@@ -68,8 +68,8 @@ pub fn read_value_to(
     match whole_value(alloc, alg, text, greatest) {
         Ok(Ok(value)) => Ok(value),
         Ok(Err(fault)) => Err(LitError::Bad(fault)),
-        Err(Stop::NoShape) => Err(LitError::Bad(LitFault::BadText)),
-        Err(Stop::NoMemory) => Err(LitError::NoMemory),
+        Err(ReadStop::NoShape) => Err(LitError::Bad(LitFault::BadText)),
+        Err(ReadStop::NoMemory) => Err(LitError::NoMemory),
     }
 }
 
@@ -79,7 +79,7 @@ fn whole_value(
     alg: &Alg,
     text: &[u8],
     greatest: Amount,
-) -> Result<Result<Value, LitFault>, Stop>
+) -> Result<Result<Value, LitFault>, ReadStop>
     requires { greatest ≤ MAX_LITERAL_NUMBER }
     ensures { TakesAll value_outcome (value_at greatest (carrier_of alg.now.expression) (parts_of text.now)) result }
 {
@@ -110,13 +110,13 @@ pub fn read_label(alloc: Global, alg: &Alg, text: &[u8]) -> Result<Label, LitErr
     match whole_label(alloc, alg, text) {
         Ok(Ok(label)) => Ok(label),
         Ok(Err(fault)) => Err(LitError::Bad(fault)),
-        Err(Stop::NoShape) => Err(LitError::Bad(LitFault::BadText)),
-        Err(Stop::NoMemory) => Err(LitError::NoMemory),
+        Err(ReadStop::NoShape) => Err(LitError::Bad(LitFault::BadText)),
+        Err(ReadStop::NoMemory) => Err(LitError::NoMemory),
     }
 }
 
 // The label that all of the text spells, or the first fault in it.
-fn whole_label(alloc: Global, alg: &Alg, text: &[u8]) -> Result<Result<Label, LitFault>, Stop>
+fn whole_label(alloc: Global, alg: &Alg, text: &[u8]) -> Result<Result<Label, LitFault>, ReadStop>
     ensures { TakesAll label_outcome
         (label_at (greatest_number alg.now.edition) alg.now.expression (parts_of text.now)) result }
 {

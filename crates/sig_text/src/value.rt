@@ -7,7 +7,7 @@ ghost use Rattle.alg_model.specs.Formation.{MeetsRanges};
 ghost use Rattle.alg_model.specs.Expressions.{whole, up_to, seqs, simseqs, sets, pairs, sides, number, symbols, pair, first, second};
 ghost use Rattle.alg_model.specs.declared.alg.TheConstants.{MAX_MARKS, MAX_TABLE_NAMES};
 ghost use Rattle.sig_text.specs.declared.faults.LitFault.TheVariants.{NotInCarrier};
-ghost use Rattle.sig_text.specs.declared.faults.Stop.TheVariants.{NoShape};
+ghost use Rattle.sig_text.specs.declared.faults.ReadStop.TheVariants.{NoShape};
 ghost use Rattle.sig_text.specs.Literals.{where_true, both_of, one_of, set_of, value_of};
 ghost use Rattle.sig_text.specs.Shapes.{list_shape};
 ghost use Rattle.sig_text.specs.Sequences.{parts_of};
@@ -16,7 +16,7 @@ ghost use Rattle.sig_text.specs.declared.bytes.TheConstants.{MAX_LITERAL_NUMBER}
 ghost use Rattle.sig_text.specs.Reading.{take_word, set_from, unit_at, name_at};
 
 use crate::LitFault;
-use crate::faults::{Stop, both, boxed};
+use crate::faults::{ReadStop, both, boxed};
 use crate::parts::{Side, list_at, mark_at, number_at, side_at, word_at};
 use alg_model::{Amount, Form, MAX_MARKS, MAX_TABLE_NAMES, Tree, Value, place_of};
 use meta_base::{List, NoMemory, Text};
@@ -31,7 +31,7 @@ pub fn value_at<'a>(
     tree: &Tree,
     greatest: Amount,
     text: &'a [u8],
-) -> Result<(Result<Value, LitFault>, &'a [u8]), Stop>
+) -> Result<(Result<Value, LitFault>, &'a [u8]), ReadStop>
     requires ranges { MeetsRanges (expression_of tree.now) }
     requires greatest { greatest ≤ MAX_LITERAL_NUMBER }
     ensures { TakesValue greatest (carrier_of (expression_of tree.now)) text.now result }
@@ -56,7 +56,7 @@ fn pair_at<'a>(
     b: &Tree,
     greatest: Amount,
     text: &'a [u8],
-) -> Result<(Result<Value, LitFault>, &'a [u8]), Stop>
+) -> Result<(Result<Value, LitFault>, &'a [u8]), ReadStop>
     requires first { MeetsRanges (expression_of a.now) }
     requires second { MeetsRanges (expression_of b.now) }
     requires greatest { greatest ≤ MAX_LITERAL_NUMBER }
@@ -76,7 +76,7 @@ fn sided_at<'a>(
     b: &Tree,
     greatest: Amount,
     text: &'a [u8],
-) -> Result<(Result<Value, LitFault>, &'a [u8]), Stop>
+) -> Result<(Result<Value, LitFault>, &'a [u8]), ReadStop>
     requires first { MeetsRanges (expression_of a.now) }
     requires second { MeetsRanges (expression_of b.now) }
     requires greatest { greatest ≤ MAX_LITERAL_NUMBER }
@@ -95,7 +95,7 @@ fn sided_at<'a>(
     }
 }
 
-fn whole_at(greatest: Amount, text: &[u8]) -> Result<(Result<Value, LitFault>, &[u8]), Stop>
+fn whole_at(greatest: Amount, text: &[u8]) -> Result<(Result<Value, LitFault>, &[u8]), ReadStop>
     requires { greatest ≤ MAX_LITERAL_NUMBER }
     ensures { TakesValue greatest whole text.now result }
 {
@@ -107,7 +107,7 @@ fn bounded_at(
     top: u64,
     greatest: Amount,
     text: &[u8],
-) -> Result<(Result<Value, LitFault>, &[u8]), Stop>
+) -> Result<(Result<Value, LitFault>, &[u8]), ReadStop>
     requires { greatest ≤ MAX_LITERAL_NUMBER }
     ensures { TakesValue greatest (up_to top) text.now result }
 {
@@ -130,7 +130,7 @@ fn symbols_at(
     count: u64,
     greatest: Amount,
     text: &[u8],
-) -> Result<(Result<Value, LitFault>, &[u8]), Stop>
+) -> Result<(Result<Value, LitFault>, &[u8]), ReadStop>
     requires { greatest ≤ MAX_LITERAL_NUMBER }
     ensures { TakesValue greatest (seqs count) text.now result }
 {
@@ -143,7 +143,7 @@ fn simple_at(
     count: u64,
     greatest: Amount,
     text: &[u8],
-) -> Result<(Result<Value, LitFault>, &[u8]), Stop>
+) -> Result<(Result<Value, LitFault>, &[u8]), ReadStop>
     requires { greatest ≤ MAX_LITERAL_NUMBER }
     ensures { TakesValue greatest (simseqs count) text.now result }
 {
@@ -216,7 +216,7 @@ fn set_at(
     count: u64,
     greatest: Amount,
     text: &[u8],
-) -> Result<(Result<Value, LitFault>, &[u8]), Stop>
+) -> Result<(Result<Value, LitFault>, &[u8]), ReadStop>
     requires count { count ≤ MAX_MARKS }
     requires greatest { greatest ≤ MAX_LITERAL_NUMBER }
     ensures { TakesValue greatest (sets count) text.now result }
@@ -227,13 +227,17 @@ fn set_at(
 }
 
 // The set of these numbers, none of which may be there twice.
-fn set_from(alloc: Global, count: u64, numbers: &[Amount]) -> Result<Result<Value, LitFault>, Stop>
+fn set_from(
+    alloc: Global,
+    count: u64,
+    numbers: &[Amount],
+) -> Result<Result<Value, LitFault>, ReadStop>
     requires { count ≤ MAX_MARKS }
     ensures found { IfOk result (λ value. set_from count numbers.now ≡ Some (value_outcome value)) }
     ensures none { result ≡ Err NoShape → set_from count numbers.now ≡ None }
 {
     if !are_distinct(alloc, numbers)? {
-        Err(Stop::NoShape)
+        Err(ReadStop::NoShape)
     } else if are_below(count, numbers) {
         Ok(Ok(Value::Marks(set_of(count, numbers))))
     } else {
@@ -272,16 +276,19 @@ fn are_distinct(alloc: Global, numbers: &[Amount]) -> Result<bool, NoMemory>
     Ok(true)
 }
 
-fn unit_at(text: &[u8]) -> Result<(Result<Value, LitFault>, &[u8]), Stop>
+fn unit_at(text: &[u8]) -> Result<(Result<Value, LitFault>, &[u8]), ReadStop>
     ensures { Takes value_outcome (option_and_then unit_at (take_word (parts_of text.now))) result }
 {
     match word_at(text)? {
         (b"unit", rest) => Ok((Ok(Value::Unit), rest)),
-        _ => Err(Stop::NoShape),
+        _ => Err(ReadStop::NoShape),
     }
 }
 
-fn name_at<'a>(names: &[Text], text: &'a [u8]) -> Result<(Result<Value, LitFault>, &'a [u8]), Stop>
+fn name_at<'a>(
+    names: &[Text],
+    text: &'a [u8],
+) -> Result<(Result<Value, LitFault>, &'a [u8]), ReadStop>
     requires { length names.now ≤ MAX_TABLE_NAMES }
     ensures { Takes value_outcome (name_at names.now (parts_of text.now)) result }
 {

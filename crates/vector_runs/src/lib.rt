@@ -13,4 +13,4 @@ pub use laws::{
 };
 pub use node_runs::Budget;
 pub use nodes::carried_nodes;
-pub use run::{Phase, Run, run_phases};
+pub use run::{Phase, PhasedRun, run_phases};

@@ -22,9 +22,9 @@ pub struct Phase {
     pub journal: List<Delivery>,
 }
 
-/// What a run came to.
+/// What a run through phases came to.
 #[derive(Debug, Drop)]
-pub struct Run {
+pub struct PhasedRun {
     /// The phases before the last, each of which ended with nothing on its way.
     pub past: List<Phase>,
     pub last: Phase,
@@ -45,7 +45,7 @@ pub fn run_phases<A: Algebra + Sync, G: Gate, R: Threads + Wait + Sync>(
     changed: &[Net],
     budget: Budget,
     gate: &G,
-) -> Result<Run, NoMemory>
+) -> Result<PhasedRun, NoMemory>
 where
     A::Sig: Send,
     A::Lab: Send,
@@ -76,7 +76,7 @@ where
         let nodes = carried_nodes(alloc, nodes, next)?;
         now = run_once(rt, alloc, &finder, next, nodes, left, gate)?;
     }
-    Ok(Run {
+    Ok(PhasedRun {
         past,
         last: Phase {
             rows: now.found,

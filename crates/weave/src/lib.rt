@@ -1,6 +1,7 @@
 //! Phases of runs on several workers: nodes of any kind that are begun on a network, and deliveries that workers make
 //! at once, each among the nodes of its block, until nothing is on its way or turns are used up. It stands on
-//! `woven_laws`, `journal_merge`, `link_queues` and `quiet_ledger`; it knows no route and prints nothing.
+//! `node_core`, on `net_graph` and its `alg_model`, and on `woven_laws`, `journal_merge`, `link_queues` and
+//! `quiet_ledger`; it knows no route and prints nothing.
 #![tactic(auto)]
 
 mod between;

@@ -24,7 +24,7 @@ fix-requires-clause-node g c =
     let old_t = c.args.search.now.standing in
     let t = c.take_best.new.self.standing in
     let taken = c.in-Some.ensures in
-    let next = next_taken value is_sig carrier (reported_by value paths rows) best c.take_best.new.self.best.items old_t t route c.requires.queue taken.route taken.first taken.taken c.take_best.ensures.ranked in
+    let next = next_taken value is_sig carrier (reported_by value paths rows) best c.take_best.new.self.best.items old_t t route c.requires.queue taken.route taken.first taken.taken c.take_best.ensures.ranked.ranked in
     let l = node_within value is_sig carrier rows paths best old_t t route.place.node.0 count c.requires.fixed c.requires.queue next route taken.route in
     omega arith
 
@@ -41,7 +41,7 @@ fix-requires-clause-next g c =
     let old_t = c.args.search.now.standing in
     let t = c.take_best.new.self.standing in
     let taken = c.in-Some.ensures in
-    let next = next_taken value is_sig carrier (reported_by value paths rows) best c.take_best.new.self.best.items old_t t route c.requires.queue taken.route taken.first taken.taken c.take_best.ensures.ranked in
+    let next = next_taken value is_sig carrier (reported_by value paths rows) best c.take_best.new.self.best.items old_t t route c.requires.queue taken.route taken.first taken.taken c.take_best.ensures.ranked.ranked in
     let l = next_within value is_sig carrier rows paths best old_t t route.place.node.0 count c.requires.fixed c.requires.queue next route taken.route in
     omega arith
 
@@ -58,7 +58,7 @@ returns-clause-next g c =
     let old_t = c.args.search.now.standing in
     let t = c.take_best.new.self.standing in
     let taken = c.in-Some.ensures in
-    let next = next_taken value is_sig carrier (reported_by value paths rows) best c.take_best.new.self.best.items old_t t route c.requires.queue taken.route taken.first taken.taken c.take_best.ensures.ranked in
+    let next = next_taken value is_sig carrier (reported_by value paths rows) best c.take_best.new.self.best.items old_t t route c.requires.queue taken.route taken.first taken.taken c.take_best.ensures.ranked.ranked in
     fixes value is_sig carrier rows paths best old_t t route.place.node.0 count c.requires.fixed c.requires.queue next route taken.route c.fix.new.self.rows.items c.fix.new.self.paths c.take_best.new.self.best.items c.in_ok-fix.ensures.rows c.in_ok-fix.ensures.paths taken.taken
 
 pub returns-clause-fixed : goal.returns-clause-fixed
@@ -74,7 +74,7 @@ returns-clause-fixed g c =
     let old_t = c.args.search.now.standing in
     let t = c.take_best.new.self.standing in
     let taken = c.in-Some.ensures in
-    let next = next_taken value is_sig carrier (reported_by value paths rows) best c.take_best.new.self.best.items old_t t route c.requires.queue taken.route taken.first taken.taken c.take_best.ensures.ranked in
+    let next = next_taken value is_sig carrier (reported_by value paths rows) best c.take_best.new.self.best.items old_t t route c.requires.queue taken.route taken.first taken.taken c.take_best.ensures.ranked.ranked in
     fixed_after value is_sig carrier rows paths best old_t t route.place.node.0 count c.requires.fixed c.requires.queue next route taken.route c.fix.new.self.rows.items c.fix.new.self.paths c.take_best.new.self.best.items c.in_ok-fix.ensures.rows c.in_ok-fix.ensures.paths taken.taken
 
 pub returns-clause-queue : goal.returns-clause-queue
@@ -90,5 +90,5 @@ returns-clause-queue g c =
     let old_t = c.args.search.now.standing in
     let t = c.take_best.new.self.standing in
     let taken = c.in-Some.ensures in
-    let next = next_taken value is_sig carrier (reported_by value paths rows) best c.take_best.new.self.best.items old_t t route c.requires.queue taken.route taken.first taken.taken c.take_best.ensures.ranked in
+    let next = next_taken value is_sig carrier (reported_by value paths rows) best c.take_best.new.self.best.items old_t t route c.requires.queue taken.route taken.first taken.taken c.take_best.ensures.ranked.ranked in
     open_after value is_sig carrier rows paths best old_t t route.place.node.0 count c.requires.fixed c.requires.queue next route taken.route c.fix.new.self.rows.items c.fix.new.self.paths c.take_best.new.self.best.items c.in_ok-fix.ensures.rows c.in_ok-fix.ensures.paths taken.taken

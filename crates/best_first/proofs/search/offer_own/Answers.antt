@@ -31,12 +31,12 @@ loop-origin-preserved g c =
     let o = c.origin-item.result in
     let count : length (best_of value best) ≡ length net.nodes = omega (arith, c.loop-origin.invariant.count, length-map best (option_map (key_of value))) in
     let offered = rw c.requires.algebra at c.offer.ensures.offered in
-    let ranked = rw c.requires.algebra at c.offer.ensures.ranked in
+    let ranked = rw c.requires.algebra at c.offer.ensures.ranked.ranked in
     let step = own_queue net c.requires.net c.args.dest.0 m xs o (value c.in_ok-sig_of.field-0) (best_of value best) (best_of value c.offer.new.self.best.items) t new_t
     c.origins_of-origin-items.ensures.origins c.origin-item.is c.loop-origin-test.true c.origins_of-origin-items.ensures.within c.in_ok-sig_of.ensures.value count c.loop-origin.invariant.queue.queue offered ranked in
     record {
       count = c.offer.ensures.count ∙ c.loop-origin.invariant.count;
-      queue = record { sigs = c.offer.ensures.sigs; queue = step };
+      queue = record { sigs = c.offer.ensures.ranked.sigs; queue = step };
       found = λ k. own_found net c.requires.net c.args.dest.0 m xs o (value c.in_ok-sig_of.field-0) (best_of value best) (best_of value c.offer.new.self.best.items) t new_t
           c.origins_of-origin-items.ensures.origins c.origin-item.is c.loop-origin-test.true c.origins_of-origin-items.ensures.within c.in_ok-sig_of.ensures.value count c.loop-origin.invariant.queue.queue offered ranked k (c.loop-origin.invariant.found k);
     }

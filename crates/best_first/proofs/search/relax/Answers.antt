@@ -5,7 +5,7 @@ use Rattle.meta_base.specs.declared.ids.NodeId.{NodeId}
 use Rattle.net_graph.specs.Nets.{arcs_to}
 use Rattle.net_graph.specs.Tables.{carrier}
 use Rattle.path_store.specs.PathOf.{path_of}
-use Rattle.best_first.specs.declared.route.Place.{Place}
+use Rattle.best_first.specs.declared.route.OpenPlace.{OpenPlace}
 use Rattle.best_first.specs.Found.{found-map, found_at}
 use Rattle.best_first.specs.State.{CanSpeak, relaxed}
 use Rattle.best_first.specs.Keys.{key_of, best_of}
@@ -87,17 +87,17 @@ loop-listener-preserved g c =
     elim c.if-is_none.branch [
       | then-is_none+in_ok-offer_image w ↦
           let none : reported_by value paths rows tail ≡ None = row ∙ mapped_none (fixed_route value paths) c.index.result.now (rw w.if-is_none.true at c.is_none.ensures) in
-          let place : Place = record { size = length c.path.result.now + 1; node = listener.node; next = c.args.node } in
+          let place : OpenPlace = record { size = length c.path.result.now + 1; node = listener.node; next = c.args.node } in
           let size : length c.path.result.now + 1 ≡ length r.path + 1 = rw c.path.ensures (let l = length-map (path_of paths c.route-next.result.now.path) (λ (n : NodeId). n.0) in omega arith) in
           let offered = rw c.requires.algebra at (w.in_ok-offer_image.ensures.offered arc.label by.is_listener.label) in
           let new_best = w.offer_image.new.search.best.items in
           let new_t = w.offer_image.new.search.standing in
-          let ranked = rw c.requires.algebra at w.in_ok-offer_image.ensures.ranked in
+          let ranked = rw c.requires.algebra at w.in_ok-offer_image.ensures.ranked.ranked in
           let tail_within : tail < length (best_of value best) = omega (arith, tail_in, c.loop-listener.invariant.count, length-map best (option_map (key_of value))) in
           rw w.search-is record {
             count = w.in_ok-offer_image.ensures.count ∙ c.loop-listener.invariant.count;
             queue = record {
-              sigs = w.in_ok-offer_image.ensures.sigs;
+              sigs = w.in_ok-offer_image.ensures.ranked.sigs;
               queue = spoken_queue net c.requires.net (reported_by value paths rows) node m r by.arc place (best_of value best) (best_of value new_best) t new_t
                   reported can heard tail_within none size by.is_listener.node refl c.loop-listener.invariant.queue.queue offered ranked;
             };

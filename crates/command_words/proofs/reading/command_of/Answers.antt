@@ -8,3 +8,6 @@ returns-in-Run c = rw (c.run_of.ensures, c.in-Run.is, c.given_argument-file.ensu
 
 pub returns-in-Trace : goal.returns-in-Trace
 returns-in-Trace c = rw (c.trace_of.ensures, c.in-Trace.is, c.given_argument-file.ensures, c.given_argument-in-Trace.ensures)
+
+pub returns-in-Flood : goal.returns-in-Flood
+returns-in-Flood c = rw (c.flood_of.ensures, c.in-Flood.is, c.given_argument-file.ensures, c.given_argument-in-Flood.ensures)
