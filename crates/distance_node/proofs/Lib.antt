@@ -1,0 +1,13 @@
+mod Pushing
+mod Owns
+mod HopLists
+mod Bests
+mod Places
+mod Arrived
+mod Nodes
+mod Tellings
+mod Beginnings
+mod Near
+mod SameValues
+mod RowFacts
+mod Taking

@@ -1,0 +1,13 @@
+use Rattle.std.proofs.Common.{◌≡◌, ◌++◌, map, take}
+use Rattle.meta_base.specs.declared.ids.ArcId.{ArcId}
+use Rattle.distance_node.specs.Tellings.{told_of}
+use Rattle.distance_node.specs.Vectors.{noted}
+use Rattle.distance_node.proofs.telling.tell.Given as goal
+
+-- it was told on the arcs so far
+abbrev pub invariant-loop-arc : goal.invariant-loop-arc
+invariant-loop-arc g l =
+    let value = g.A.Algebra.sig_value l.fn.site.algebra.now in
+    record {
+      told : map noted l.out ≡ map noted l.fn.out ++ map (λ (a : ArcId). (a.0, record { dest = l.fn.dest.0; value = told_of value l.fn.row; stamp = l.fn.clock })) (take l.arc-index l.arc-items);
+    }

@@ -1,0 +1,153 @@
+// What a node tells those that listen to it.
+ghost use Rattle.std.specs.Prelude.{◌≡◌, ◌<◌, ◌++◌, Some, [], cond, length, map, IfOk, IfSome, OnOk, option_map};
+ghost use Rattle.alg_model.specs.Bounds.{AtMost};
+ghost use Rattle.net_graph.specs.Nets.{arcs_to};
+ghost use Rattle.distance_node.specs.Node.{greatest_at, same_told, told_on};
+ghost use Rattle.distance_node.specs.Tellings.{told_of};
+ghost use Rattle.distance_node.specs.Vectors.{noted};
+
+use crate::chosen::Chosen;
+use crate::site::Site;
+use crate::{Mark, Vector};
+use alg_model::{Algebra, same_value};
+use meta_base::{DestId, List, NoMemory};
+use node_core::Outgoing;
+use std::alloc::Global;
+use std::cmp::Ordering;
+
+// The value once more, if there is one.
+pub(crate) fn copied_value<A: Algebra>(
+    alloc: Global,
+    algebra: &A,
+    value: &Option<A::Sig>,
+) -> Result<Option<A::Sig>, NoMemory>
+    requires { IfSome value.now (A.is_sig algebra.now) }
+    ensures sig { IfOk result (λ copied. IfSome copied (A.is_sig algebra.now)) }
+    ensures value { let value_of = A.sig_value algebra.now in
+        IfOk result (λ copied. option_map value_of copied ≡ option_map value_of value.now) }
+{
+    match value {
+        Some(sig) => Ok(Some(algebra.copy(alloc, sig)?)),
+        None => Ok(None),
+    }
+}
+
+// The value of the row once more, if it has one.
+fn copied<A: Algebra>(
+    alloc: Global,
+    algebra: &A,
+    row: &Option<Chosen<A::Sig>>,
+) -> Result<Option<A::Sig>, NoMemory>
+    requires { IfSome row.now (λ r. A.is_sig algebra.now r.sig) }
+    ensures sig { IfOk result (λ copied. IfSome copied (A.is_sig algebra.now)) }
+    ensures value { let value = A.sig_value algebra.now in
+        IfOk result (λ copied. option_map value copied ≡ told_of value row.now) }
+{
+    match row {
+        Some(row) => Ok(Some(algebra.copy(alloc, &row.sig)?)),
+        None => Ok(None),
+    }
+}
+
+// Puts the row's value, or that there is none, on each arc that the node speaks on.
+pub(crate) fn tell<A: Algebra, M: Mark<A>>(
+    alloc: Global,
+    site: &Site<'_, A>,
+    dest: DestId,
+    row: &Option<Chosen<A::Sig>>,
+    clock: u64,
+    out: &mut Outgoing<Vector<A, M>>,
+) -> Result<(), NoMemory>
+    requires mark { M.algebra ≡ Some site.now.algebra.now }
+    requires node { site.now.node.0 < length site.now.net.now.nodes }
+    requires sig { IfSome row.now (λ r. A.is_sig site.now.algebra.now r.sig) }
+    requires small { IfSome (told_of (A.sig_value site.now.algebra.now) row.now) (AtMost (greatest_at clock)) }
+    ensures { let at = site.now in OnOk result (map noted out.new ≡ map noted out.old
+        ++ told_on (arcs_to at.net.now at.node.0)
+        (record { dest = dest.0; value = told_of (A.sig_value at.algebra.now) row.now; stamp = clock })) }
+{
+    for arc in site.net.listeners(site.node) {
+        let value = copied(alloc, site.algebra, row)?;
+        out.push((*arc, Vector::new(site.algebra, dest, value, clock)))?;
+    }
+    Ok(())
+}
+
+// Whether two values are one, by what they stand for.
+fn are_one<A: Algebra>(
+    alloc: Global,
+    algebra: &A,
+    first: &A::Sig,
+    second: &A::Sig,
+) -> Result<bool, NoMemory>
+    requires first { A.is_sig algebra.now first.now }
+    requires second { A.is_sig algebra.now second.now }
+    ensures { let value = A.sig_value algebra.now in IfOk result (λ same.
+        same ≡ same_told (Some (value first.now)) (Some (value second.now))) }
+{
+    let one = algebra.value_of(alloc, first)?;
+    let other = algebra.value_of(alloc, second)?;
+    Ok(same_value(&one, &other))
+}
+
+// Whether two values in the algebra's form are one. They are spelled out only where neither is preferred.
+fn are_same<A: Algebra>(
+    alloc: Global,
+    algebra: &A,
+    first: &A::Sig,
+    second: &A::Sig,
+) -> Result<bool, NoMemory>
+    requires first { A.is_sig algebra.now first.now }
+    requires second { A.is_sig algebra.now second.now }
+    ensures { let value = A.sig_value algebra.now in IfOk result (λ same.
+        same ≡ same_told (Some (value first.now)) (Some (value second.now))) }
+{
+    match algebra.order(first, second) {
+        Ordering::Equal => are_one(alloc, algebra, first, second),
+        Ordering::Less | Ordering::Greater => Ok(false),
+    }
+}
+
+// Whether the rows have one value, or none of them has one.
+fn tells_same<A: Algebra>(
+    alloc: Global,
+    algebra: &A,
+    row: &Option<Chosen<A::Sig>>,
+    before: &Option<Chosen<A::Sig>>,
+) -> Result<bool, NoMemory>
+    requires row { IfSome row.now (λ r. A.is_sig algebra.now r.sig) }
+    requires before { IfSome before.now (λ r. A.is_sig algebra.now r.sig) }
+    ensures { let value = A.sig_value algebra.now in IfOk result (λ same.
+        same ≡ same_told (told_of value row.now) (told_of value before.now)) }
+{
+    match (row, before) {
+        (Some(row), Some(before)) => are_same(alloc, algebra, &row.sig, &before.sig),
+        (None, None) => Ok(true),
+        _ => Ok(false),
+    }
+}
+
+// What the node tells of a row that was another: its value, if that has changed.
+pub(crate) fn news<A: Algebra, M: Mark<A>>(
+    alloc: Global,
+    site: &Site<'_, A>,
+    dest: DestId,
+    before: &Option<Chosen<A::Sig>>,
+    row: &Option<Chosen<A::Sig>>,
+    clock: u64,
+) -> Result<Outgoing<Vector<A, M>>, NoMemory>
+    requires mark { M.algebra ≡ Some site.now.algebra.now }
+    requires node { site.now.node.0 < length site.now.net.now.nodes }
+    requires before { IfSome before.now (λ r. A.is_sig site.now.algebra.now r.sig) }
+    requires sig { IfSome row.now (λ r. A.is_sig site.now.algebra.now r.sig) }
+    requires small { IfSome (told_of (A.sig_value site.now.algebra.now) row.now) (AtMost (greatest_at clock)) }
+    ensures { let at = site.now in let value = A.sig_value at.algebra.now in IfOk result (λ out. map noted out ≡
+        cond (same_told (told_of value row.now) (told_of value before.now)) [] (told_on (arcs_to at.net.now at.node.0)
+        (record { dest = dest.0; value = told_of value row.now; stamp = clock }))) }
+{
+    let mut out = List::new(alloc);
+    if !tells_same(alloc, site.algebra, row, before)? {
+        tell(alloc, site, dest, row, clock, &mut out)?;
+    }
+    Ok(out)
+}
