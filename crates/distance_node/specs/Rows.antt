@@ -1,9 +1,11 @@
 -- The rows with next hops of nodes.
-use Rattle.std.specs.Prelude.{ℕ, List, [], ◌∷◌, ◌++◌, map, length, Option, option_map, option_and_then}
+use Rattle.std.specs.Prelude.{ℕ, ◌<◌, List, [], ◌∷◌, ◌++◌, map, length, Option, IfSome, option_map, option_and_then}
 use Rattle.std.specs.List.{range_with_len}
+use Rattle.alg_model.specs.Carriers.{In}
 use Rattle.alg_model.specs.Expressions.{PureValue}
 use Rattle.alg_model.specs.Views.{pure_value}
 use Rattle.net_graph.specs.Nets.{PureNet}
+use Rattle.net_graph.specs.Tables.{carrier}
 use Rattle.distance_node.specs.declared.rows.HopRow.{HopRow}
 use Rattle.distance_node.specs.Node.{Hop, DvState, value_of}
 
@@ -31,3 +33,10 @@ rows_for nodes (dest ∷ dests) = dest_rows nodes dest ++ rows_for nodes dests
 
 abbrev pub HopRows : PureNet → List DvState → List PureHopRow
 HopRows net nodes = rows_for nodes (range_with_len 0 (length net.dests))
+
+-- the ids and the value of a row are the network's
+pub record IsHopRowOf (net : PureNet) (row : PureHopRow) : Type 0 where
+  pub node_in : row.node < length net.nodes
+  pub dest_in : row.dest < length net.dests
+  pub value_in : IfSome row.value (In (carrier net))
+  pub next_in : IfSome row.next (λ j. j < length net.nodes)

@@ -12,6 +12,7 @@ mod chosen;
 mod laws;
 mod mark;
 mod node;
+mod nodes;
 mod own;
 mod rows;
 mod settling;
@@ -25,5 +26,6 @@ pub use laws::{
 };
 pub use mark::Mark;
 pub use node::DvNode;
+pub use nodes::new_nodes;
 pub use rows::{HopRow, hop_rows};
 pub use vector::Vector;

@@ -211,7 +211,7 @@ invariant_of-self-2 g c =
     let is_entry = entry_there net n i place w dest came.0 heard came.1 node.placed.near.count node.has_heard.count below in
     let heard_is = heard_put value net n i place w c.args.arc.0 dest came.0 heard told came.1 came.2 node.placed.near.count node.has_heard.count below in
     let best = subst (λ r. IsBest value net i (offers net dest i (λ a. heard_with (heard_by value net i heard) c.args.arc.0 dest (option_map value told) a dest)) (changed_row r change)) (sym entry)
-        (subst (λ h. IsBest value net i (offers net dest i (λ a. heard_with (heard_by value net i h) c.args.arc.0 dest (option_map value told) a dest)) (changed_row c.index-2.result.now change)) c.deref.ensures.value c.in_ok-reply.ensures.best) in
+    (subst (λ h. IsBest value net i (offers net dest i (λ a. heard_with (heard_by value net i h) c.args.arc.0 dest (option_map value told) a dest)) (changed_row c.index-2.result.now change)) c.deref.ensures.value c.in_ok-reply.ensures.best) in
     let sig = subst (λ r. IfSome (changed_row r change) (λ x. A.is_sig s x.sig)) (sym entry) c.in_ok-reply.ensures.sig in (
       c.self.invariant.0,
       record {
@@ -258,7 +258,7 @@ returns-clause-node g c =
     let is_entry = entry_there net n i place w dest came.0 heard came.1 node.placed.near.count node.has_heard.count below in
     let heard_is = heard_put value net n i place w c.args.arc.0 dest came.0 heard told came.1 came.2 node.placed.near.count node.has_heard.count below in
     let best = subst (λ r. IsBest value net i (offers net dest i (λ a. heard_with (heard_by value net i heard) c.args.arc.0 dest (option_map value told) a dest)) (changed_row r change)) (sym entry)
-        (subst (λ h. IsBest value net i (offers net dest i (λ a. heard_with (heard_by value net i h) c.args.arc.0 dest (option_map value told) a dest)) (changed_row c.index-2.result.now change)) c.deref.ensures.value c.in_ok-reply.ensures.best) in
+    (subst (λ h. IsBest value net i (offers net dest i (λ a. heard_with (heard_by value net i h) c.args.arc.0 dest (option_map value told) a dest)) (changed_row c.index-2.result.now change)) c.deref.ensures.value c.in_ok-reply.ensures.best) in
     ap (λ z. state_of (node_with value net i inside.is_begun (set heard (dest * w + place) told) z c.args.clock)) c.put_row.ensures
     ∙ (taken_is value net i heard (set heard (dest * w + place) told) rows inside.last c.args.arc.0 dest c.args.clock told change m c.dest-dest.ensures (c.in_ok-told.ensures.value ∙ c.told.ensures.value) heard_is row_there best inside.is_begun
     ∙ ap (λ z. (taken (state_of z) c.args.arc.0 m c.args.clock).0) c.self.view_is)
@@ -295,9 +295,9 @@ returns-clause-out g c =
     let is_entry = entry_there net n i place w dest came.0 heard came.1 node.placed.near.count node.has_heard.count below in
     let heard_is = heard_put value net n i place w c.args.arc.0 dest came.0 heard told came.1 came.2 node.placed.near.count node.has_heard.count below in
     let best = subst (λ r. IsBest value net i (offers net dest i (λ a. heard_with (heard_by value net i heard) c.args.arc.0 dest (option_map value told) a dest)) (changed_row r change)) (sym entry)
-        (subst (λ h. IsBest value net i (offers net dest i (λ a. heard_with (heard_by value net i h) c.args.arc.0 dest (option_map value told) a dest)) (changed_row c.index-2.result.now change)) c.deref.ensures.value c.in_ok-reply.ensures.best) in
+    (subst (λ h. IsBest value net i (offers net dest i (λ a. heard_with (heard_by value net i h) c.args.arc.0 dest (option_map value told) a dest)) (changed_row c.index-2.result.now change)) c.deref.ensures.value c.in_ok-reply.ensures.best) in
     let sent = subst (λ r. map noted c.in_ok-reply.reply.sent ≡ cond (same_told (told_of value (changed_row r change)) (told_of value r)) []
-        (told_on (arcs_to net i) (record { dest = dest; value = told_of value (changed_row r change); stamp = c.args.clock }))) (sym entry) c.in_ok-reply.ensures.sent in
+    (told_on (arcs_to net i) (record { dest = dest; value = told_of value (changed_row r change); stamp = c.args.clock }))) (sym entry) c.in_ok-reply.ensures.sent in
     told_is_taken value net i heard (set heard (dest * w + place) told) rows inside.last c.args.arc.0 dest c.args.clock told change m c.dest-dest.ensures (c.in_ok-told.ensures.value ∙ c.told.ensures.value) heard_is row_there best inside.is_begun
     (map noted c.in_ok-reply.reply.sent) sent
     ∙ ap (λ z. (taken (state_of z) c.args.arc.0 m c.args.clock).1) c.self.view_is

@@ -1,0 +1,1 @@
+-- What holds of every run of distance-vector nodes. Lemmas, so that proofs of other crates may cite them.
