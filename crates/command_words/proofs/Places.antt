@@ -9,7 +9,7 @@ use Rattle.command_words.specs.Numbers.{is_number, number_within}
 use Rattle.command_words.specs.declared.command.Command.{Command}
 use Rattle.command_words.specs.declared.usage.Kind.{Kind}
 use Rattle.command_words.specs.declared.usage.Kind.TheVariants as kind
-use Rattle.command_words.specs.declared.command.Command.TheVariants.{Check, Route, Run, Trace, Flood, Demo}
+use Rattle.command_words.specs.declared.command.Command.TheVariants.{Check, Route, Run, Trace, Flood, Distance, Demo}
 use Rattle.command_words.specs.declared.command.WordsFault.TheVariants.{BadFlag, WrongCount, BadNumber, BadList}
 use Rattle.command_words.specs.declared.command.WordsFault.{WordsFault}
 use Rattle.command_words.specs.declared.command.Required.{Required}
@@ -114,6 +114,9 @@ command_of_below words kind.Trace parts some below =
     (λ workers turns h i. (below_at (length words) (places parts) 0 some below, below_at (length words) (places parts) 1 some below, h, i)))
 command_of_below words kind.Flood parts some below =
     or_fault _ (HasItsWords words) BadNumber (with_good_numbers (Flood (slice_index (places parts) 0) (slice_index (places parts) 1)) (HasItsWords words) parts
+    (λ workers turns h i. (below_at (length words) (places parts) 0 some below, below_at (length words) (places parts) 1 some below, h, i)))
+command_of_below words kind.Distance parts some below =
+    or_fault _ (HasItsWords words) BadNumber (with_good_numbers (Distance (slice_index (places parts) 0) (slice_index (places parts) 1)) (HasItsWords words) parts
     (λ workers turns h i. (below_at (length words) (places parts) 0 some below, below_at (length words) (places parts) 1 some below, h, i)))
 command_of_below words kind.Verify parts some below =
     (below_at (length words) (places parts) 0 some below, below_at (length words) (places parts) 1 some below, below_at (length words) (places parts) 2 some below)

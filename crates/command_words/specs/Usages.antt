@@ -3,7 +3,7 @@ use Rattle.std.specs.Prelude.{ℕ, List, [], ◌∷◌, Bool, codes}
 use Rattle.std.specs.Str.{bytes_eq}
 use Rattle.meta_base.specs.Numbers.{max_workers, max_turns}
 use Rattle.command_words.specs.declared.usage.Kind.{Kind}
-use Rattle.command_words.specs.declared.usage.Kind.TheVariants.{Check, Code, Route, Settle, Stable, Run, Trace, Flood, Verify, Hops, Gadget, Demo}
+use Rattle.command_words.specs.declared.usage.Kind.TheVariants.{Check, Code, Route, Settle, Stable, Run, Trace, Flood, Distance, Verify, Hops, Gadget, Demo}
 use Rattle.command_words.specs.declared.usage.Flag.{Flag}
 use Rattle.command_words.specs.declared.usage.Flag.TheVariants.{Number, Require}
 use Rattle.command_words.specs.declared.usage.NumberFlag.{NumberFlag}
@@ -32,6 +32,7 @@ usage_of Stable = record { word = codes "stable"; least = 2; most = 2; flags = [
 usage_of Run = record { word = codes "run"; least = 2; most = 2; flags = Number Workers ∷ Number Turns ∷ [] }
 usage_of Trace = record { word = codes "trace"; least = 2; most = 2; flags = Number Workers ∷ Number Turns ∷ [] }
 usage_of Flood = record { word = codes "flood"; least = 2; most = 2; flags = Number Workers ∷ Number Turns ∷ [] }
+usage_of Distance = record { word = codes "distance"; least = 2; most = 2; flags = Number Workers ∷ Number Turns ∷ [] }
 usage_of Verify = record { word = codes "verify"; least = 3; most = 3; flags = [] }
 usage_of Hops = record { word = codes "hops"; least = 2; most = 2; flags = [] }
 usage_of Gadget = record { word = codes "gadget"; least = 1; most = 1; flags = [] }
@@ -39,7 +40,7 @@ usage_of Demo = record { word = codes "demo"; least = 2; most = 2; flags = [] }
 
 -- all commands
 abbrev pub kinds : List Kind
-kinds = Check ∷ Code ∷ Route ∷ Settle ∷ Stable ∷ Run ∷ Trace ∷ Flood ∷ Verify ∷ Hops ∷ Gadget ∷ Demo ∷ []
+kinds = Check ∷ Code ∷ Route ∷ Settle ∷ Stable ∷ Run ∷ Trace ∷ Flood ∷ Distance ∷ Verify ∷ Hops ∷ Gadget ∷ Demo ∷ []
 
 -- it is the command of this word
 abbrev pub has_word : List ℕ → Kind → Bool

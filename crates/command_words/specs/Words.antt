@@ -4,7 +4,7 @@ use Rattle.std.specs.Option.{ok_or}
 use Rattle.std.specs.List.{list_any, filter}
 use Rattle.meta_base.specs.Numbers.{max_workers, max_turns, min_demo_nodes, max_demo_nodes}
 use Rattle.command_words.specs.declared.command.Command.{Command}
-use Rattle.command_words.specs.declared.command.Command.TheVariants.{Check, Code, Route, Settle, Stable, Run, Trace, Flood, Verify, Hops, Gadget, Demo}
+use Rattle.command_words.specs.declared.command.Command.TheVariants.{Check, Code, Route, Settle, Stable, Run, Trace, Flood, Distance, Verify, Hops, Gadget, Demo}
 use Rattle.command_words.specs.declared.command.Required.{Required}
 use Rattle.command_words.specs.declared.command.WordsFault.{WordsFault}
 use Rattle.command_words.specs.declared.command.WordsFault.TheVariants.{NoCommand, UnknownCommand, WrongCount, BadNumber, BadFlag, BadList}
@@ -80,6 +80,7 @@ command_of kind.Stable parts = Ok (Stable (slice_index (places parts) 0) (slice_
 command_of kind.Run parts = ok_or (with_numbers (Run (slice_index (places parts) 0) (slice_index (places parts) 1)) parts) BadNumber
 command_of kind.Trace parts = ok_or (with_numbers (Trace (slice_index (places parts) 0) (slice_index (places parts) 1)) parts) BadNumber
 command_of kind.Flood parts = ok_or (with_numbers (Flood (slice_index (places parts) 0) (slice_index (places parts) 1)) parts) BadNumber
+command_of kind.Distance parts = ok_or (with_numbers (Distance (slice_index (places parts) 0) (slice_index (places parts) 1)) parts) BadNumber
 command_of kind.Verify parts = Ok (Verify (slice_index (places parts) 0) (slice_index (places parts) 1) (slice_index (places parts) 2))
 command_of kind.Hops parts = Ok (Hops (slice_index (places parts) 0) (slice_index (places parts) 1))
 command_of kind.Gadget parts = Ok (Gadget (slice_index (places parts) 0))
@@ -120,6 +121,7 @@ HasItsWords words (Stable file net) = (file < length words) × (net < length wor
 HasItsWords words (Run file net workers turns) = (file < length words) × (net < length words) × AreWorkers workers × AreTurns turns
 HasItsWords words (Trace file net workers turns) = (file < length words) × (net < length words) × AreWorkers workers × AreTurns turns
 HasItsWords words (Flood file net workers turns) = (file < length words) × (net < length words) × AreWorkers workers × AreTurns turns
+HasItsWords words (Distance file net workers turns) = (file < length words) × (net < length words) × AreWorkers workers × AreTurns turns
 HasItsWords words (Verify file net report) = (file < length words) × (net < length words) × (report < length words)
 HasItsWords words (Hops file net) = (file < length words) × (net < length words)
 HasItsWords words (Gadget file) = file < length words

@@ -61,6 +61,14 @@ pub enum Command {
         workers: u32,
         turns: u64,
     },
+    /// `distance FILE NET [--workers W] [--turns N]` asks for the values and next hops of nodes that exchange values
+    /// without paths, with so many workers and turns as for `run`.
+    Distance {
+        file: usize,
+        net: usize,
+        workers: u32,
+        turns: u64,
+    },
     /// `verify FILE NET REPORT` asks for a judgement of the table of routes in a report file: whether no walk beats its
     /// routes, and whether each is its node's choice.
     Verify {

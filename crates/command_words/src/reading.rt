@@ -4,7 +4,7 @@ ghost use Rattle.std.specs.List.{list_any, filter};
 ghost use Rattle.command_words.specs.Parts.{parts_from, places, word_of, is_argument, misses_value, is_unknown};
 ghost use Rattle.command_words.specs.Usages.{pure_usage, usage_of, limits_of};
 ghost use Rattle.command_words.specs.Words.{Words, HasItsWords, command_of, has_bad_flag, has_wrong_count, is_repeated, meaning_of, argument_number, number_of, required_in, value_given, with_numbers};
-ghost use Rattle.command_words.specs.declared.command.Command.TheVariants.{Check, Route, Run, Trace, Flood};
+ghost use Rattle.command_words.specs.declared.command.Command.TheVariants.{Check, Route, Run, Trace, Flood, Distance};
 ghost use Rattle.command_words.specs.declared.command.WordsFault.TheVariants.{BadList, BadNumber};
 ghost use Rattle.command_words.specs.declared.usage.NumberFlag.TheVariants.{Workers};
 ghost use Rattle.command_words.specs.declared.usage.Kind.TheVariants.{Demo};
@@ -143,6 +143,7 @@ fn command_of(kind: Kind, rest: &[Text]) -> Result<Command, WordsFault>
         Kind::Run => run_of(file, given_argument(rest, 1), rest),
         Kind::Trace => trace_of(file, given_argument(rest, 1), rest),
         Kind::Flood => flood_of(file, given_argument(rest, 1), rest),
+        Kind::Distance => distance_of(file, given_argument(rest, 1), rest),
         Kind::Verify => Ok(Command::Verify {
             file,
             net: given_argument(rest, 1),
@@ -200,6 +201,18 @@ fn flood_of(file: usize, net: usize, rest: &[Text]) -> Result<Command, WordsFaul
 {
     let (workers, turns) = numbers_of(rest)?;
     Ok(Command::Flood {
+        file,
+        net,
+        workers,
+        turns,
+    })
+}
+
+fn distance_of(file: usize, net: usize, rest: &[Text]) -> Result<Command, WordsFault>
+    ensures { result ≡ ok_or (with_numbers (Distance file net) (parts_from 1 rest.now)) BadNumber }
+{
+    let (workers, turns) = numbers_of(rest)?;
+    Ok(Command::Distance {
         file,
         net,
         workers,

@@ -13,6 +13,7 @@ pub enum Kind {
     Run,
     Trace,
     Flood,
+    Distance,
     Verify,
     Hops,
     Gadget,
@@ -55,7 +56,7 @@ impl Kind {
     ghost use Rattle.command_words.specs.Usages.{has_word, kinds, pure_usage, usage_of};
 
     // All commands.
-    const ALL: [Kind; 12] = [
+    const ALL: [Kind; 13] = [
         Kind::Check,
         Kind::Code,
         Kind::Route,
@@ -64,6 +65,7 @@ impl Kind {
         Kind::Run,
         Kind::Trace,
         Kind::Flood,
+        Kind::Distance,
         Kind::Verify,
         Kind::Hops,
         Kind::Gadget,
@@ -83,6 +85,7 @@ impl Kind {
             Kind::Run => Usage::of("run", 2, 2, &RUN_FLAGS),
             Kind::Trace => Usage::of("trace", 2, 2, &RUN_FLAGS),
             Kind::Flood => Usage::of("flood", 2, 2, &RUN_FLAGS),
+            Kind::Distance => Usage::of("distance", 2, 2, &RUN_FLAGS),
             Kind::Verify => Usage::of("verify", 3, 3, &[]),
             Kind::Hops => Usage::of("hops", 2, 2, &[]),
             Kind::Gadget => Usage::of("gadget", 1, 1, &[]),

@@ -11,3 +11,6 @@ returns-in-Trace c = rw (c.trace_of.ensures, c.in-Trace.is, c.given_argument-fil
 
 pub returns-in-Flood : goal.returns-in-Flood
 returns-in-Flood c = rw (c.flood_of.ensures, c.in-Flood.is, c.given_argument-file.ensures, c.given_argument-in-Flood.ensures)
+
+pub returns-in-Distance : goal.returns-in-Distance
+returns-in-Distance c = rw (c.distance_of.ensures, c.in-Distance.is, c.given_argument-file.ensures, c.given_argument-in-Distance.ensures)
