@@ -1,5 +1,5 @@
 -- What a run of distance-vector nodes comes to.
-use Rattle.std.specs.Prelude.{◌≡◌, ℕ, ◌==◌, ◌&&◌, Bool, List, [], ◌∷◌, Option, Some, None, find, option_map, option_and_then}
+use Rattle.std.specs.Prelude.{◌≡◌, ℕ, ◌<◌, ◌==◌, ◌&&◌, Bool, List, [], ◌∷◌, length, Option, Some, None, find, option_map, option_and_then}
 use Rattle.meta_base.specs.declared.ids.Delivery.{Delivery}
 use Rattle.alg_model.specs.Carriers.{IsPreferred}
 use Rattle.alg_model.specs.Expressions.{PureCarrier}
@@ -23,16 +23,20 @@ pub record IsDistanceRun (net : PureNet) (turns : ℕ) (hops : List PureHopRow) 
 abbrev pub hop_of : PureHopRow → Option Hop
 hop_of row = option_map (λ v. record { value = v; next = row.next }) row.value
 
+-- the row is the node's for the destination
+abbrev pub is_for : ℕ → ℕ → PureHopRow → Bool
+is_for dest i row = row.dest == dest && row.node == i
+
 -- the row of each node for a destination
 abbrev pub table_in : List PureHopRow → ℕ → HopTable
-table_in hops dest i = option_and_then hop_of (find (λ (row : PureHopRow). row.dest == dest && row.node == i) hops)
+table_in hops dest i = option_and_then hop_of (find (is_for dest i) hops)
 
--- Next hops lead from each row with a value along a walk that weighs it, and come to no node twice; no walk weighs better
--- than the row of its first node, and where that one has no value each walk weighs none.
+-- For each destination, next hops lead from each row with a value along a walk that weighs it, and come to no node twice;
+-- no walk weighs better than the row of its first node, and where that one has no value each walk weighs none.
 pub record AreBestHops (net : PureNet) (hops : List PureHopRow) : Type 0 where
-  pub leads : (dest i : ℕ) (h : Hop) → table_in hops dest i ≡ Some h → Leads net dest (table_in hops dest) i h
-  pub unbeaten : (dest i : ℕ) (p : List ℕ) → Walk net dest (i ∷ p) → ¬ IsPreferred (carrier net) (Weight net dest (i ∷ p)) (value_of (table_in hops dest i))
-  pub none : (dest i : ℕ) (p : List ℕ) → table_in hops dest i ≡ None → Walk net dest (i ∷ p) → Weight net dest (i ∷ p) ≡ None
+  pub leads : (dest i : ℕ) (h : Hop) → dest < length net.dests → table_in hops dest i ≡ Some h → Leads net dest (table_in hops dest) i h
+  pub unbeaten : (dest i : ℕ) (p : List ℕ) → dest < length net.dests → Walk net dest (i ∷ p) → ¬ IsPreferred (carrier net) (Weight net dest (i ∷ p)) (value_of (table_in hops dest i))
+  pub none : (dest i : ℕ) (p : List ℕ) → dest < length net.dests → table_in hops dest i ≡ None → Walk net dest (i ∷ p) → Weight net dest (i ∷ p) ≡ None
 
 -- row for row, the node and the destination are one, and both values are none, or neither is preferred
 abbrev pub AreAsGoodRows : PureCarrier → List PureHopRow → List PureRow → Type 0

@@ -7,18 +7,13 @@ ghost use Rattle.net_graph.specs.Tables.{PureRow, NetHas, BestFirst, AreRowsOfTa
 ghost use Rattle.distance_node.specs.Rows.{PureHopRow, IsHopRowOf};
 ghost use Rattle.distance_runs.specs.Runs.{AreAsGoodRows, AreBestHops, IsDistanceRun};
 
-use distance_node::{drained_rows_are_choices, next_hops_lead_along_best_walks};
-
 /// Over labels that are strict and isotone, the rows of a run that is quiet lead along best walks, whatever its workers
 /// and deliveries: next hops lead from each row with a value along a walk that weighs it and passes no node twice, no
 /// walk weighs better, and where a node has no value each walk from it weighs none.
 pub fn quiet_hops_lead_along_best_walks()
     ensures { (net : PureNet) (turns : ℕ) (hops : List PureHopRow) (journal : List Delivery) → IsNet net
         → NetHas strict net → NetHas isotone net → IsDistanceRun net turns hops journal true → AreBestHops net hops }
-{
-    drained_rows_are_choices();
-    next_hops_lead_along_best_walks();
-}
+{}
 
 /// So its values are as good as those that link state finds, row for row: neither is preferred to the other, and a node
 /// has none exactly where link state gives it none.
@@ -35,6 +30,4 @@ pub fn quiet_values_are_link_states()
 pub fn distance_rows_are_the_networks()
     ensures { (net : PureNet) (turns : ℕ) (hops : List PureHopRow) (journal : List Delivery) (quiet : Bool)
         → IsNet net → IsDistanceRun net turns hops journal quiet → AllByRecursion (IsHopRowOf net) hops }
-{
-    distance_node::runs_are_coherent();
-}
+{}
