@@ -210,19 +210,13 @@ impl Tree {
         ensures { IfOk result (λ copied. expression_of copied ≡ expression_of self.now) }
     {
         Ok(match self {
-            Tree::Lex(a, b) => Tree::Lex(copy_boxed_tree(alloc, a)?, copy_boxed_tree(alloc, b)?),
-            Tree::Scoped(a, b) => Tree::Scoped(
-                copy_boxed_tree(alloc, a)?,
-                copy_boxed_tree(alloc, b)?,
-            ),
-            Tree::Union(a, b) => Tree::Union(
-                copy_boxed_tree(alloc, a)?,
-                copy_boxed_tree(alloc, b)?,
-            ),
-            Tree::Sum(a, b) => Tree::Sum(copy_boxed_tree(alloc, a)?, copy_boxed_tree(alloc, b)?),
-            Tree::Plus(a, b) => Tree::Plus(copy_boxed_tree(alloc, a)?, copy_boxed_tree(alloc, b)?),
-            Tree::Left(a) => Tree::Left(copy_boxed_tree(alloc, a)?),
-            Tree::Right(a) => Tree::Right(copy_boxed_tree(alloc, a)?),
+            Tree::Lex(a, b) => Tree::Lex(copy_operand(alloc, a)?, copy_operand(alloc, b)?),
+            Tree::Scoped(a, b) => Tree::Scoped(copy_operand(alloc, a)?, copy_operand(alloc, b)?),
+            Tree::Union(a, b) => Tree::Union(copy_operand(alloc, a)?, copy_operand(alloc, b)?),
+            Tree::Sum(a, b) => Tree::Sum(copy_operand(alloc, a)?, copy_operand(alloc, b)?),
+            Tree::Plus(a, b) => Tree::Plus(copy_operand(alloc, a)?, copy_operand(alloc, b)?),
+            Tree::Left(a) => Tree::Left(copy_operand(alloc, a)?),
+            Tree::Right(a) => Tree::Right(copy_operand(alloc, a)?),
             Tree::Table(table) => Tree::Table(table.copy(alloc)?),
             Tree::Add { low, high } => Tree::Add {
                 low: *low,
@@ -255,7 +249,7 @@ impl Tree {
 }
 
 #[cycle(copy_tree)]
-fn copy_boxed_tree(alloc: Global, tree: &Box<Tree>) -> Result<Box<Tree>, NoMemory>
+fn copy_operand(alloc: Global, tree: &Box<Tree>) -> Result<Box<Tree>, NoMemory>
     ensures { IfOk result (λ copied. expression_of copied.value ≡ expression_of tree.now.value) }
 {
     Ok(Box::new(alloc, tree.copy(alloc)?)?)

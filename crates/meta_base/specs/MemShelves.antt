@@ -19,6 +19,10 @@ failing_of s = s.calls.failing
 abbrev pub calls_of : MemShelf → ℕ
 calls_of s = s.calls.made
 
+-- how many bytes a read gives at most
+abbrev pub bite_of : MemShelf → ℕ
+bite_of s = s.bite
+
 -- the next call fails
 abbrev pub fails_now : MemShelf → Bool
 fails_now s = list_any (λ n. n == s.calls.made) s.calls.failing

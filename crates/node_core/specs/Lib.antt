@@ -2,6 +2,8 @@ pub mod Numbers
 pub mod Kinds
 pub mod Machine
 pub mod Running
+pub mod Auditing
+pub mod Audits
 pub mod MachineLaws
 pub mod Configs
 pub mod Stepping

@@ -1,4 +1,4 @@
-ghost use Rattle.std.specs.Prelude.{◌≡◌, ℕ, ◌<◌, ◌≤◌, [], length, map, vec_len, Some, Ok, OnErr, IfOk, slice_get, option_map};
+ghost use Rattle.std.specs.Prelude.{◌≡◌, ℕ, ◌<◌, ◌≤◌, [], false, true, length, map, vec_len, Some, Ok, OnErr, IfOk, slice_get, option_map};
 ghost use Rattle.net_graph.specs.Nets.{IsNet};
 ghost use Rattle.node_core.specs.declared.node.TheConstants.{MAX_CLOCK};
 ghost use Rattle.node_core.specs.Configs.{machine_over};
@@ -7,7 +7,7 @@ ghost use Rattle.node_core.specs.Running.{AreUpTo};
 use crate::links::{empty_links, make_room, send_all};
 use crate::stepping::{begin_all, step_on};
 use crate::{MAX_CLOCK, NodeCore};
-use meta_base::{ArcId, List, NoMemory};
+use meta_base::{ArcId, Delivery, List, NoMemory};
 use net_graph::Net;
 use std::alloc::Global;
 use std::collections::VecDeque;
@@ -19,6 +19,16 @@ pub enum Delivered {
     Taken,
     /// No message waits on the arc.
     LinkEmpty,
+}
+
+/// What the audit of a journal finds.
+#[derive(Drop)]
+pub enum Replayed<'a, N: NodeCore> {
+    /// The journal leads from the start of the nodes to this machine.
+    Reached(Config<'a, N>),
+    /// The entry at that place, counted from 0, is the first that can't be made: its arc isn't the network's, no
+    /// message waits there, its clock isn't the one that the listener gets, or its clock is above [`MAX_CLOCK`].
+    Broken(usize),
 }
 
 /// The machine of one thread: the nodes of a network, the last clock of each, and what waits on each arc.
@@ -36,7 +46,9 @@ pub struct Config<'a, N: NodeCore> {
 }
 
 impl<'a, N: NodeCore> Config<'a, N> {
-    ghost use Rattle.node_core.specs.Machine.{AreUnbegun, Start, Deliver, front_clock};
+    ghost use Rattle.node_core.specs.Auditing.{CannotFollow};
+    ghost use Rattle.node_core.specs.Audits.{IsAudit};
+    ghost use Rattle.node_core.specs.Machine.{AreUnbegun, Start, Deliver, deliver_at, front_clock};
     ghost use Rattle.node_core.specs.Running.{IsRunning};
     ghost use Rattle.node_core.specs.MachineOf.{net_of, machine_of};
     ghost use Rattle.node_core.specs.Configs.{waits_on};
@@ -96,6 +108,52 @@ impl<'a, N: NodeCore> Config<'a, N> {
         )?;
         send_all(&mut self.links, out);
         Ok(Delivered::Taken)
+    }
+
+    // Makes the delivery of a journal's entry. True if it was made at the entry's clock; false where it can't be made, or
+    // its clock is above the greatest.
+    fn follow(&mut self, entry: Delivery) -> Result<bool, NoMemory>
+        requires running { IsRunning N.kind (net_of self.old) (machine_of N.state N.note self.old) }
+        ensures net { net_of self.new ≡ net_of self.old }
+        ensures running { IsRunning N.kind (net_of self.old) (machine_of N.state N.note self.new) }
+        ensures made { result ≡ Ok true
+            → deliver_at N.kind (net_of self.old) (machine_of N.state N.note self.old) entry
+            ≡ Some (machine_of N.state N.note self.new) }
+        ensures early { result ≡ Ok true → entry.clock ≤ MAX_CLOCK }
+        ensures broken { result ≡ Ok false
+            → CannotFollow N.kind (net_of self.old) (machine_of N.state N.note self.old) entry }
+    {
+        if entry.arc.0 as usize >= self.net.arc_count() || entry.clock > MAX_CLOCK {
+            return Ok(false);
+        }
+        if self.front_clock(entry.arc) != Some(entry.clock) {
+            return Ok(false);
+        }
+        match self.deliver(entry.arc)? {
+            Delivered::Taken => Ok(true),
+            Delivered::LinkEmpty => Ok(false),
+        }
+    }
+
+    /// Audits a journal: makes its deliveries one after another from the start of these nodes, one for each of the
+    /// network in order, none of which is begun, until one can't be made. It is refused for want of memory alone. For
+    /// whoever is handed a journal; no command calls it.
+    pub fn replay(
+        alloc: Global,
+        net: &'a Net,
+        nodes: List<N>,
+        journal: &[Delivery],
+    ) -> Result<Replayed<'a, N>, NoMemory>
+        requires { AreUnbegun N.kind net.now 0 (map N.state nodes) }
+        ensures { IfOk result (IsAudit N.state N.note N.kind net.now (map N.state nodes) journal.now) }
+    {
+        let mut config = Config::start(alloc, net, nodes)?;
+        for place in 0..journal.len() {
+            if !config.follow(journal[place])? {
+                return Ok(Replayed::Broken(place));
+            }
+        }
+        Ok(Replayed::Reached(config))
     }
 
     /// How many messages wait on the arc.

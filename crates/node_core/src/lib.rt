@@ -9,6 +9,6 @@ mod links;
 mod node;
 mod stepping;
 
-pub use config::{Config, Delivered};
+pub use config::{Config, Delivered, Replayed};
 pub use laws::{least_first_is_in_order, replays_run};
 pub use node::{MAX_BEGUN, MAX_CLOCK, NodeCore, Outgoing, numbers_are_specified};

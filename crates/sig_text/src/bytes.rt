@@ -16,7 +16,7 @@ pub fn numbers_are_specified()
     ensures { MAX_LITERAL_NUMBER ≡ max_literal_number }
 {}
 
-// The bytes of a word at the front, and what comes after them.
+/// The bytes of a word at the front, and what comes after them.
 pub fn split_word(text: &[u8]) -> (&[u8], &[u8])
     ensures front { result.0.now ≡ front is_word_byte text.now }
     ensures after_front { result.1.now ≡ after_front is_word_byte text.now }
@@ -42,8 +42,8 @@ fn if_any_literal_holds(n: Amount) -> Option<Amount>
     }
 }
 
-// The number that the digits at the front spell, unless it is above that of any literal, and what comes
-// after them. Past that bound the digits are only skipped, so no sum overflows.
+/// The number that the digits at the front spell, unless it is above that of any literal, and what comes
+/// after them. Past that bound the digits are only skipped, so no sum overflows.
 #[tactic(auto, using(crate::proofs::Numbers::number_from_le))]
 pub fn split_number(text: &[u8]) -> (Option<Amount>, &[u8])
     ensures number { result.0 ≡ within MAX_LITERAL_NUMBER (number_from 0 (front is_digit text.now)) }

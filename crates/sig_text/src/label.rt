@@ -24,8 +24,8 @@ use alg_model::{
 use meta_base::NoMemory;
 use std::alloc::Global;
 
-// The label of the tree's algebra that begins the text with no number above the greatest, or the first
-// fault in it, and what comes after it.
+/// The label of the tree's algebra that begins the text with no number above the greatest, or the first
+/// fault in it, and what comes after it.
 #[cycle(label_at)]
 pub fn label_at<'a>(
     alloc: Global,

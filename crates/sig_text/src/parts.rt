@@ -24,6 +24,7 @@ pub enum Next<'a> {
     Mark(u8, &'a [u8]),
 }
 
+/// What stands at the front of a text, after blanks.
 #[tactic(auto, using(crate::proofs::Sequences::step_front))]
 pub fn next_part(text: &[u8]) -> Next<'_>
     ensures { IsFront result (parts_of text.now) }
@@ -49,7 +50,7 @@ fn next_at(text: &[u8]) -> Next<'_>
     }
 }
 
-// Only blanks are left.
+/// Only blanks are left.
 pub fn end_at(text: &[u8]) -> Result<(), ReadStop>
     ensures found { OnOk result (parts_of text.now ≡ []) }
     ensures none { result ≡ Err NoShape → parts_of text.now ≡ [] → ⊥ }
@@ -60,7 +61,7 @@ pub fn end_at(text: &[u8]) -> Result<(), ReadStop>
     }
 }
 
-// What comes after that mark.
+/// What comes after that mark.
 pub fn mark_at(text: &[u8], wanted: u8) -> Result<&[u8], ReadStop>
     ensures { Leaves (take_mark wanted (parts_of text.now)) result }
 {
@@ -70,7 +71,7 @@ pub fn mark_at(text: &[u8], wanted: u8) -> Result<&[u8], ReadStop>
     }
 }
 
-// A number that is at most the greatest, and what comes after it.
+/// A number that is at most the greatest, and what comes after it.
 pub fn number_at(text: &[u8], greatest: Amount) -> Result<(Amount, &[u8]), ReadStop>
     requires { greatest ≤ MAX_LITERAL_NUMBER }
     ensures { Takes (λ n. n) (take_number greatest (parts_of text.now)) result }
@@ -81,7 +82,7 @@ pub fn number_at(text: &[u8], greatest: Amount) -> Result<(Amount, &[u8]), ReadS
     }
 }
 
-// A word, and what comes after it.
+/// A word, and what comes after it.
 pub fn word_at(text: &[u8]) -> Result<(&[u8], &[u8]), ReadStop>
     ensures { Takes (λ w. w.now) (take_word (parts_of text.now)) result }
 {
@@ -98,7 +99,7 @@ pub enum Side {
     Second,
 }
 
-// The side that `l:` or `r:` says, and what comes after it.
+/// The side that `l:` or `r:` says, and what comes after it.
 pub fn side_at(text: &[u8]) -> Result<(Side, &[u8]), ReadStop>
     ensures { Takes (λ side. side) (take_side (parts_of text.now)) result }
 {
@@ -120,7 +121,7 @@ pub enum Scope {
     Inner,
 }
 
-// The scope that `out` or `in` says, and what comes after it.
+/// The scope that `out` or `in` says, and what comes after it.
 pub fn scope_at(text: &[u8]) -> Result<(Scope, &[u8]), ReadStop>
     ensures { Takes (λ scope. scope) (take_scope (parts_of text.now)) result }
 {
@@ -141,7 +142,7 @@ fn either_at(text: &[u8], one: u8, other: u8) -> Result<(u8, &[u8]), ReadStop>
     }
 }
 
-// One of two marks and a number, and what comes after them.
+/// One of two marks and a number, and what comes after them.
 pub fn marked_at(
     text: &[u8],
     one: u8,
@@ -156,7 +157,7 @@ pub fn marked_at(
     Ok(((mark, n), rest))
 }
 
-// The numbers between two marks, with commas between them, and what comes after.
+/// The numbers between two marks, with commas between them, and what comes after.
 pub fn list_at(
     alloc: Global,
     text: &[u8],

@@ -23,8 +23,8 @@ use meta_base::{List, NoMemory, Text};
 use std::alloc::Global;
 use std::collections::BTreeSet;
 
-// The value of the tree's algebra that begins the text with no number above the greatest, or the first
-// fault in it, and what comes after it.
+/// The value of the tree's algebra that begins the text with no number above the greatest, or the first
+/// fault in it, and what comes after it.
 #[cycle(value_at)]
 pub fn value_at<'a>(
     alloc: Global,
