@@ -20,6 +20,7 @@ SCRIPT_FLAGS = ('--proved', '--unproved')
 NUMBER = r'\d{1,20}'
 INSTANCE = r'(\S+) on (\S+)(?: and (\S+))? gives (\S+)(?: and (\S+))?'
 ROW = rf'({NAME}) ({NAME}) (?:none|(?!none )(\S+)((?: {NAME})+))'
+HOP_ROW = rf'({NAME}) ({NAME}) (?:(none)|(?!none )(\S+) (?:here|via ({NAME})))'
 TABLES = rf'({NAME}) ({NUMBER}) stable'
 END_OF_RUN = rf'(quiet|spent) ({NUMBER})'
 DELIVERY = rf'({NUMBER}) ({NAME}) ({NAME})'
@@ -297,6 +298,26 @@ def read_flood(lines):
     return {'phases': [read_phase(lines, 0, is_traced=False)]}
 
 
+def read_hop_rows(lines, count):
+    """So many rows with their next hops, by destination. The own origin's value has none."""
+    found, nodes = {}, set()
+    for _ in range(count):
+        node, dest, none, value, head = lines.take(HOP_ROW)
+        if (node, dest) in nodes:
+            raise lines.unknown(lines.at - 1)
+        nodes.add((node, dest))
+        is_here = none is None and head is None
+        found.setdefault(dest, []).append({'node': node, 'value': value, 'here': is_here, 'next': head})
+    return found
+
+
+def read_distance(lines):
+    """The one phase of an exchange of values."""
+    rows = read_hop_rows(lines, lines.place_of(END_OF_RUN))
+    end, deliveries = lines.take(END_OF_RUN)
+    return {'phases': [{'phase': 0, 'rows': rows, 'end': end, 'deliveries': int(deliveries)}]}
+
+
 # For each command the statuses that its answer may come with, and what reads the text of that.
 READERS = {
     'check': ((0, 3), read_verdicts),
@@ -309,6 +330,7 @@ READERS = {
     'run': ((0, 4), read_run),
     'trace': ((0, 4), read_trace),
     'flood': ((0, 4), read_flood),
+    'distance': ((0, 4), read_distance),
     'verify': ((0,), read_judgement),
     'demo': ((0,), read_summary),
 }

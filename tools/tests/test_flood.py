@@ -7,11 +7,11 @@ import random
 from support import Folder, built, needs_program, run
 
 
-def drawn(source):
-    """A small network: its nodes, its arcs and its text."""
+def drawn(source, least=0):
+    """A small network: its nodes, its arcs, with labels of at least so much, and its text."""
     nodes = list('abcdef')[:source.randint(1, 6)]
     arcs = [it for it in itertools.permutations(nodes, 2) if source.random() < 0.4]
-    lines = [*(f'node {it}' for it in nodes), *(f'link {a} {b} : {source.randint(0, 3)}' for a, b in arcs),
+    lines = [*(f'node {it}' for it in nodes), *(f'link {a} {b} : {source.randint(least, 3)}' for a, b in arcs),
              *(f'origin {it} at {source.choice(nodes)} : 0' for it in 'xy')]
     return nodes, arcs, '\n'.join(lines) + '\n'
 

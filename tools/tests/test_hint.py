@@ -228,6 +228,8 @@ WORDS = [
     (['run', 'examples/shortest_path.raml', 'examples/diamond.net', '--turns', '0'], 'isn\'t monotone'),
     (['flood', 'examples/shortest_path.raml', 'examples/diamond.net', '--turns', '5'], 'a flood always ends by itself'),
     (['flood', 'examples/customer_provider.raml', 'examples/providers.net'], 'isn\'t isotone, which `flood` needs'),
+    (['distance', 'examples/shortest_path.raml', 'examples/diamond.net', '--turns', '0'], 'values were still on their way'),
+    (['distance', 'examples/customer_provider.raml', 'examples/providers.net'], 'which `distance` needs'),
     (['route', 'examples/customer_provider.raml', 'examples/providers.net'], 'providers.net:3:12: '),
     (['settle', 'examples/bad_gadget.raml', 'examples/disagree.net'], 'disagree.net:6:12: '),
     (['settle', 'examples/bad_gadget.raml', 'examples/disagree.net'], 'or `stable`, where all labels are mono'),

@@ -151,6 +151,22 @@ class Printed(Folder):
             {'phase': 0, 'rows': {'x': [{'node': 'a', 'value': None, 'path': []}]}, 'end': 'spent', 'deliveries': 3}]})
         self.assert_unknown(['flood', 'f', 'n'], 'quiet 0\nphase 1\nquiet 0\n', 2)
 
+    def test_distance(self):
+        """Each row has a next hop, the word here, or no value, and after the end there is nothing more."""
+        text = 'a x 3 via b\nb x 0 here\nc x none\nhere y 1 via via\nquiet 4\n'
+        rows = {'x': [{'node': 'a', 'value': '3', 'here': False, 'next': 'b'},
+                      {'node': 'b', 'value': '0', 'here': True, 'next': None},
+                      {'node': 'c', 'value': None, 'here': False, 'next': None}],
+                'y': [{'node': 'here', 'value': '1', 'here': False, 'next': 'via'}]}
+        self.assertEqual(self.members(['distance', 'f', 'n'], text), {'phases': [
+            {'phase': 0, 'rows': rows, 'end': 'quiet', 'deliveries': 4}]})
+        self.assertEqual(self.members(['distance', 'f', 'n'], 'spent 0\n', 4), {'phases': [
+            {'phase': 0, 'rows': {}, 'end': 'spent', 'deliveries': 0}]})
+        for text, line in (('quiet 0\nphase 1\nquiet 0\n', 2), ('a x 3 b\nquiet 0\n', 1),
+                           ('a x none here\nquiet 0\n', 1), ('a x 3 via\nquiet 0\n', 1),
+                           ('a x 1 here\na x 1 here\nquiet 0\n', 2)):
+            self.assert_unknown(['distance', 'f', 'n'], text, line)
+
     def test_delivery_or_row(self):
         """`1 b none` is a delivery from the node none to b, or the row of the node 1: their number decides."""
         text = '1 b none\n1 b none\nquiet 1\n'

@@ -13,9 +13,13 @@ use std::alloc::Global;
 /// node's own origin's.
 #[derive(Debug, Drop)]
 pub struct HopRow {
+    /// The node.
     pub node: NodeId,
+    /// The destination.
     pub dest: DestId,
+    /// The value, or none where the node has no row.
     pub value: Option<Value>,
+    /// The neighbour whose value it is made of.
     pub next: Option<NodeId>,
 }
 

@@ -26,7 +26,7 @@ use Rattle.distance_node.specs.Offers.{arc_from, choice_may, offer_is}
 use Rattle.distance_node.specs.Quiet.{drained_rows_are_chosen}
 use Rattle.distance_node.specs.Rows.{PureHopRow, IsHopRowOf, HopRows, dest_rows, hop_row, rows_for}
 use Rattle.distance_node.specs.Starting.{inside_of}
-use Rattle.distance_node.specs.Tables.{AreAsGood, IsChosen, Leads, table_of}
+use Rattle.distance_node.specs.Tables.{AreAsGood, HopTable, IsChosen, table_of}
 use Rattle.distance_runs.specs.Runs.{AreAsGoodRows, AreBestHops, IsDistanceRun, hop_of, is_for, table_in}
 
 -- ---- the row of a node for a destination is found
@@ -72,11 +72,12 @@ row_of dest i s = hop_row i dest (s.rows dest)
 at_node : (net : PureNet) (states : List DvState) (dest k i : ℕ) → AreBegun distance net k states → find (is_for dest (k + i)) (dest_rows states dest) ≡ option_map (row_of dest (k + i)) (slice_get states i)
 at_node net [] dest k i are = refl
 at_node net (s ∷ states) dest k zero are =
-    let here : s.number ≡ k + 0 = let e = are.1 in omega (arith, e) in
+    let e : s.number ≡ k = are.1 in
+    let here : s.number ≡ k + 0 = omega (arith, e) in
     let found : (s.number == k + 0) ≡ true = ap (λ z. z == k + 0) here ∙ same_test (k + 0) in
     rw (same_test dest, found) (ap (λ z. Some (row_of dest z s)) here)
 at_node net (s ∷ states) dest k (suc i) are =
-    let e = are.1 in
+    let e : s.number ≡ k = are.1 in
     let other : (s.number == k + suc i) ≡ false = grind (arith, nat_tests) in
     let next : k + suc i ≡ k + 1 + i = omega arith in
     rw (same_test dest, other) (ap (λ z. find (is_for dest z) (dest_rows states dest)) next ∙ (at_node net states dest (k + 1) i are.3 ∙ ap (λ z. option_map (row_of dest z) (slice_get states i)) (sym next)))
@@ -105,7 +106,7 @@ module _ (net : PureNet) (n : IsNet net) (turns : ℕ) (hops : List PureHopRow) 
       ∙ (sym (table_is net is.states is.phase.begun dest i within) ∙ ap (λ z. table_in z dest i) (sym is.hops_are)))
 
   module _ (is : IsDistanceRun net turns hops journal true) where
-    end : Machine DvState PureVector
+    abbrev end : Machine DvState PureVector
     end = is.phase.end
 
     coherent : IsCoherent net end
@@ -116,7 +117,7 @@ module _ (net : PureNet) (n : IsNet net) (turns : ℕ) (hops : List PureHopRow) 
 
     inside : (dest i : ℕ) (h : Hop) → dest < length net.dests → table_in hops dest i ≡ Some h → i < length net.nodes
     inside dest i h within e =
-        let from = option_then (λ (s : DvState). s.rows dest) (end.node i) h (ap (λ t. t i) (same_table true is dest within) ∙ e) in
+        let from = option_then (λ (s : DvState). s.rows dest) (end.node i) h (ap (λ (t : HopTable). t i) (same_table true is dest within) ∙ e) in
         inside_of net end coherent.running i from.0 from.1
 
     pub are_best_hops : NetHas strict net → NetHas isotone net → AreBestHops net hops

@@ -15,7 +15,7 @@ use Rattle.vector_runs.specs.Turns.{AreMonotone}
 use Rattle.metacli.specs.Alike.{still, undelivered}
 use Rattle.metacli.specs.Answers.{done, refused, spent}
 use Rattle.metacli.specs.After.{nets_after}
-use Rattle.metacli.specs.Outcome.{PureOutcome, stopped, checked, coded, routed, hopped, judged, wedged, ran, flooded, shown, IsRoutedAs, IsRunAs, IsShownAs, answer_in, rows_in}
+use Rattle.metacli.specs.Outcome.{PureOutcome, stopped, checked, coded, routed, hopped, judged, wedged, ran, flooded, exchanged, shown, IsRoutedAs, IsRunAs, IsShownAs, answer_in, rows_in}
 use Rattle.metacli.specs.declared.routing.Solution.TheVariants.{AllStable}
 
 -- no two lists of rows are settled
@@ -65,6 +65,7 @@ quiet traced turns a f (hopped b g many) h e = absurd h
 quiet traced turns a f (judged b g tables j) h e = absurd h
 quiet traced turns a f (wedged b v) h e = absurd h
 quiet traced turns a f (flooded b g rows journal q) h e = absurd h
+quiet traced turns a f (exchanged b g hops journal q) h e = absurd h
 quiet traced turns a f (shown b g last) h e = absurd h
 
 -- two quiet runs of one network
@@ -107,6 +108,7 @@ stable_alike traced turns a f o (judged b g tables j) h i d e = absurd i
 stable_alike traced turns a f o (wedged b v) h i d e = absurd i
 stable_alike traced turns a f o (ran b g t past last q) h i d e = absurd i
 stable_alike traced turns a f o (flooded b g rows journal q) h i d e = absurd i
+stable_alike traced turns a f o (exchanged b g hops journal q) h i d e = absurd i
 stable_alike traced turns a f o (shown b g last) h i d e = absurd i
 
 -- what demo comes to where it isn't for want of memory
@@ -138,6 +140,7 @@ summed seed nodes (judged b f tables j) h e = absurd h
 summed seed nodes (wedged b v) h e = absurd h
 summed seed nodes (ran b f t past last q) h e = absurd h
 summed seed nodes (flooded b f rows journal q) h e = absurd h
+summed seed nodes (exchanged b f hops journal q) h e = absurd h
 
 -- two summaries of one generated network
 pub summaries_alike : ((text : List ℕ) (a : PureAlg) → HasOneOutcome text a) → ((net : PureNet) → NetHas strict net → NetHas monotone net)

@@ -18,7 +18,7 @@ use Rattle.report_text.specs.Refusals.{PureRefusal, words, expr, network, report
 use Rattle.metacli.specs.Answers.{done, refused, spent}
 use Rattle.metacli.specs.Reading.{Holds, IsUntaken, IsReadAs, IsExprRefusal, IsNetRefusal, IsReportRefusal}
 use Rattle.metacli.specs.Outcome as outcome
-use Rattle.metacli.specs.Outcome.{PureOutcome, stopped, checked, coded, routed, hopped, wedged, ran, flooded, shown, answer_in, ComesBy, ComesOf, GoesOnFrom, GoesOnOver, GoesOnWith, IsCheckedAs, IsCodedAs, IsFit, IsFloodedAs, IsHoppedAs, IsJudgedAs, IsMadeAlone, IsMadeOn, IsOnArc, IsRoutedAs, IsRunAs, IsShownAs, IsWedgedAs, WithNetwork, WithReport, asked_of, labels_on, word_at}
+use Rattle.metacli.specs.Outcome.{PureOutcome, stopped, checked, coded, routed, hopped, wedged, ran, flooded, exchanged, shown, answer_in, ComesBy, ComesOf, GoesOnFrom, GoesOnOver, GoesOnWith, IsCheckedAs, IsCodedAs, IsExchangedAs, IsFit, IsFitForExchange, IsFloodedAs, IsHoppedAs, IsJudgedAs, IsMadeAlone, IsMadeOn, IsOnArc, IsRoutedAs, IsRunAs, IsShownAs, IsWedgedAs, WithNetwork, WithReport, asked_of, asked_of_exchange, labels_on, word_at}
 use Rattle.metacli.specs.Complete.{CompleteBy, IsAnsweredAlone, IsAnsweredOn, IsCompleteOf, IsDecided, IsDone, IsFitFor, IsFloodedOut, IsJudged, IsNetJudged, IsReportJudged, IsRunOut, IsReported, IsUnlessMemory}
 use Rattle.command_words.specs.declared.command.Command.{Command}
 use Rattle.command_words.specs.declared.command.Required.{Required}
@@ -32,6 +32,9 @@ use Rattle.metacli.specs.declared.task.NetworkTask.{NetworkTask}
 use Rattle.metacli.specs.declared.task.NetworkTask.TheVariants as joint
 use Rattle.metacli.specs.declared.task.Task.{Task}
 use Rattle.metacli.specs.declared.task.Task.TheVariants as task
+use Rattle.metacli.proofs.Exchanges as exchanges
+use Rattle.metacli.proofs.Floods as floods
+use Rattle.metacli.proofs.Missing.{IsUnfit}
 
 -- the laws of texts
 pub record Laws : Type 0 where
@@ -201,6 +204,7 @@ judged_done a file tables (hopped b f many) h = absurd h
 judged_done a file tables (wedged b v) h = absurd h
 judged_done a file tables (ran b f t past last quiet) h = absurd h
 judged_done a file tables (flooded b f rows journal quiet) h = absurd h
+judged_done a file tables (exchanged b f hops journal quiet) h = absurd h
 judged_done a file tables (shown b f last) h = absurd h
 
 report_judged : Laws → (a : PureAlg) (file : PureNetFile) (name bytes : List ℕ) (old new : Moment) (o : PureOutcome) (r : Result (List (List PureRow)) PureRefusal)
@@ -240,6 +244,7 @@ checked_done r a file S (outcome.judged b f tables j) h = absurd h
 checked_done r a file S (wedged b v) h = absurd h
 checked_done r a file S (ran b f t past last quiet) h = absurd h
 checked_done r a file S (flooded b f rows journal quiet) h = absurd h
+checked_done r a file S (exchanged b f hops journal quiet) h = absurd h
 checked_done r a file S (shown b f last) h = absurd h
 
 wedged_done : (a : PureAlg) (o : PureOutcome) → IsWedgedAs a o → IsUnlessMemory o done
@@ -260,6 +265,7 @@ wedged_done a (hopped b f many) h = absurd h
 wedged_done a (outcome.judged b f tables j) h = absurd h
 wedged_done a (ran b f t past last quiet) h = absurd h
 wedged_done a (flooded b f rows journal quiet) h = absurd h
+wedged_done a (exchanged b f hops journal quiet) h = absurd h
 wedged_done a (shown b f last) h = absurd h
 
 coded_done : (a : PureAlg) (file : Option PureNetFile) (labels : List PureLabel) (o : PureOutcome) → IsCodedAs a file labels o → IsUnlessMemory o done
@@ -279,6 +285,7 @@ coded_done a file labels (outcome.judged b f tables j) h = absurd h
 coded_done a file labels (wedged b v) h = absurd h
 coded_done a file labels (ran b f t past last quiet) h = absurd h
 coded_done a file labels (flooded b f rows journal quiet) h = absurd h
+coded_done a file labels (exchanged b f hops journal quiet) h = absurd h
 coded_done a file labels (shown b f last) h = absurd h
 
 -- a network whose labels are fit has no arc that doesn't have what is asked
@@ -299,6 +306,7 @@ routed_done solution a file (outcome.judged b f tables j) h fit = absurd h
 routed_done solution a file (wedged b v) h fit = absurd h
 routed_done solution a file (ran b f t past last quiet) h fit = absurd h
 routed_done solution a file (flooded b f rows journal quiet) h fit = absurd h
+routed_done solution a file (exchanged b f hops journal quiet) h fit = absurd h
 routed_done solution a file (shown b f last) h fit = absurd h
 
 hopped_done : (a : PureAlg) (file : PureNetFile) (o : PureOutcome) → IsHoppedAs a file o → IsFit Unbeaten (changed_net file) → IsUnlessMemory o done
@@ -318,6 +326,7 @@ hopped_done a file (outcome.judged b f tables j) h fit = absurd h
 hopped_done a file (wedged b v) h fit = absurd h
 hopped_done a file (ran b f t past last quiet) h fit = absurd h
 hopped_done a file (flooded b f rows journal quiet) h fit = absurd h
+hopped_done a file (exchanged b f hops journal quiet) h fit = absurd h
 hopped_done a file (shown b f last) h fit = absurd h
 
 run_out : (traced : Bool) (turns : ℕ) (a : PureAlg) (file : PureNetFile) (o : PureOutcome) → IsRunAs traced turns a file o → IsRunOut o
@@ -338,6 +347,7 @@ run_out traced turns a file (hopped b f many) h = absurd h
 run_out traced turns a file (outcome.judged b f tables j) h = absurd h
 run_out traced turns a file (wedged b v) h = absurd h
 run_out traced turns a file (flooded b f rows journal quiet) h = absurd h
+run_out traced turns a file (exchanged b f hops journal quiet) h = absurd h
 run_out traced turns a file (shown b f last) h = absurd h
 
 -- a flood ends by its turns exactly where they are too few
@@ -350,29 +360,35 @@ flood_runs_out turns all o true exact e few = let no : true ≡ false = exact.1 
 flood_runs_out turns all o false exact e few = e
 
 flooded_out : (turns : ℕ) (a : PureAlg) (file : PureNetFile) (o : PureOutcome) → IsFloodedAs turns a file o → IsFit Unbeaten (changed_net file) → IsFloodedOut (changed_net file) turns o
-flooded_out turns a file (flooded b f rows journal quiet) h fit =
-    let all = cards_told (changed_net file) in
-    let exact = h.3.spent in
-    record {
-      ends = λ enough. inl (flood_ends turns all (flooded b f rows journal quiet) quiet exact refl enough);
-      runs_out = λ few. inl (flood_runs_out turns all (flooded b f rows journal quiet) quiet exact refl few);
+flooded_out turns a file o h fit = ⊎_elim carried (⊎_elim unfit without) (floods.came turns a file o h)
+  where
+    carried : floods.Came turns a file o → IsFloodedOut (changed_net file) turns o
+    carried c = record {
+      ends = λ enough. inl (flood_ends turns (cards_told (changed_net file)) o c.quiet c.flood.spent (ap answer_in c.is) enough);
+      runs_out = λ few. inl (flood_runs_out turns (cards_told (changed_net file)) o c.quiet c.flood.spent (ap answer_in c.is) few);
     }
-flooded_out turns a file (stopped b f (misses arc x)) h fit = absurd (first_refutes (asked_of Unbeaten) (changed_net file) arc x.property h.2.first fit)
-flooded_out turns a file (stopped b f memory) h fit = record { ends = λ enough. inr refl; runs_out = λ few. inr refl }
-flooded_out turns a file (stopped b f (words n)) h fit = absurd h
-flooded_out turns a file (stopped b f (expr g)) h fit = absurd h
-flooded_out turns a file (stopped b f (network g)) h fit = absurd h
-flooded_out turns a file (stopped b f (report g)) h fit = absurd h
-flooded_out turns a file (stopped b f (read w)) h fit = absurd h
-flooded_out turns a file (stopped b f (long w)) h fit = absurd h
-flooded_out turns a file (checked b f v u) h fit = absurd h
-flooded_out turns a file (coded b f listing) h fit = absurd h
-flooded_out turns a file (routed s b f rows) h fit = absurd h
-flooded_out turns a file (hopped b f many) h fit = absurd h
-flooded_out turns a file (outcome.judged b f tables j) h fit = absurd h
-flooded_out turns a file (wedged b v) h fit = absurd h
-flooded_out turns a file (ran b f t past last quiet) h fit = absurd h
-flooded_out turns a file (shown b f last) h fit = absurd h
+
+    unfit : IsUnfit (asked_of Unbeaten) file o → IsFloodedOut (changed_net file) turns o
+    unfit u = absurd (first_refutes (asked_of Unbeaten) (changed_net file) u.arc u.against.property u.first.first fit)
+
+    without : answer_in o ≡ refused memory → IsFloodedOut (changed_net file) turns o
+    without m = record { ends = λ enough. inr m; runs_out = λ few. inr m }
+
+exchanged_out : (turns : ℕ) (a : PureAlg) (file : PureNetFile) (o : PureOutcome) → IsExchangedAs turns a file o → IsFitForExchange (changed_net file) → IsRunOut o
+exchanged_out turns a file o h fit = ⊎_elim carried (⊎_elim unfit without) (exchanges.came turns a file o h)
+  where
+    by : (quiet : Bool) → answer_in o ≡ (if quiet then done else spent) → IsRunOut o
+    by true e = inl (inl e)
+    by false e = inr e
+
+    carried : exchanges.Came turns a file o → IsRunOut o
+    carried c = by c.quiet (ap answer_in c.is)
+
+    unfit : IsUnfit asked_of_exchange file o → IsRunOut o
+    unfit u = absurd (first_refutes asked_of_exchange (changed_net file) u.arc u.against.property u.first.first fit)
+
+    without : answer_in o ≡ refused memory → IsRunOut o
+    without m = inl (inr m)
 
 shown_out : (seed nodes : ℕ) (o : PureOutcome) → IsShownAs seed nodes o → IsDone o
 shown_out seed nodes (shown a f last) h = inl refl
@@ -394,6 +410,7 @@ shown_out seed nodes (outcome.judged b f tables j) h = absurd h
 shown_out seed nodes (wedged b v) h = absurd h
 shown_out seed nodes (ran b f t past last quiet) h = absurd h
 shown_out seed nodes (flooded b f rows journal quiet) h = absurd h
+shown_out seed nodes (exchanged b f hops journal quiet) h = absurd h
 
 -- what is made of an algebra answers what was asked
 alone_answered : (asked : AlgebraTask) (a : PureAlg) (o : PureOutcome) → IsMadeAlone asked a o → IsAnsweredAlone asked o
@@ -415,6 +432,7 @@ on_answered joint.Hops a f o h fit = hopped_done a f o h fit
 on_answered (joint.Route solution workers) a f o h fit = routed_done solution a f o h fit
 on_answered (joint.Run workers turns traced) a f o h fit = run_out traced turns a f o h
 on_answered (joint.Flood workers turns) a f o h fit = flooded_out turns a f o h fit
+on_answered (joint.Distance workers turns) a f o h fit = exchanged_out turns a f o h fit
 
 on_unless : (asked : NetworkTask) (net : PureNet) (o : PureOutcome) → answer_in o ≡ refused memory → IsAnsweredOn asked net o
 on_unless (joint.Check r) net o e = inl (inr e)
@@ -423,6 +441,7 @@ on_unless joint.Hops net o e = inr e
 on_unless (joint.Route solution workers) net o e = inr e
 on_unless (joint.Run workers turns traced) net o e = inl (inr e)
 on_unless (joint.Flood workers turns) net o e = record { ends = λ enough. inr e; runs_out = λ few. inr e }
+on_unless (joint.Distance workers turns) net o e = inl (inr e)
 
 complete_of : Laws → (text : List (List ℕ)) (old new : Moment) (o : PureOutcome) (t : Task) → ComesOf text t old new o → IsCompleteOf text old new o t
 complete_of laws text old new o (task.Demo seed nodes) h = shown_out seed nodes o h.1

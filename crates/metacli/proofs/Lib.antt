@@ -3,6 +3,7 @@ mod Arcs
 mod Codes
 mod Completeness
 mod Floods
+mod Exchanges
 mod Found
 mod Missing
 mod NetsAfter

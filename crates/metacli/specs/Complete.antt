@@ -18,7 +18,7 @@ use Rattle.report_check.specs.declared.faults.ReportFault.{ReportFault}
 use Rattle.report_text.specs.Refusals.{expr, network, report, memory}
 use Rattle.metacli.specs.Answers.{PureAnswer, done, refused, spent, unmet}
 use Rattle.command_words.specs.Words.{Words}
-use Rattle.metacli.specs.Outcome.{PureOutcome, answer_in, IsFit, word_at}
+use Rattle.metacli.specs.Outcome.{PureOutcome, answer_in, IsFit, IsFitForExchange, word_at}
 use Rattle.command_words.specs.declared.command.Command.{Command}
 use Rattle.command_words.specs.declared.command.WordsFault.{WordsFault}
 use Rattle.metacli.specs.Tasks.{task_of}
@@ -71,7 +71,7 @@ IsDecided o = IsDone o ⊎ ((p : PureProperty) × (answer_in o ≡ unmet p))
 abbrev pub IsRunOut : PureOutcome → Type 0
 IsRunOut o = IsDone o ⊎ (answer_in o ≡ spent)
 
--- or all turns are used exactly where they are fewer than the cards that are told on the network
+-- or all turns are used exactly where they are fewer than the cards that are sent on the network
 pub record IsFloodedOut (net : PureNet) (turns : ℕ) (o : PureOutcome) : Type 0 where
   pub ends : cards_told net ≤ turns → IsDone o
   pub runs_out : turns < cards_told net → IsUnlessMemory o spent
@@ -84,10 +84,13 @@ IsAnsweredAlone alone.Gadget = IsDone
 
 -- which networks a task is carried out on, and what it is answered by there
 abbrev pub IsFitFor : NetworkTask → PureNet → Type 0
-IsFitFor (joint.Route solution workers) = IsFit solution
+IsFitFor (joint.Check r) = IsAny
+IsFitFor joint.Code = IsAny
 IsFitFor joint.Hops = IsFit Unbeaten
+IsFitFor (joint.Route solution workers) = IsFit solution
+IsFitFor (joint.Run workers turns traced) = IsAny
 IsFitFor (joint.Flood workers turns) = IsFit Unbeaten
-IsFitFor _ = IsAny
+IsFitFor (joint.Distance workers turns) = IsFitForExchange
 
 abbrev pub IsAnsweredOn : NetworkTask → PureNet → PureOutcome → Type 0
 IsAnsweredOn (joint.Check r) net = IsDecided
@@ -96,6 +99,7 @@ IsAnsweredOn joint.Hops net = IsDone
 IsAnsweredOn (joint.Route solution workers) net = IsDone
 IsAnsweredOn (joint.Run workers turns traced) net = IsRunOut
 IsAnsweredOn (joint.Flood workers turns) net = IsFloodedOut net turns
+IsAnsweredOn (joint.Distance workers turns) net = IsRunOut
 
 -- where the shelf tells the files that a task reads, and no fault came, they are judged
 abbrev pub IsCompleteOf : List (List ℕ) → Moment → Moment → PureOutcome → Task → Type 0

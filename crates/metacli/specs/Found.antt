@@ -1,9 +1,11 @@
--- What is found on a network: its routes, next hops or a flood, or the first arc whose label isn't fit for them; and the
--- tables of a report with their judgement, or why there are none.
+-- What is found on a network: its routes, next hops, a flood or an exchange of values, or the first arc whose label isn't
+-- fit for them; and the tables of a report with their judgement, or why there are none.
 use Rattle.std.specs.Prelude.{ℕ, List, map, Some, Result, Ok, Err}
 use Rattle.std.specs.List.{AllByRecursion}
 use Rattle.alg_classes.specs.Instances.{pure_instance}
 use Rattle.alg_model.specs.Expressions.{PureAlg}
+use Rattle.distance_node.specs.Rows.{IsHopRowOf, pure_hop_row}
+use Rattle.distance_runs.specs.declared.run.DistanceRun.{DistanceRun}
 use Rattle.flood_runs.specs.declared.run.FloodRun.{FloodRun}
 use Rattle.net_facts.specs.Misses.{IsFirstMissing}
 use Rattle.net_facts.specs.declared.missing.Missing.{Missing}
@@ -20,7 +22,7 @@ use Rattle.report_text.specs.JudgedTexts.{CanPrintHops, CanPrintJudgement}
 use Rattle.report_text.specs.Refusals.{PureRefusal, CanMiss}
 use Rattle.topology_file.specs.NetText.{PureNetFile, changed_net}
 use Rattle.metacli.specs.Reading.{IsReportOf}
-use Rattle.metacli.specs.Outcome.{PureOutcome, AreHopsOn, AreRoutesOn, GoesOnWith, IsFit, IsFlood, asked_of}
+use Rattle.metacli.specs.Outcome.{PureOutcome, AreHopsOn, AreRoutesOn, GoesOnWith, IsExchange, IsFit, IsFitForExchange, IsFlood, asked_of, asked_of_exchange}
 use Rattle.metacli.specs.declared.routing.Solution.{Solution}
 use Rattle.metacli.specs.declared.routing.Solution.TheVariants.{Unbeaten}
 
@@ -38,6 +40,11 @@ AreFoundHops net (Err missing) = IsFirstMissing (asked_of Unbeaten) net missing.
 abbrev pub IsFoundFlood : PureNet → ℕ → Result FloodRun Missing → Type 0
 IsFoundFlood net turns (Ok run) = IsFit Unbeaten net × IsFlood net turns (map pure_row run.rows) run.journal run.is_quiet × AllByRecursion (IsRowOf net) (map pure_row run.rows)
 IsFoundFlood net turns (Err missing) = IsFirstMissing (asked_of Unbeaten) net missing.arc.0 (pure_instance missing.instance) × CanMiss missing.arc.0 (pure_instance missing.instance) (Some net)
+
+-- an exchange whose rows can be printed, or an instance that can
+abbrev pub IsFoundExchange : PureNet → ℕ → Result DistanceRun Missing → Type 0
+IsFoundExchange net turns (Ok run) = IsFitForExchange net × IsExchange net turns (map pure_hop_row run.hops) run.journal run.is_quiet × AllByRecursion (IsHopRowOf net) (map pure_hop_row run.hops)
+IsFoundExchange net turns (Err missing) = IsFirstMissing asked_of_exchange net missing.arc.0 (pure_instance missing.instance) × CanMiss missing.arc.0 (pure_instance missing.instance) (Some net)
 
 -- the tables that the report means, and a judgement of them that can be printed
 pub record IsFoundOf (net : PureNet) (source : List ℕ) (tables : List (List PureRow)) (judgement : PureJudgement) : Type 0 where

@@ -14,7 +14,7 @@ use Rattle.property_infer.specs.Views.{pure_verdict, pure_verdicts}
 use Rattle.code_gen.specs.declared.listing.Listing.{Listing}
 use Rattle.code_gen.specs.Listings.{IsListing}
 use Rattle.net_graph.specs.Nets.{PureNet, PureArc}
-use Rattle.net_graph.specs.Tables.{PureRow, BestFirst, NetHas, OnTablesFrom, Optimal, AreRowsOfTables, AreSettledRows}
+use Rattle.net_graph.specs.Tables.{PureRow, BestFirst, NetHas, OnTablesFrom, Optimal, AreRowsOfTables, AreSettledRows, carrier}
 use Rattle.report_check.specs.Hops.{PureHops, hops_of}
 use Rattle.report_check.specs.Judged.{Judged, PureJudgement}
 use Rattle.net_graph.specs.Changes.{PureChange}
@@ -26,6 +26,8 @@ use Rattle.net_gen.specs.Networks.{demo_alg}
 use Rattle.vector_runs.specs.Runs.{PurePhase, IsRun, AreStable, pure_phase}
 use Rattle.vector_runs.specs.Turns.{AreMonotone, deliveries_left, deliveries_made}
 use Rattle.demo_rest.specs.Most.{demo_turns}
+use Rattle.distance_node.specs.Rows.{PureHopRow, pure_hop_row}
+use Rattle.distance_runs.specs.Runs.{AreAsGoodRows, AreBestHops, IsDistanceRun}
 use Rattle.flood_node.specs.Reach.{cards_told}
 use Rattle.flood_runs.specs.Floods.{IsFloodRun}
 use Rattle.report_text.specs.Refusals as refusal
@@ -72,6 +74,8 @@ pub data PureOutcome : Type 0 where
   ran : PureAlg → PureNetFile → Bool → List PurePhase → PurePhase → Bool → PureOutcome
   -- the rows that flooding nodes compute at the end of a flood, its deliveries, and whether it is quiet
   flooded : PureAlg → PureNetFile → List PureRow → List Delivery → Bool → PureOutcome
+  -- the rows of distance-vector nodes at the end of an exchange of values, its deliveries, and whether it is quiet
+  exchanged : PureAlg → PureNetFile → List PureHopRow → List Delivery → Bool → PureOutcome
   -- the one phase on a generated network, which is quiet
   shown : PureAlg → PureNetFile → PurePhase → PureOutcome
 
@@ -85,6 +89,7 @@ algebra_in (judged a f tables j) = Some a
 algebra_in (wedged a v) = Some a
 algebra_in (ran a f traced past last quiet) = Some a
 algebra_in (flooded a f rows journal quiet) = Some a
+algebra_in (exchanged a f hops journal quiet) = Some a
 algebra_in (shown a f last) = Some a
 
 abbrev pub file_in : PureOutcome → Option PureNetFile
@@ -97,6 +102,7 @@ file_in (judged a f tables j) = Some f
 file_in (wedged a v) = None
 file_in (ran a f traced past last quiet) = Some f
 file_in (flooded a f rows journal quiet) = Some f
+file_in (exchanged a f hops journal quiet) = Some f
 file_in (shown a f last) = Some f
 
 -- what else an end shows is empty where nothing of the kind was made
@@ -133,9 +139,14 @@ rows_in (flooded a f rows journal quiet) = rows
 rows_in (shown a f last) = last.rows
 rows_in _ = []
 
+abbrev pub hops_in : PureOutcome → List PureHopRow
+hops_in (exchanged a f hops journal quiet) = hops
+hops_in _ = []
+
 abbrev pub journal_in : PureOutcome → List Delivery
 journal_in (ran a f traced past last quiet) = last.journal
 journal_in (flooded a f rows journal quiet) = journal
+journal_in (exchanged a f hops journal quiet) = journal
 journal_in (shown a f last) = last.journal
 journal_in _ = []
 
@@ -158,6 +169,7 @@ answer_in (judged a f tables j) = done
 answer_in (wedged a v) = done
 answer_in (ran a f traced past last quiet) = if quiet then done else spent
 answer_in (flooded a f rows journal quiet) = if quiet then done else spent
+answer_in (exchanged a f hops journal quiet) = if quiet then done else spent
 answer_in (shown a f last) = done
 
 -- the changes of a network file, if there is one
@@ -178,6 +190,7 @@ pub record Shows (e : Ended) (asked : Option Command) (o : PureOutcome) : Type 0
   pub judgement : option_map pure_judgement e.judgement ≡ judgement_in o
   pub many : map pure_hops e.many ≡ many_in o
   pub rows : map pure_row e.rows ≡ rows_in o
+  pub hops : map pure_hop_row e.hops ≡ hops_in o
   pub journal : e.journal ≡ journal_in o
   pub past : map pure_phase e.past ≡ past_in o
   pub decided : pure_answer e.decided ≡ answer_in o
@@ -313,7 +326,7 @@ IsRunAs traced turns a file (ran b f t past last quiet) =
 IsRunAs traced turns a file (stopped b f memory) = (b ≡ Some a) × (f ≡ Some file)
 IsRunAs traced turns a file _ = ⊥
 
--- A flood of the network's new nodes. It is spent exactly where it has fewer turns than cards are told on the network.
+-- A flood of the network's new nodes. It is spent exactly where it has fewer turns than cards are sent on the network.
 -- Where it is quiet, it made as many deliveries, and its rows are those that link state finds.
 pub record IsFlood (net : PureNet) (turns : ℕ) (rows : List PureRow) (journal : List Delivery) (quiet : Bool) : Type 0 where
   pub is_run : IsFloodRun net turns rows journal quiet
@@ -328,6 +341,28 @@ IsFloodedAs turns a file (flooded b f rows journal quiet) = (b ≡ a) × (f ≡ 
 IsFloodedAs turns a file (stopped b f (misses arc x)) = (b ≡ Some a) × (f ≡ Some file) × IsFirstMissing (asked_of Unbeaten) (changed_net file) arc x
 IsFloodedAs turns a file (stopped b f memory) = (b ≡ Some a) × (f ≡ Some file)
 IsFloodedAs turns a file _ = ⊥
+
+-- what distance asks of all labels, in the order in which it is looked for; and the labels on all arcs have it
+abbrev pub asked_of_exchange : List PureProperty
+asked_of_exchange = strict ∷ isotone ∷ []
+
+abbrev pub IsFitForExchange : PureNet → Type 0
+IsFitForExchange = NetHasAll asked_of_exchange
+
+-- An exchange of values of the network's new nodes. Where it is quiet, next hops lead along walks that no walk beats, and
+-- its values are as good as those that link state finds.
+pub record IsExchange (net : PureNet) (turns : ℕ) (hops : List PureHopRow) (journal : List Delivery) (quiet : Bool) : Type 0 where
+  pub is_run : IsDistanceRun net turns hops journal quiet
+  pub best : quiet ≡ true → AreBestHops net hops
+  pub link_state : quiet ≡ true → (routed : List PureRow) → AreRowsOfTables net (BestFirst net) routed → AreAsGoodRows (carrier net) hops routed
+
+-- What distance comes to where all was read, on the network after its changes: an exchange, where its labels are fit for
+-- one; else the first arc whose label isn't; unless memory is refused.
+abbrev pub IsExchangedAs : ℕ → PureAlg → PureNetFile → PureOutcome → Type 0
+IsExchangedAs turns a file (exchanged b f hops journal quiet) = (b ≡ a) × (f ≡ file) × IsFitForExchange (changed_net file) × IsExchange (changed_net file) turns hops journal quiet
+IsExchangedAs turns a file (stopped b f (misses arc x)) = (b ≡ Some a) × (f ≡ Some file) × IsFirstMissing asked_of_exchange (changed_net file) arc x
+IsExchangedAs turns a file (stopped b f memory) = (b ≡ Some a) × (f ≡ Some file)
+IsExchangedAs turns a file _ = ⊥
 
 -- What demo comes to: a quiet run of the new nodes of the network that the generated text means over add(1..9), without
 -- changes; all labels are strict, so that its rows are the only stable ones; unless memory is refused.
@@ -352,6 +387,7 @@ IsMadeOn joint.Hops a f o = IsHoppedAs a f o
 IsMadeOn (joint.Route solution workers) a f o = IsRoutedAs solution a f o
 IsMadeOn (joint.Run workers turns traced) a f o = IsRunAs traced turns a f o
 IsMadeOn (joint.Flood workers turns) a f o = IsFloodedAs turns a f o
+IsMadeOn (joint.Distance workers turns) a f o = IsExchangedAs turns a f o
 
 -- What comes of an expression file: over its algebra, what Then says; or it is refused, and nothing more is
 -- begun.

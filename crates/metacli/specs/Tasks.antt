@@ -2,7 +2,7 @@
 use Rattle.std.specs.Prelude.{ℕ, ◌<◌, List, length, Some, None, true, false}
 use Rattle.command_words.specs.Words.{AreDemoNodes, AreTurns, AreWorkers}
 use Rattle.command_words.specs.declared.command.Command.{Command}
-use Rattle.command_words.specs.declared.command.Command.TheVariants.{Check, Code, Route, Settle, Stable, Run, Trace, Flood, Verify, Hops, Gadget, Demo}
+use Rattle.command_words.specs.declared.command.Command.TheVariants.{Check, Code, Route, Settle, Stable, Run, Trace, Flood, Distance, Verify, Hops, Gadget, Demo}
 use Rattle.metacli.specs.declared.routing.Solution.TheVariants.{Unbeaten, Settled, AllStable}
 use Rattle.metacli.specs.declared.task.AlgebraTask.TheVariants as alone
 use Rattle.metacli.specs.declared.task.NetworkTask.{NetworkTask}
@@ -23,6 +23,7 @@ task_of (Stable file net) = task.On file net (joint.Route AllStable 1)
 task_of (Run file net workers turns) = task.On file net (joint.Run workers turns false)
 task_of (Trace file net workers turns) = task.On file net (joint.Run workers turns true)
 task_of (Flood file net workers turns) = task.On file net (joint.Flood workers turns)
+task_of (Distance file net workers turns) = task.On file net (joint.Distance workers turns)
 task_of (Verify file net report) = task.Judge file net report
 task_of (Hops file net) = task.On file net joint.Hops
 task_of (Gadget file) = task.Alone file alone.Gadget
@@ -36,6 +37,7 @@ HasItsNumbers joint.Hops = Unit {0}
 HasItsNumbers (joint.Route solution workers) = AreWorkers workers
 HasItsNumbers (joint.Run workers turns traced) = AreWorkers workers × AreTurns turns
 HasItsNumbers (joint.Flood workers turns) = AreWorkers workers × AreTurns turns
+HasItsNumbers (joint.Distance workers turns) = AreWorkers workers × AreTurns turns
 
 -- its files are words, and there may be so many workers, turns and nodes
 abbrev pub CanBeDone : List (List ℕ) → Task → Type 0

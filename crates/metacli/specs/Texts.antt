@@ -7,7 +7,9 @@ use Rattle.net_graph.specs.Nets.{PureNet}
 use Rattle.net_graph.specs.Tables.{PureRow}
 use Rattle.net_graph.specs.RowTexts.{IsRowOf, row_text}
 use Rattle.topology_file.specs.NetText.{PureNetFile, changed_net}
+use Rattle.distance_node.specs.Rows.{PureHopRow, IsHopRowOf}
 use Rattle.report_check.specs.Hops.{PureHops}
+use Rattle.report_text.specs.HopTexts.{hop_row_text}
 use Rattle.report_text.specs.JudgedTexts.{CanPrintHops, CanPrintJudgement, hops_text, judgement_text}
 use Rattle.report_text.specs.TableTexts.{stable_text, table_text}
 use Rattle.report_text.specs.VerdictTexts.{required_text, verdicts_text, CanPrintVerdicts}
@@ -23,7 +25,7 @@ use Rattle.metacli.specs.Answers.{PureAnswer, done, refused, spent, unmet, write
 use Rattle.metacli.specs.After.{nets_after}
 use Rattle.metacli.specs.declared.putting.Cut.{Cut}
 use Rattle.metacli.specs.declared.putting.Cut.TheVariants.{Sink, Memory}
-use Rattle.metacli.specs.Outcome.{PureOutcome, stopped, checked, coded, routed, hopped, judged, wedged, ran, flooded, shown}
+use Rattle.metacli.specs.Outcome.{PureOutcome, stopped, checked, coded, routed, hopped, judged, wedged, ran, flooded, exchanged, shown}
 use Rattle.metacli.specs.declared.routing.Solution.{Solution}
 use Rattle.metacli.specs.declared.routing.Solution.TheVariants.{Unbeaten, Settled, AllStable}
 
@@ -84,8 +86,15 @@ run_text traced net (m ∷ nets) number (p ∷ past) last quiet = phase_lines tr
 abbrev pub flood_text : PureNet → List PureRow → List Delivery → Bool → List ℕ
 flood_text net rows journal quiet = rows_text net rows ++ end_text quiet (length journal)
 
--- the text of what a command came to: verdicts, code, routes, a gadget, phases, a flood, a summary, or the one line of a
--- refusal
+-- the lines of rows with the next hop of each, and those of an exchange and its end
+abbrev pub hop_rows_text : PureNet → List PureHopRow → List ℕ
+hop_rows_text net hops = concat (map (hop_row_text net) hops)
+
+abbrev pub exchange_text : PureNet → List PureHopRow → List Delivery → Bool → List ℕ
+exchange_text net hops journal quiet = hop_rows_text net hops ++ end_text quiet (length journal)
+
+-- the text of what a command came to: verdicts, code, routes, a gadget, phases, a flood, an exchange, a summary, or the
+-- one line of a refusal
 abbrev pub TextOf : PureOutcome → List ℕ
 TextOf (stopped a f r) = refusal_text r (last_net f)
 TextOf (checked a f v u) = verdicts_text a.expression v ++ unmet_text u
@@ -96,6 +105,7 @@ TextOf (judged a f tables j) = judgement_text (changed_net f) j
 TextOf (wedged a v) = gadget_text a v
 TextOf (ran a f traced past last quiet) = run_text traced f.net (nets_after f.net f.changes) 0 past last quiet
 TextOf (flooded a f rows journal quiet) = flood_text f.net rows journal quiet
+TextOf (exchanged a f hops journal quiet) = exchange_text f.net hops journal quiet
 TextOf (shown a f last) = summary_text f.net last.rows
 
 -- that text can be made
@@ -109,6 +119,7 @@ IsPrintable (judged a f tables j) = CanPrintJudgement (changed_net f) j
 IsPrintable (wedged a v) = HasGadget a v
 IsPrintable (ran a f traced past last quiet) = AreOfNetworks f.net (nets_after f.net f.changes) past last
 IsPrintable (flooded a f rows journal quiet) = AllByRecursion (IsRowOf f.net) rows
+IsPrintable (exchanged a f hops journal quiet) = AllByRecursion (IsHopRowOf f.net) hops
 IsPrintable (shown a f last) = AreSummed last.rows
 
 -- a front of the text was appended, and this is what comes after it

@@ -1,6 +1,7 @@
 -- What outcomes and results of the program stand for.
 use Rattle.std.specs.Prelude.{◌≡◌, map, Option, Some, None, option_map, Result, Ok, Err}
 use Rattle.net_graph.specs.Views.{pure_row, rows_of}
+use Rattle.distance_node.specs.Rows.{pure_hop_row}
 use Rattle.report_check.specs.Views.{pure_hops, pure_judgement}
 use Rattle.net_graph.specs.Nets.{PureNet}
 use Rattle.topology_file.specs.declared.network.NetFile.{NetFile}
@@ -13,7 +14,7 @@ use Rattle.report_text.specs.Refusals.{PureRefusal, misses}
 use Rattle.vector_runs.specs.Runs.{pure_phase}
 use Rattle.metacli.specs.Answers.{pure_answer, pure_stop}
 use Rattle.metacli.specs.Texts.{IsPrintable}
-use Rattle.metacli.specs.Outcome.{PureOutcome, stopped, checked, coded, routed, hopped, judged, wedged, ran, flooded, shown, algebra_in, answer_in, file_in, gadget_in, journal_in, judgement_in, listing_in, many_in, past_in, report_in, rows_in, verdicts_in}
+use Rattle.metacli.specs.Outcome.{PureOutcome, stopped, checked, coded, routed, hopped, judged, wedged, ran, flooded, exchanged, shown, algebra_in, answer_in, file_in, gadget_in, hops_in, journal_in, judgement_in, listing_in, many_in, past_in, report_in, rows_in, verdicts_in}
 use Rattle.metacli.specs.declared.outcome.Stop.{Stop}
 use Rattle.metacli.specs.declared.outcome.Made.{Made}
 use Rattle.metacli.specs.declared.outcome.Parts.{Parts}
@@ -31,6 +32,7 @@ pure_outcome (outcome.Judged it) = judged it.alg (pure_file it.file) (map rows_o
 pure_outcome (outcome.Wedged it) = wedged it.alg (pure_verdict it.verdict)
 pure_outcome (outcome.Ran it) = ran it.alg (pure_file it.file) it.is_traced (map pure_phase it.run.past) (pure_phase it.run.last) it.run.is_quiet
 pure_outcome (outcome.Flooded it) = flooded it.alg (pure_file it.file) (map pure_row it.run.rows) it.run.journal it.run.is_quiet
+pure_outcome (outcome.Exchanged it) = exchanged it.alg (pure_file it.file) (map pure_hop_row it.run.hops) it.run.journal it.run.is_quiet
 pure_outcome (outcome.Shown it) = shown it.alg (pure_file it.file) (pure_phase it.last)
 
 -- what was made is what the outcome says: a field that it says nothing of is empty
@@ -42,6 +44,7 @@ pub record IsMadeIn (made : Made) (o : PureOutcome) : Type 0 where
   pub judgement : option_map pure_judgement made.judgement ≡ judgement_in o
   pub many : map pure_hops made.many ≡ many_in o
   pub rows : map pure_row made.rows ≡ rows_in o
+  pub hops : map pure_hop_row made.hops ≡ hops_in o
   pub journal : made.journal ≡ journal_in o
   pub past : map pure_phase made.past ≡ past_in o
 

@@ -5,6 +5,7 @@ use crate::{Command, WordsFault};
 use alg_classes::{Instance, Property};
 use alg_model::Alg;
 use code_gen::Listing;
+use distance_runs::HopRow;
 use meta_base::{ArcId, Delivery, List, Which};
 use net_graph::{Change, DestTable, Net, RouteRow};
 use property_infer::{Verdict, Verdicts};
@@ -72,8 +73,11 @@ pub struct Ended {
     /// The routes, where `route`, `settle`, `stable` or `flood` was carried out, on the network after all changes; those
     /// of the last phase, where `run` or `trace` was: for each destination in order, each node in order.
     pub rows: List<RouteRow>,
-    /// The deliveries of the last phase, where `run` or `trace` was carried out, or of the flood, where `flood` was: by
-    /// clock, then by listener.
+    /// The rows of distance-vector nodes with their next hops, where `distance` was carried out, on the network after all
+    /// changes: for each destination in order, each node in order.
+    pub hops: List<HopRow>,
+    /// The deliveries of the last phase, where `run` or `trace` was carried out, or of the run of nodes, where `flood` or
+    /// `distance` was: by clock, then by listener.
     pub journal: List<Delivery>,
     /// The phases before the last, where `run` or `trace` was carried out.
     pub past: List<Phase>,

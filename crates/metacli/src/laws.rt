@@ -2,14 +2,16 @@
 ghost use Rattle.std.specs.Prelude.{◌≡◌, ◌++◌, ℕ, Bool, List, length, true};
 ghost use Rattle.meta_base.specs.Shelf.{Moment};
 ghost use Rattle.alg_model.specs.Expressions.{PureAlg};
+ghost use Rattle.distance_runs.specs.Runs.{AreAsGoodRows};
+ghost use Rattle.net_graph.specs.Tables.{carrier};
 ghost use Rattle.report_text.specs.RunTexts.{end_text};
-ghost use Rattle.topology_file.specs.NetText.{PureNetFile};
+ghost use Rattle.topology_file.specs.NetText.{PureNetFile, changed_net};
 ghost use Rattle.vector_runs.specs.Turns.{AreMonotone};
 ghost use Rattle.metacli.specs.Alike.{undelivered};
 ghost use Rattle.metacli.specs.Answers.{done};
 ghost use Rattle.metacli.specs.After.{nets_after};
 ghost use Rattle.metacli.specs.Complete.{IsComplete};
-ghost use Rattle.metacli.specs.Outcome.{ComesTo, IsFloodedAs, IsRoutedAs, IsRunAs, IsShownAs, PureOutcome, answer_in, journal_in, rows_in};
+ghost use Rattle.metacli.specs.Outcome.{ComesTo, IsExchangedAs, IsFloodedAs, IsRoutedAs, IsRunAs, IsShownAs, PureOutcome, answer_in, hops_in, journal_in, rows_in};
 ghost use Rattle.metacli.specs.Texts.{TextOf};
 ghost use Rattle.metacli.specs.declared.routing.Solution.TheVariants.{AllStable, Unbeaten};
 
@@ -59,6 +61,15 @@ pub fn quiet_floods_have_the_rows_of_route()
     ensures text { (turns : ℕ) (a : PureAlg) (f : PureNetFile) (o p : PureOutcome) →
         IsFloodedAs turns a f o → IsRoutedAs Unbeaten a f p →
         answer_in o ≡ done → answer_in p ≡ done → TextOf o ≡ TextOf p ++ end_text true (length (journal_in o)) }
+{}
+
+/// The values of a quiet exchange, which `distance` prints, are as good as those of `route` on the same files, row for
+/// row: neither is preferred to the other, and there is none exactly where `route` prints none.
+#[tactic(auto, using(crate::proofs::Exchanges::exchanges_alike))]
+pub fn quiet_exchanges_are_as_good_as_route()
+    ensures { (turns : ℕ) (a : PureAlg) (f : PureNetFile) (o p : PureOutcome) →
+        IsExchangedAs turns a f o → IsRoutedAs Unbeaten a f p →
+        answer_in o ≡ done → answer_in p ≡ done → AreAsGoodRows (carrier (changed_net f)) (hops_in o) (rows_in p) }
 {}
 
 /// What `demo` comes to with a seed and a number of nodes is the same but for its deliveries, of which the summary says

@@ -6,6 +6,7 @@ mod after;
 mod checking;
 mod coding;
 mod ended;
+mod exchanging;
 mod flooding;
 mod generating;
 mod hopping;
@@ -27,8 +28,8 @@ mod writing;
 pub use command_words::{Command, Required, WordsFault, read_words};
 pub use ended::{Answer, Ended, status};
 pub use laws::{
-    nothing_is_given_up, quiet_floods_have_the_rows_of_route, quiet_runs_end_alike,
-    quiet_runs_have_the_stable_rows, summaries_are_determined,
+    nothing_is_given_up, quiet_exchanges_are_as_good_as_route, quiet_floods_have_the_rows_of_route,
+    quiet_runs_end_alike, quiet_runs_have_the_stable_rows, summaries_are_determined,
 };
 pub use top::run_meta;
 pub use vector_runs::Phase;

@@ -14,6 +14,7 @@ use crate::{Answer, Command, Ended, WordsFault};
 use alg_classes::Property;
 use alg_model::Alg;
 use code_gen::Listing;
+use distance_runs::{DistanceRun, HopRow};
 use flood_runs::FloodRun;
 use meta_base::{Delivery, List, NoMemory, Which};
 use net_facts::Missing;
@@ -96,6 +97,7 @@ pub enum Outcome {
     Wedged(Wedged),
     Ran(Ran),
     Flooded(Flooded),
+    Exchanged(Exchanged),
     Shown(Shown),
 }
 
@@ -181,6 +183,14 @@ pub struct Flooded {
     pub run: FloodRun,
 }
 
+/// The exchange of values of distance-vector nodes on the network of a file, after its changes.
+#[derive(Debug, Drop)]
+pub struct Exchanged {
+    pub alg: Alg,
+    pub file: NetFile,
+    pub run: DistanceRun,
+}
+
 /// The phase of path-vector nodes on a generated network, which is quiet.
 #[derive(Debug, Drop)]
 pub struct Shown {
@@ -229,6 +239,7 @@ impl Outcome {
             judgement: made.judgement,
             many: made.many,
             rows: made.rows,
+            hops: made.hops,
             journal: made.journal,
             past: made.past,
             decided,
@@ -251,6 +262,7 @@ impl Outcome {
             Outcome::Wedged(it) => it.parts(alloc),
             Outcome::Ran(it) => it.parts(alloc),
             Outcome::Flooded(it) => it.parts(alloc),
+            Outcome::Exchanged(it) => it.parts(alloc),
             Outcome::Shown(it) => it.parts(alloc),
         }
     }
@@ -420,6 +432,27 @@ impl Flooded {
     }
 }
 
+impl Exchanged {
+    fn parts(self, alloc: Global) -> Parts
+        ensures { AreParts result (pure_outcome (Outcome.Exchanged self)) }
+    {
+        let DistanceRun {
+            hops,
+            journal,
+            is_quiet,
+        } = self.run;
+        let mut made = Made::nothing(alloc);
+        made.hops = hops;
+        made.journal = journal;
+        Parts {
+            alg: Some(self.alg),
+            file: Some(self.file),
+            made,
+            decided: end_answer(is_quiet),
+        }
+    }
+}
+
 impl Shown {
     fn parts(self, alloc: Global) -> Parts
         ensures { AreParts result (pure_outcome (Outcome.Shown self)) }
@@ -443,6 +476,7 @@ pub struct Made {
     judgement: Option<Judgement>,
     many: List<ManyHops>,
     rows: List<RouteRow>,
+    hops: List<HopRow>,
     journal: List<Delivery>,
     past: List<Phase>,
 }
@@ -460,6 +494,7 @@ impl Made {
           judgement = None;
           many = [];
           rows = [];
+          hops = [];
           journal = [];
           past = [];
         } }
@@ -472,6 +507,7 @@ impl Made {
             judgement: None,
             many: List::new(alloc),
             rows: List::new(alloc),
+            hops: List::new(alloc),
             journal: List::new(alloc),
             past: List::new(alloc),
         }
@@ -487,6 +523,7 @@ impl Made {
           judgement = None;
           many = [];
           rows = last.rows;
+          hops = [];
           journal = last.journal;
           past = past;
         } }
@@ -499,6 +536,7 @@ impl Made {
             judgement: None,
             many: List::new(alloc),
             rows: last.rows,
+            hops: List::new(alloc),
             journal: last.journal,
             past,
         }
@@ -517,7 +555,7 @@ pub(crate) fn checked_answer(unmet: Option<Property>) -> Answer
     }
 }
 
-// The answer to a run or a flood that ended with nothing on its way, or with all turns used.
+// The answer to a run, a flood or an exchange that ended with nothing on its way, or with all turns used.
 pub(crate) fn end_answer(is_quiet: bool) -> Answer
     ensures answer { pure_answer result ≡ if is_quiet then done else spent }
     ensures sink { pure_answer result ≢ write_fault }

@@ -1,18 +1,20 @@
-// Putting the lines of runs and floods.
+// Putting the lines of runs, floods and exchanges of values.
 ghost use Rattle.std.specs.Prelude.{◌+◌, ◌^◌, ◌<◌, length, map};
 ghost use Rattle.std.specs.List.{AllByRecursion};
+ghost use Rattle.distance_node.specs.Rows.{IsHopRowOf, pure_hop_row};
 ghost use Rattle.net_graph.specs.RowTexts.{IsRowOf};
 ghost use Rattle.net_graph.specs.Views.{pure_row};
-ghost use Rattle.metacli.specs.Texts.{PutsText, flood_text, journal_text, number_text, phase_lines, run_text, trace_text};
+ghost use Rattle.metacli.specs.Texts.{PutsText, exchange_text, flood_text, hop_rows_text, journal_text, number_text, phase_lines, run_text, trace_text};
 ghost use Rattle.vector_runs.specs.Runs.{AreOfNetworks, IsOfNetwork, pure_phase};
 
 use crate::outcome::Ran;
 use crate::putting::{Cut, put_line, put_room, room_for_lines};
 use crate::writing::put_rows;
+use distance_runs::{DistanceRun, HopRow};
 use flood_runs::FloodRun;
 use meta_base::{Delivery, Sink};
 use net_graph::Net;
-use report_text::{end_line, phase_line, push_delivery_line};
+use report_text::{end_line, phase_line, push_delivery_line, push_hop_row_line};
 use std::alloc::Global;
 use vector_runs::Phase;
 
@@ -86,6 +88,36 @@ pub(crate) fn put_flood<K: Sink>(
     put_rows(alloc, out, net, run.rows.as_slice())?;
     let made = run.journal.as_slice().len();
     put_line(out, end_line(alloc, run.is_quiet, made))
+}
+
+/// Puts the rows of an exchange on the network and its end.
+pub(crate) fn put_exchange<K: Sink>(
+    alloc: Global,
+    out: &mut K,
+    net: &Net,
+    run: &DistanceRun,
+) -> Result<(), Cut>
+    requires { AllByRecursion (IsHopRowOf net.now) (map pure_hop_row run.now.hops) }
+    ensures { PutsText (K.holds out.old)
+        (exchange_text net.now (map pure_hop_row run.now.hops) run.now.journal run.now.is_quiet) result
+        (K.holds out.new) }
+{
+    put_hop_rows(alloc, out, net, run.hops.as_slice())?;
+    let made = run.journal.as_slice().len();
+    put_line(out, end_line(alloc, run.is_quiet, made))
+}
+
+// Puts the lines of rows with their next hops.
+fn put_hop_rows<K: Sink>(alloc: Global, out: &mut K, net: &Net, hops: &[HopRow]) -> Result<(), Cut>
+    requires { AllByRecursion (IsHopRowOf net.now) (map pure_hop_row hops.now) }
+    ensures { PutsText (K.holds out.old) (hop_rows_text net.now (map pure_hop_row hops.now)) result (K.holds out.new) }
+{
+    let mut room = room_for_lines(alloc)?;
+    for hop in hops {
+        push_hop_row_line(&mut room, net, hop)?;
+        put_room(out, &mut room)?;
+    }
+    Ok(())
 }
 
 // Puts the number of a phase, where it isn't the first.

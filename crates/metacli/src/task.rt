@@ -2,7 +2,7 @@
 ghost use Rattle.std.specs.Prelude.{◌≡◌};
 ghost use Rattle.command_words.specs.declared.command.Command.TheVariants.{Check, Code};
 ghost use Rattle.metacli.specs.Tasks.{task_of};
-ghost use Rattle.metacli.specs.declared.task.NetworkTask.TheVariants.{Flood, Route, Run};
+ghost use Rattle.metacli.specs.declared.task.NetworkTask.TheVariants.{Distance, Flood, Route, Run};
 ghost use Rattle.metacli.specs.declared.task.Task.TheVariants.{On};
 
 use crate::routing::Solution;
@@ -74,6 +74,11 @@ pub enum NetworkTask {
         workers: u32,
         turns: u64,
     },
+    /// The values and next hops of distance-vector nodes, run by so many workers with so many turns.
+    Distance {
+        workers: u32,
+        turns: u64,
+    },
 }
 
 /// What the command asks for.
@@ -104,6 +109,12 @@ pub fn task_of(command: Command) -> Task
             workers,
             turns,
         } => flood_task(file, net, workers, turns),
+        Command::Distance {
+            file,
+            net,
+            workers,
+            turns,
+        } => distance_task(file, net, workers, turns),
         Command::Verify { file, net, report } => Task::Judge { file, net, report },
         Command::Hops { file, net } => Task::On {
             file,
@@ -181,5 +192,15 @@ fn flood_task(file: usize, net: usize, workers: u32, turns: u64) -> Task
         file,
         net,
         task: NetworkTask::Flood { workers, turns },
+    }
+}
+
+fn distance_task(file: usize, net: usize, workers: u32, turns: u64) -> Task
+    ensures { result ≡ On file net (Distance workers turns) }
+{
+    Task::On {
+        file,
+        net,
+        task: NetworkTask::Distance { workers, turns },
     }
 }

@@ -11,6 +11,7 @@ ghost use Rattle.metacli.specs.Views.{CanBeWritten, pure_outcome};
 
 use crate::checking::{check, check_network};
 use crate::coding::{code, code_network};
+use crate::exchanging::distance;
 use crate::flooding::flood;
 use crate::generating::demo;
 use crate::hopping::hops;
@@ -214,5 +215,8 @@ fn on_network<R: AllocGlobal + Threads + Wait + Sync, G: Gate>(
             is_traced,
         } => run(rt, alg, file, workers, turns, is_traced, gate),
         NetworkTask::Flood { workers, turns } => flood(rt, alg, file, workers, turns, gate),
+        NetworkTask::Distance { workers, turns } => {
+            distance(rt, alg, file, workers, turns, gate)
+        }
     }
 }

@@ -29,7 +29,7 @@ use crate::after::last_of;
 use crate::outcome::{
     Checked, Coded, Judged, Outcome, Ran, Routed, Shown, Stop, Wedged, checked_answer, end_answer,
 };
-use crate::phases::{put_flood, put_phases};
+use crate::phases::{put_exchange, put_flood, put_phases};
 use crate::putting::{Cut, answered, put_line, put_room, room_for_lines};
 use crate::routing::Solution;
 use crate::summing::put_summary;
@@ -75,6 +75,10 @@ pub fn write<K: Sink>(alloc: Global, out: &mut K, outcome: &Outcome) -> Answer
         Outcome::Ran(it) => answered(put_run(alloc, out, it), end_answer(it.run.is_quiet)),
         Outcome::Flooded(it) => {
             let put = put_flood(alloc, out, &it.file.net, &it.run);
+            answered(put, end_answer(it.run.is_quiet))
+        }
+        Outcome::Exchanged(it) => {
+            let put = put_exchange(alloc, out, &it.file.net, &it.run);
             answered(put, end_answer(it.run.is_quiet))
         }
         Outcome::Shown(it) => answered(put_shown(alloc, out, it), Answer::Done),

@@ -26,7 +26,7 @@ const BOTH_WAYS_FLOOD: &[u8] = b"a x 3 a b\nb x 0 b\nquiet 4\n";
 const BOTH_WAYS_FEWER: &[u8] = b"a x 3 a b\nb x 0 b\nspent 3\n";
 
 // Two parts, of which neither hears of the other.
-const PARTS: &[u8] =
+pub(crate) const PARTS: &[u8] =
     b"node a b c d\nboth a b : 1\nboth c d : 2\norigin x at b : 0\norigin y at d : 0\n";
 
 const PARTS_FLOOD: &[u8] = b"a x 1 a b
@@ -65,7 +65,7 @@ quiet 3
 // Turns, an expression and a network, and what is printed.
 type Case = (&'static str, &'static [u8], &'static [u8], &'static [u8]);
 
-const ONE_NODE: &[u8] = b"node a\norigin x at a : 0\n";
+pub(crate) const ONE_NODE: &[u8] = b"node a\norigin x at a : 0\n";
 
 // Turns enough, for any number of workers.
 const QUIET: &[Case] = &[

@@ -8,6 +8,8 @@ mod codes;
 #[cfg(test)]
 mod demos;
 #[cfg(test)]
+mod distance;
+#[cfg(test)]
 mod floods;
 #[cfg(test)]
 mod gadgets;

@@ -1,6 +1,7 @@
 pub mod Numbers
 pub mod VerdictTexts
 pub mod Refusals
+pub mod HopTexts
 pub mod JudgedTexts
 pub mod RunTexts
 pub mod SummaryTexts

@@ -4,6 +4,7 @@
 #![tactic(auto)]
 
 mod code;
+mod hop_rows;
 mod judged;
 mod refusals;
 mod rows;
@@ -13,6 +14,7 @@ mod tables;
 mod verdicts;
 
 pub use code::{Operation, arc_line, code_lines, operation_line, order_line};
+pub use hop_rows::push_hop_row_line;
 pub use judged::{hops_line, judgement_lines, push_hops_line};
 pub use refusals::{Refusal, misses_line, refusal_line};
 pub use rows::{push_row_line, row_line};
