@@ -76,7 +76,8 @@ class Tokens:
         self.at = SKIPPED.match(self.data, self.next_at).end()
         found = TOKEN.match(self.data, self.at)
         if found:
-            self.kind, self.text, self.next_at = ('word', 'number', 'mark')[found.lastindex - 1], found.group(), found.end()
+            self.kind = ('word', 'number', 'mark')[found.lastindex - 1]
+            self.text, self.next_at = found.group(), found.end()
         else:
             self.kind, self.text = ('bad' if self.at < len(self.data) else 'end'), b''
 

@@ -8,9 +8,9 @@ from rough.drawn import expression_text, network_text
 
 # The commands that take FILE alone, and those that take FILE and NET, with flags that keep runs short.
 ALONE = (('check',), ('check',), ('code',), ('gadget',))
-WITH_NET = (('check',), ('check',), ('check',), ('code',), ('hops',), ('stable',), ('settle',), ('route', '--workers', '1'),
-            ('run', '--workers', '1', '--turns', '300'), ('trace', '--workers', '2', '--turns', '200'),
-            ('flood', '--workers', '1', '--turns', '300'))
+WITH_NET = (('check',), ('check',), ('check',), ('code',), ('hops',), ('stable',), ('settle',),
+            ('route', '--workers', '1'), ('run', '--workers', '1', '--turns', '300'),
+            ('trace', '--workers', '2', '--turns', '200'), ('flood', '--workers', '1', '--turns', '300'))
 EACH_BYTE = (b'{', b' ', b'7')
 KINDS = ('expression', 'network', 'report', 'words')
 # The names of the files in the folder that the runs read.
@@ -66,7 +66,8 @@ class Corpus:
         for policy in policies:
             tree, profile, line = expressions.judge(policy)
             for _ in range(0 if line else 2):
-                net = network_text(draw, tree, draw.randint(1, 6), draw.randint(0, 9), draw.randint(0, 2), draw.randint(0, 3))
+                counts = (draw.randint(low, high) for low, high in ((1, 6), (0, 9), (0, 2), (0, 3)))
+                net = network_text(draw, tree, *counts)
                 self.pairs.append((policy, net.encode()))
         self.policies, self.nets = policies, [net for _, net in self.pairs]
 
@@ -87,7 +88,8 @@ def drawn_word(draw):
                '18446744073709551616', '0' * 19 + '2', '0' * 20 + '2', '-1', '+1', '1e3', ' 1', '')
     lists = ('strict', 'monotone,total', 'total,total', 'strict,', ',', 'Strict', 'cancellative,isotone,strict')
     names = ('FILE', 'FILE', 'NET', 'NET', 'REPORT', 'nowhere', 'é', b'\xff', 'x' * 300, 'FILE\n')
-    return draw.choice(draw.choice((flags, flags, numbers, lists, names, names, (*plain_words.COMMANDS, 'Check', 'help'))))
+    commands = (*plain_words.COMMANDS, 'Check', 'help')
+    return draw.choice(draw.choice((flags, flags, numbers, lists, names, names, commands)))
 
 
 def words_case(draw):

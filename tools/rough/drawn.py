@@ -100,8 +100,8 @@ def network_text(draw, tree, nodes, arcs, dests=1, changes=0):
 def deep_expression(draw, count):
     """The text of a drawn expression of about so many nodes, with what `plus` needs where it has that."""
     if count <= 1:
-        return draw.choice(('add(1..9)', 'add(0..3)', 'cap(15; 1..3)', 'worst(9; 0..9)', 'width(9; 0..9)', 'lp(3)', 'op(2)',
-                            'seq(3)', 'simseq(4)', 'tags(4)', 'guard(4)', 'gate',
+        return draw.choice(('add(1..9)', 'add(0..3)', 'cap(15; 1..3)', 'worst(9; 0..9)', 'width(9; 0..9)', 'lp(3)',
+                            'op(2)', 'seq(3)', 'simseq(4)', 'tags(4)', 'guard(4)', 'gate',
                             'table { a < b = c; R: a -> b, c -> none; S: none }'))
     kind = draw.choice(('lex', 'lex', 'scoped', 'union', 'sum', 'plus', 'left', 'right'))
     if kind in ('left', 'right'):

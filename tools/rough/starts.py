@@ -38,7 +38,8 @@ class Started:
     """What a run gave: its status as a shell has it, seconds of a processor, kilobytes, and what it wrote."""
 
     def __init__(self, code, seconds, kilobytes, text, said):
-        self.status, self.seconds, self.kilobytes, self.text, self.said = status_of(code), seconds, kilobytes, text, said
+        self.status, self.seconds, self.kilobytes = status_of(code), seconds, kilobytes
+        self.text, self.said = text, said
         # Whether it was stopped as too slow, and how many requests for memory it made, where that is known.
         self.is_stopped, self.requests = False, None
 
@@ -118,8 +119,8 @@ class Starts:
     def run(self, words):
         """Runs it with these words, and stops it after the seconds that a run may take."""
         flags = os.O_WRONLY | os.O_CREAT | os.O_TRUNC
-        actions = [(os.POSIX_SPAWN_OPEN, 0, os.devnull, os.O_RDONLY, 0), (os.POSIX_SPAWN_OPEN, 1, self.out, flags, 0o600),
-                   (os.POSIX_SPAWN_OPEN, 2, self.error, flags, 0o600)]
+        opened = ((0, os.devnull, os.O_RDONLY), (1, self.out, flags), (2, self.error, flags))
+        actions = [(os.POSIX_SPAWN_OPEN, *it, 0o600) for it in opened]
         self.is_stopped = False
         self.child = os.posix_spawn(self.program, [self.program, *words], self.environment, file_actions=actions)
         signal.alarm(self.seconds)

@@ -28,9 +28,11 @@ EXPRESSIONS = (
 LABELS = (
     ('lex(add(1..2), lp(3))', b' ( 1 ,3 ) ', True), ('lex(add(1..2), lp(3))', b'(3,3)', False),
     ('seq(3)', b'2', True), ('tags(4)', b'+ 3', True), ('tags(4)', b'+4', False), ('guard(4)', b'!0', True),
-    ('gate', b'deny', True), ('sum(add(1..1), gate)', b'(1|allow)', True), ('sum(add(1..1), gate)', b'(1,allow)', False),
+    ('gate', b'deny', True), ('sum(add(1..1), gate)', b'(1|allow)', True),
+    ('sum(add(1..1), gate)', b'(1,allow)', False),
     ('plus(tags(4), guard(4))', b'r:?2', True), ('scoped(add(1..1), seq(3))', b'out(1,[0,2])', True),
-    ('scoped(add(1..1), seq(3))', b'in(2)', True), ('left(tags(9))', b'{8,0}', True), ('left(tags(9))', b'{8,8}', False),
+    ('scoped(add(1..1), seq(3))', b'in(2)', True), ('left(tags(9))', b'{8,0}', True),
+    ('left(tags(9))', b'{8,8}', False),
     ('right(gate)', b'keep', True), ('right(gate)', b'', False), ('add(0..9)', b'0000000000000000000000007', True),
 )
 NETWORKS = (
@@ -53,10 +55,10 @@ REPORTS = (
     (b'a x 664613997892457936451903530140172289 a\nb x 0 b', 'V4 at line 1'), (b'', 'V5 at line 1'),
 )
 WORDS = (
-    ('', 'C1'), ('Check f', 'C2'), ('check f --workers 2', 'C5'), ('route f n --workers=4', 'C5'), ('route f n --', 'C5'),
-    ('route f n --workers 2 --workers 3', 'C5'), ('route f n --require strict', 'C5'), ('route f n --workers', 'C3'),
-    ('route f', 'C3'), ('check a b c', 'C3'), ('verify f n', 'C3'), ('run f n --turns 1000001', 'C4'),
-    ('route f n --workers 17', 'C4'), ('demo 1 1', 'C4'), ('route f --workers --workers n', 'C4'),
+    ('', 'C1'), ('Check f', 'C2'), ('check f --workers 2', 'C5'), ('route f n --workers=4', 'C5'),
+    ('route f n --', 'C5'), ('route f n --workers 2 --workers 3', 'C5'), ('route f n --require strict', 'C5'),
+    ('route f n --workers', 'C3'), ('route f', 'C3'), ('check a b c', 'C3'), ('verify f n', 'C3'),
+    ('run f n --turns 1000001', 'C4'), ('route f n --workers 17', 'C4'), ('demo 1 1', 'C4'), ('route f --workers --workers n', 'C4'),
     ('check f --require safe', 'C6'), ('check f --require strict,', 'C6'), ('check f --require total,total', 'C6'),
     ('check --require strict f', ''), ('demo 18446744073709551615 512', ''), ('demo 18446744073709551616 512', 'C4'),
 )

@@ -39,10 +39,12 @@ class Words(Folder):
 class Texts(unittest.TestCase):
     """Changed and drawn texts."""
 
+    def drawings(self):
+        return [changes.changed(random.Random(seed), POLICY, [POLICY]) for seed in range(40)]
+
     def test_drawings_repeat(self):
-        for _ in range(2):
-            one, other = ([changes.changed(random.Random(seed), POLICY, [POLICY]) for seed in range(40)] for _ in range(2))
-            self.assertEqual(one, other)
+        one, other = self.drawings(), self.drawings()
+        self.assertEqual(one, other)
         self.assertGreater(len(set(one)), 30)
 
     def test_each_way_changes(self):
@@ -75,8 +77,9 @@ class Fuzz(Folder):
         return path
 
     def test_wrong_programs(self):
-        for lines, said in (((f'printf "{VERDICTS}"',), 'refusal'), (('echo "expression refused: X1 at 1:1"', 'exit 2'), 'refused'),
-                            (('exit 3',), 'form'), (('echo yes',), 'form'), (('echo no >&2',), 'standard error'),
+        for lines, said in (((f'printf "{VERDICTS}"',), 'refusal'),
+                            (('echo "expression refused: X1 at 1:1"', 'exit 2'), 'refused'), (('exit 3',), 'form'),
+                            (('echo yes',), 'form'), (('echo no >&2',), 'standard error'),
                             (('kill -11 $$',), 'status 139')):
             status, out, err = tool('fuzz', '--count', '20', '--kind', 'expression', '--program', self.program(*lines))
             self.assertEqual((status, err), (1, ''), lines)
