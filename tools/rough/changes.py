@@ -8,10 +8,11 @@ NUMBERS = (b'0', b'00', b'1', b'2', b'63', b'64', b'65', b'255', b'256', b'1023'
            b'4294967296', b'18446744073709551615', b'18446744073709551616', b'664613997892457936451903530140172288',
            b'664613997892457936451903530140172289', b'9' * 25, b'1' * 300, b'0' * 40 + b'7')
 WORDS = (b'raml', b'let', b'main', b'none', b'add', b'cap', b'worst', b'width', b'lp', b'op', b'seq', b'simseq',
-         b'tags', b'guard', b'gate', b'table', b'lex', b'scoped', b'union', b'sum', b'plus', b'left', b'right', b'node',
-         b'link', b'both', b'origin', b'then', b'then link', b'then drop', b'at', b'a', b'b', b'x', b'keep', b'unit',
-         b'allow', b'deny', b'l:', b'r:', b'out(', b'in(', b'quiet', b'spent', b'quiet 1', b'..', b'->', b'{', b'}', b'(', b')',
-         b'[', b']', b',', b';', b':', b'|', b'=', b'<', b'#', b' : ', b'\r\n', b'raml 2;', b'a x none', b'\n\n')
+         b'tags', b'guard', b'gate', b'table', b'lex', b'scoped', b'union', b'sum', b'plus', b'left', b'right',
+         b'node', b'link', b'both', b'origin', b'then', b'then link', b'then drop', b'at', b'a', b'b', b'x',
+         b'keep', b'unit', b'allow', b'deny', b'l:', b'r:', b'out(', b'in(', b'quiet', b'spent', b'quiet 1', b'..',
+         b'->', b'{', b'}', b'(', b')', b'[', b']', b',', b';', b':', b'|', b'=', b'<', b'#', b' : ', b'\r\n',
+         b'raml 2;', b'a x none', b'\n\n')
 # Changed texts are cut to this length.
 MOST_BYTES = 200_000
 

@@ -58,9 +58,10 @@ WORDS = (
     ('', 'C1'), ('Check f', 'C2'), ('check f --workers 2', 'C5'), ('route f n --workers=4', 'C5'),
     ('route f n --', 'C5'), ('route f n --workers 2 --workers 3', 'C5'), ('route f n --require strict', 'C5'),
     ('route f n --workers', 'C3'), ('route f', 'C3'), ('check a b c', 'C3'), ('verify f n', 'C3'),
-    ('run f n --turns 1000001', 'C4'), ('route f n --workers 17', 'C4'), ('demo 1 1', 'C4'), ('route f --workers --workers n', 'C4'),
-    ('check f --require safe', 'C6'), ('check f --require strict,', 'C6'), ('check f --require total,total', 'C6'),
-    ('check --require strict f', ''), ('demo 18446744073709551615 512', ''), ('demo 18446744073709551616 512', 'C4'),
+    ('run f n --turns 1000001', 'C4'), ('route f n --workers 17', 'C4'), ('demo 1 1', 'C4'),
+    ('route f --workers --workers n', 'C4'), ('check f --require safe', 'C6'), ('check f --require strict,', 'C6'),
+    ('check f --require total,total', 'C6'), ('check --require strict f', ''), ('demo 18446744073709551615 512', ''),
+    ('demo 18446744073709551616 512', 'C4'),
 )
 POLICY, NET = b'main add(1..10);', b'node a b\nlink a b : 1\norigin x at b : 0\n'
 
