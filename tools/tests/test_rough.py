@@ -12,6 +12,7 @@ sys.path.insert(0, os.path.join(TOP, 'tools'))
 
 from plain import expressions
 from rough import changes, drawn
+from rough.cases import Case
 
 TOOLS = ('fuzz', 'refused_memory', 'rough_use', 'load')
 POLICY = b'main lex(table { a < b; R: a -> b }, tags(3));\n'
@@ -76,19 +77,44 @@ class Fuzz(Folder):
         os.chmod(path, stat.S_IRWXU)
         return path
 
-    def test_wrong_programs(self):
-        for lines, said in (((f'printf "{VERDICTS}"',), 'refusal'),
-                            (('echo "expression refused: X1 at 1:1"', 'exit 2'), 'refused'), (('exit 3',), 'form'),
-                            (('echo yes',), 'form'), (('echo no >&2',), 'standard error'),
-                            (('kill -11 $$',), 'status 139')):
-            status, out, err = tool('fuzz', '--count', '20', '--kind', 'expression', '--program', self.program(*lines))
-            self.assertEqual((status, err), (1, ''), lines)
-            self.assertIn(f'of expression: {said}', out)
+    def fault(self, line, status, text, said=b'', seconds=0.0, is_stopped=False, words=('check',)):
+        """What fuzz says is wrong with such an answer on a policy that the plain reader refuses with this line."""
+        class Ran:
+            pass
+        ran = Ran()
+        ran.status, ran.text, ran.said, ran.seconds, ran.is_stopped = status, text.encode(), said, seconds, is_stopped
+        kind = 'expression' if words == ('check',) else 'words'
+        found = loaded('fuzz').fault_of(Case(kind, words, [b'main gate;'], line), ran)
+        return found.split(':')[0]
+
+    def test_what_is_wrong(self):
+        self.assertEqual(self.fault('', 0, VERDICTS), '')
+        for status, text in ((1, VERDICTS), (2, 'expression refused: X1 at 1:1\n'),
+                             (5, 'read fault on the expression\n'), (8, 'too long: the expression\n')):
+            self.assertEqual(self.fault('', status, text), 'refused', text)
+        for status, text in ((3, VERDICTS), (0, ''), (0, VERDICTS * 2), (0, VERDICTS[:-1]), (0, 'yes\n'),
+                             (4, 'quiet 1\n')):
+            self.assertEqual(self.fault('', status, text), 'form', text)
+        for status in (6, 7, 70, 134, 139):
+            self.assertEqual(self.fault('', status, ''), f'status {status}')
+        self.assertEqual(self.fault('', 0, VERDICTS, said=b'!'), 'standard error')
+        self.assertEqual(self.fault('', 0, VERDICTS, seconds=3), 'slow')
+        self.assertEqual(self.fault('', 0, VERDICTS, is_stopped=True), 'no answer in time')
+
+    def test_what_is_wrong_with_a_refusal(self):
+        line = 'expression refused: X2 at 1:6'
+        self.assertEqual(self.fault(line, 2, line + '\n'), '')
+        for status, text in ((0, VERDICTS), (2, line), (2, 'expression refused: X2 at 1:7\n'), (2, ''),
+                             (3, line + '\n')):
+            self.assertEqual(self.fault(line, status, text), 'refusal', text)
+        self.assertEqual(self.fault('', 5, 'read fault on the expression\n', words=('check', b'nowhere')), '')
+        self.assertEqual(self.fault('', 1, 'words refused: C3\n', words=('check', b'FILE')), 'refused')
 
     def test_the_smallest_case(self):
         keep = os.path.join(self.folder, 'kept')
-        program = self.program(f'case $(cat "$2") in *"#"*) echo boo;; *) printf "{VERDICTS}";; esac')
-        tool('fuzz', '--count', '30', '--kind', 'expression', '--keep', keep, '--program', program)
+        status, out, _ = tool('fuzz', '--count', '3', '--kind', 'expression', '--keep', keep, '--program',
+                              self.program('exit 9'))
+        self.assertEqual((status, ': status 9: plain' in out, '3 inputs, 3 wrong' in out), (1, True, True), out)
         sizes = [os.path.getsize(os.path.join(keep, name)) for name in os.listdir(keep)]
         self.assertLess(min(sizes), 20)
 
