@@ -151,9 +151,9 @@ class Memory(unittest.TestCase):
     def test_outcomes(self):
         self.assertEqual(self.outcome(7, b'out of memory\n'), 'said')
         self.assertEqual(self.outcome(7, b''), 'nothing')
-        self.assertEqual(self.outcome(7, b'a x 1 a'), 'front')
+        self.assertEqual(self.outcome(7, b'a x 1 a b\n'), 'front')
         self.assertEqual(self.outcome(0, b'a x 1 a b\nquiet 3\n'), 'unchanged')
-        for status, text in ((7, b'a x 2'), (7, b'out of mem'), (0, b''), (0, b'a x 1 a b\n'), (134, b''), (5, b'')):
+        for status, text in ((7, b'a x 1 a'), (7, b'a x 2 a b\n'), (7, b'out of mem'), (0, b''), (0, b'a x 1 a b\n'), (134, b''), (5, b'')):
             self.assertEqual(self.outcome(status, text), 'wrong', (status, text))
         self.assertEqual(self.outcome(7, b'out of memory\n', was_refused=False), 'wrong')
         self.assertEqual(self.outcome(7, b'', said=b'!'), 'wrong')
@@ -161,7 +161,8 @@ class Memory(unittest.TestCase):
     def test_runs_that_differ(self):
         self.assertEqual(self.outcome(0, b'a x 1 a b\nquiet 4\n', is_fixed=False), 'unchanged')
         self.assertEqual(self.outcome(0, b'a x 1 a b\nquiet 4\n'), 'wrong')
-        self.assertEqual(self.outcome(7, b'a x 1 a b\nqui', is_fixed=False), 'front')
+        self.assertEqual(self.outcome(7, b'a x 1 a b\nquiet 9\n', is_fixed=False), 'front')
+        self.assertEqual(self.outcome(7, b'a x 1 a b\nqui', is_fixed=False), 'wrong')
 
     def test_numbers(self):
         self.assertEqual(list(self.tool.numbers_up_to(5, 10)), [1, 2, 3, 4, 5])
