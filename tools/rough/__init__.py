@@ -1,0 +1,1 @@
+"""What the tools that use the program roughly share: cheap runs, changed texts, drawn networks."""
