@@ -1,4 +1,6 @@
 ghost use Rattle.std.specs.Prelude.{◌≡◌, IfOk, map};
+ghost use Rattle.node_runs.specs.Runs.{HaveRun};
+ghost use Rattle.distance_node.specs.Node.{distance};
 ghost use Rattle.distance_node.specs.Nodes.{state_of};
 ghost use Rattle.distance_node.specs.Rows.{HopRows, pure_hop_row};
 
@@ -40,7 +42,11 @@ impl<'a, A: Algebra, M: Mark<A>> Finder for HopFinder<'a, A, M> {
         alloc: Global,
         _net: &Net,
         nodes: &[DvNode<'a, A, M>],
-    ) -> Result<List<HopRow>, NoMemory> {
+    ) -> Result<List<HopRow>, NoMemory>
+        requires fits { Unit {0} }
+        requires run { HaveRun distance _net.now (map state_of nodes.now) }
+        ensures { IfOk result (λ hops. map pure_hop_row hops ≡ HopRows _net.now (map state_of nodes.now)) }
+    {
         hop_rows(alloc, nodes)
     }
 }
