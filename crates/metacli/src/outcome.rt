@@ -15,7 +15,7 @@ use alg_classes::Property;
 use alg_model::Alg;
 use code_gen::Listing;
 use flood_runs::FloodRun;
-use meta_base::{Delivery, List, NoMemory, Which};
+use meta_base::{List, NoMemory, Which};
 use net_facts::Missing;
 use net_graph::{DestTable, Net, RouteRow};
 use property_infer::{Verdict, Verdicts};
@@ -24,7 +24,7 @@ use report_check::{Judgement, ManyHops, ReportFault};
 use report_text::Refusal;
 use std::alloc::Global;
 use topology_file::{NetFault, NetFile};
-use vector_runs::{Phase, PhasedRun};
+use vector_runs::{Journal, Phase, PhasedRun};
 
 /// Why a command isn't carried out.
 #[derive(Clone, Copy, Debug)]
@@ -443,7 +443,7 @@ pub struct Made {
     judgement: Option<Judgement>,
     many: List<ManyHops>,
     rows: List<RouteRow>,
-    journal: List<Delivery>,
+    journal: Journal,
     past: List<Phase>,
 }
 
@@ -472,7 +472,7 @@ impl Made {
             judgement: None,
             many: List::new(alloc),
             rows: List::new(alloc),
-            journal: List::new(alloc),
+            journal: Journal::new(alloc),
             past: List::new(alloc),
         }
     }
