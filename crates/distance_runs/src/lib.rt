@@ -11,4 +11,4 @@ pub use laws::{
     distance_rows_are_the_networks, quiet_hops_lead_along_best_walks, quiet_values_are_link_states,
 };
 pub use run::{DistanceRun, run_distance};
-pub use weave::Budget;
+pub use weave::{Budget, Journal};

@@ -9,13 +9,13 @@ ghost use Rattle.distance_runs.specs.Runs.{IsDistanceRun};
 use alg_model::Algebra;
 use arc_labels::{NeighbourLabels, label_forms, speaker_labels};
 use distance_node::{HopRow, Mark, hop_rows, new_nodes};
-use meta_base::{Delivery, Gate, List, NoMemory};
+use meta_base::{Gate, List, NoMemory};
 use net_graph::Net;
 use std::alloc::Global;
 use std::marker::Brand;
 use std::sync::Wait;
 use std::thread::Threads;
-use weave::{Budget, WeaveEnd, weave};
+use weave::{Budget, Journal, WeaveEnd, weave};
 
 /// What a run of distance-vector nodes came to.
 #[derive(Debug, Drop)]
@@ -23,7 +23,7 @@ pub struct DistanceRun {
     /// The rows of the nodes at its end, with their next hops, by destination, then node.
     pub hops: List<HopRow>,
     /// Its deliveries, by clock, then by listener.
-    pub journal: List<Delivery>,
+    pub journal: Journal,
     /// Nothing was on its way at the end.
     pub is_quiet: bool,
 }
