@@ -55,7 +55,7 @@ def blocks_of(lines):
 def contract_of(block):
     """The lines of a function before its body."""
     ends = [at for at, (_, line) in enumerate(block) if line == '{' or line.endswith(' {')]
-    return block[:ends[0]] if ends else block
+    return block[:max(ends[0], 1)] if ends else block
 
 
 class Code:

@@ -27,6 +27,10 @@ pub struct Ended {
     pub net: Option<Net>,
     pub count: u32,
 }
+
+fn nothing() -> u32 {
+    0
+}
 ''',
     'crates/metacli/specs/Runs.antt': '''-- What a run does.
 use Rattle.std.specs.Prelude.{◌≡◌, ℕ}

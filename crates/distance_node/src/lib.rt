@@ -9,10 +9,10 @@ mod answering;
 mod beginning;
 mod choosing;
 mod chosen;
+mod fresh;
 mod laws;
 mod mark;
 mod node;
-mod nodes;
 mod own;
 mod rows;
 mod settling;
@@ -20,12 +20,12 @@ mod site;
 mod telling;
 mod vector;
 
+pub use fresh::new_nodes;
 pub use laws::{
     drained_rows_are_choices, next_hops_lead_along_best_walks, quiet_values_are_link_states,
     quiet_values_are_optimal, runs_are_coherent,
 };
 pub use mark::Mark;
 pub use node::DvNode;
-pub use nodes::new_nodes;
 pub use rows::{HopRow, hop_rows};
 pub use vector::Vector;

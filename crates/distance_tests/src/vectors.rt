@@ -267,11 +267,17 @@ fn comes_to<A: Algebra, M: Mark<A>>(
     are_hops(alloc, net, rows.as_slice(), case.4)
 }
 
+// The same over an algebra that is the network's.
+fn comes_over<A: Algebra>(alloc: Global, algebra: &A, net: &Net, case: &Case) -> Result<bool, Fail>
+    requires { A.expression algebra.now ≡ net.now.alg.expression }
+{
+    let forms = label_forms(alloc, algebra, net)?;
+    let labels = speaker_labels(alloc, algebra, net, &forms)?;
+    comes_to::<A, Brand>(alloc, algebra, net, &labels, case)
+}
+
 fn comes_on(alloc: Global, net: &Net, case: &Case) -> Result<bool, Fail> {
-    let algebra = TreeAlgebra::new(net.alg());
-    let forms = label_forms(alloc, &algebra, net)?;
-    let labels = speaker_labels(alloc, &algebra, net, &forms)?;
-    comes_to::<TreeAlgebra<'_>, Brand>(alloc, &algebra, net, &labels, case)
+    comes_over(alloc, &TreeAlgebra::new(net.alg()), net, case)
 }
 
 fn comes_so(alloc: Global, case: &Case) -> Result<bool, Fail> {

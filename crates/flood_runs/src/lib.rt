@@ -10,5 +10,5 @@ mod run;
 pub use laws::{
     flood_rows_are_the_networks, floods_are_spent_exactly, quiet_floods_are_link_states,
 };
-pub use node_runs::Budget;
+pub use node_runs::{Budget, Journal};
 pub use run::{FloodRun, new_nodes, run_flood};

@@ -7,9 +7,9 @@ ghost use Rattle.flood_runs.specs.Floods.{IsFloodRun, new_nodes};
 use crate::finder::FloodFinder;
 use alg_model::Algebra;
 use flood_node::FloodNode;
-use meta_base::{Delivery, Gate, List, NoMemory, NodeId};
+use meta_base::{Gate, List, NoMemory, NodeId};
 use net_graph::{Net, RouteRow};
-use node_runs::{Budget, Ran, run_once};
+use node_runs::{Budget, Journal, Ran, run_once};
 use std::alloc::Global;
 use std::sync::Wait;
 use std::thread::Threads;
@@ -20,7 +20,7 @@ pub struct FloodRun {
     /// The rows that the nodes compute at its end, by destination, then node.
     pub rows: List<RouteRow>,
     /// Its deliveries, by clock, then by listener.
-    pub journal: List<Delivery>,
+    pub journal: Journal,
     /// Nothing was on its way at the end.
     pub is_quiet: bool,
 }

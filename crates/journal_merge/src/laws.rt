@@ -23,3 +23,9 @@ pub fn receipts_follow_sendings()
         → slice_get journal p ≡ Some sending → slice_get journal q ≡ Some receipt
         → sending.clock ≡ stamp → stamp < receipt.clock → p < q }
 {}
+
+/// Logs have one journal at most.
+pub fn logs_have_one_journal()
+    ensures { (logs : List NodeLog) (journal other : List Delivery) → IsMerged logs journal → IsMerged logs other
+        → journal ≡ other }
+{}

@@ -6,13 +6,13 @@ use alg_classes::{Instance, Property};
 use alg_model::Alg;
 use code_gen::Listing;
 use distance_runs::HopRow;
-use meta_base::{ArcId, Delivery, List, Which};
+use meta_base::{ArcId, List, Which};
 use net_graph::{Change, DestTable, Net, RouteRow};
 use property_infer::{Verdict, Verdicts};
 use raml_syntax::ExprFault;
 use report_check::{Judgement, ManyHops, ReportFault};
 use topology_file::NetFault;
-use vector_runs::Phase;
+use vector_runs::{Journal, Phase};
 
 /// How a run ended.
 #[derive(Debug, Drop)]
@@ -78,7 +78,7 @@ pub struct Ended {
     pub hops: List<HopRow>,
     /// The deliveries of the last phase, where `run` or `trace` was carried out, or of the run of nodes, where `flood` or
     /// `distance` was: by clock, then by listener.
-    pub journal: List<Delivery>,
+    pub journal: Journal,
     /// The phases before the last, where `run` or `trace` was carried out.
     pub past: List<Phase>,
     /// The answer before anything was written.

@@ -16,7 +16,7 @@ use alg_model::Alg;
 use code_gen::Listing;
 use distance_runs::{DistanceRun, HopRow};
 use flood_runs::FloodRun;
-use meta_base::{Delivery, List, NoMemory, Which};
+use meta_base::{List, NoMemory, Which};
 use net_facts::Missing;
 use net_graph::{DestTable, Net, RouteRow};
 use property_infer::{Verdict, Verdicts};
@@ -25,7 +25,7 @@ use report_check::{Judgement, ManyHops, ReportFault};
 use report_text::Refusal;
 use std::alloc::Global;
 use topology_file::{NetFault, NetFile};
-use vector_runs::{Phase, PhasedRun};
+use vector_runs::{Journal, Phase, PhasedRun};
 
 /// Why a command isn't carried out.
 #[derive(Clone, Copy, Debug)]
@@ -477,7 +477,7 @@ pub struct Made {
     many: List<ManyHops>,
     rows: List<RouteRow>,
     hops: List<HopRow>,
-    journal: List<Delivery>,
+    journal: Journal,
     past: List<Phase>,
 }
 
@@ -508,7 +508,7 @@ impl Made {
             many: List::new(alloc),
             rows: List::new(alloc),
             hops: List::new(alloc),
-            journal: List::new(alloc),
+            journal: Journal::new(alloc),
             past: List::new(alloc),
         }
     }

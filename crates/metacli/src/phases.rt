@@ -16,7 +16,7 @@ use meta_base::{Delivery, Sink};
 use net_graph::Net;
 use report_text::{end_line, phase_line, push_delivery_line, push_hop_row_line};
 use std::alloc::Global;
-use vector_runs::Phase;
+use vector_runs::{Journal, Phase};
 
 /// Puts the phases of a run from one number on: these of the past, the first on this network and the others on the
 /// changed ones, and then the last.
@@ -67,11 +67,10 @@ fn put_phase<K: Sink>(
     ensures { PutsText (K.holds out.old) (phase_lines is_traced net.now number (pure_phase phase.now) is_quiet)
         result (K.holds out.new) }
 {
-    let journal = phase.journal.as_slice();
     put_number(alloc, out, number)?;
-    put_trace(alloc, out, net, is_traced, journal)?;
+    put_trace(alloc, out, net, is_traced, &phase.journal)?;
     put_rows(alloc, out, net, phase.rows.as_slice())?;
-    put_line(out, end_line(alloc, is_quiet, journal.len()))
+    put_line(out, end_line(alloc, is_quiet, phase.journal.len()))
 }
 
 /// Puts the rows of a flood on the network and its end.
@@ -86,7 +85,7 @@ pub(crate) fn put_flood<K: Sink>(
         (flood_text net.now (map pure_row run.now.rows) run.now.journal run.now.is_quiet) result (K.holds out.new) }
 {
     put_rows(alloc, out, net, run.rows.as_slice())?;
-    let made = run.journal.as_slice().len();
+    let made = run.journal.len();
     put_line(out, end_line(alloc, run.is_quiet, made))
 }
 
@@ -103,7 +102,7 @@ pub(crate) fn put_exchange<K: Sink>(
         (K.holds out.new) }
 {
     put_hop_rows(alloc, out, net, run.hops.as_slice())?;
-    let made = run.journal.as_slice().len();
+    let made = run.journal.len();
     put_line(out, end_line(alloc, run.is_quiet, made))
 }
 
@@ -136,7 +135,7 @@ fn put_trace<K: Sink>(
     out: &mut K,
     net: &Net,
     is_traced: bool,
-    journal: &[Delivery],
+    journal: &Journal,
 ) -> Result<(), Cut>
     requires { AllByRecursion (λ d. d.arc.0 < length net.now.arcs) journal.now }
     ensures { PutsText (K.holds out.old) (trace_text is_traced net.now journal.now) result (K.holds out.new) }
@@ -147,7 +146,16 @@ fn put_trace<K: Sink>(
     put_journal(alloc, out, net, journal)
 }
 
-fn put_journal<K: Sink>(
+// Puts the deliveries in the order of the journal, which is made for them alone.
+fn put_journal<K: Sink>(alloc: Global, out: &mut K, net: &Net, journal: &Journal) -> Result<(), Cut>
+    requires { AllByRecursion (λ d. d.arc.0 < length net.now.arcs) journal.now }
+    ensures { PutsText (K.holds out.old) (journal_text net.now journal.now) result (K.holds out.new) }
+{
+    let deliveries = journal.entries(alloc)?;
+    put_deliveries(alloc, out, net, deliveries.as_slice())
+}
+
+fn put_deliveries<K: Sink>(
     alloc: Global,
     out: &mut K,
     net: &Net,

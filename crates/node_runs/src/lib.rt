@@ -7,4 +7,4 @@ mod run;
 
 pub use finder::Finder;
 pub use run::{Ran, run_once};
-pub use weave::Budget;
+pub use weave::{Budget, Journal};

@@ -6,13 +6,13 @@ ghost use Rattle.quiet_ledger.specs.declared.book.TheConstants.{MAX_WORKERS};
 ghost use Rattle.node_runs.specs.Runs.{IsPhaseOf};
 
 use crate::finder::Finder;
-use meta_base::{Delivery, Gate, List, NoMemory};
+use meta_base::{Gate, List, NoMemory};
 use net_graph::Net;
 use node_core::{NodeCore, replays_run};
 use std::alloc::Global;
 use std::sync::Wait;
 use std::thread::Threads;
-use weave::{Budget, WeaveEnd, weave};
+use weave::{Budget, Journal, WeaveEnd, weave};
 
 /// A phase that ran.
 #[derive(Drop)]
@@ -20,7 +20,7 @@ pub struct Ran<F: Finder> {
     /// What its nodes came to.
     pub found: F::Found,
     /// Its deliveries, by clock, then by listener.
-    pub journal: List<Delivery>,
+    pub journal: Journal,
     /// Its nodes as they were in the end, in the order of the network.
     pub nodes: List<F::Node>,
     /// Nothing was on its way at the end.

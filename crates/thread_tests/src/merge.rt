@@ -2,7 +2,7 @@
 ghost use Rattle.std.specs.Prelude.{◌≡◌, IfOk};
 ghost use Rattle.journal_merge.specs.Merging.{ClocksAscend};
 
-use journal_merge::{NodeLog, merge};
+use journal_merge::{Journal, NodeLog};
 use meta_base::{ArcId, Delivery, List, NoMemory, NodeId};
 use std::alloc::Global;
 use std::test::Fail;
@@ -34,9 +34,11 @@ fn by_clock(rt: HostRuntime) -> Result<(), Fail> {
     let mut logs = List::new(rt.alloc());
     logs.push(log(rt.alloc(), 0, 2, 1)?)?;
     logs.push(log(rt.alloc(), 1, 1, 0)?)?;
-    let journal = merge(rt.alloc(), logs)?;
+    let journal = Journal::from_logs(logs)?;
+    let deliveries = journal.entries(rt.alloc())?;
+    assert_eq!(rt; journal.len(), 2);
     assert_eq!(rt;
-        journal.as_slice(),
+        deliveries.as_slice(),
         [delivery(1, 0), delivery(2, 1)].as_slice()
     );
     Ok(())
@@ -47,9 +49,11 @@ fn equal_clocks_by_node(rt: HostRuntime) -> Result<(), Fail> {
     let mut logs = List::new(rt.alloc());
     logs.push(log(rt.alloc(), 1, 3, 0)?)?;
     logs.push(log(rt.alloc(), 0, 3, 1)?)?;
-    let journal = merge(rt.alloc(), logs)?;
+    let journal = Journal::from_logs(logs)?;
+    let deliveries = journal.entries(rt.alloc())?;
+    assert_eq!(rt; journal.len(), 2);
     assert_eq!(rt;
-        journal.as_slice(),
+        deliveries.as_slice(),
         [delivery(3, 1), delivery(3, 0)].as_slice()
     );
     Ok(())
@@ -57,7 +61,10 @@ fn equal_clocks_by_node(rt: HostRuntime) -> Result<(), Fail> {
 
 #[test]
 fn no_logs(rt: HostRuntime) -> Result<(), Fail> {
-    let journal = merge(rt.alloc(), List::new(rt.alloc()))?;
-    assert!(rt; journal.as_slice().is_empty());
+    let none = Journal::from_logs(List::new(rt.alloc()))?;
+    assert!(rt; none.entries(rt.alloc())?.as_slice().is_empty());
+    let empty = Journal::new(rt.alloc());
+    assert!(rt; empty.entries(rt.alloc())?.as_slice().is_empty());
+    assert_eq!(rt; (none.len(), empty.len()), (0, 0));
     Ok(())
 }

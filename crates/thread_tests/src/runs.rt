@@ -55,7 +55,7 @@ where
     let rows = rows_of(alloc, nodes.as_slice())?;
     Ok(Ran {
         rows,
-        journal,
+        journal: journal.entries(alloc)?,
         totals,
         is_quiet: quiet,
     })

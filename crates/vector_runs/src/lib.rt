@@ -11,6 +11,6 @@ pub use laws::{
     enough_turns_are_quiet, phases_are_of_networks, quiet_phases_are_stable, runs_are_short,
     two_quiet_runs_end_alike,
 };
-pub use node_runs::Budget;
+pub use node_runs::{Budget, Journal};
 pub use nodes::carried_nodes;
 pub use run::{Phase, PhasedRun, run_phases};

@@ -6,9 +6,9 @@ ghost use Rattle.vector_runs.specs.Runs.{AreLater, IsRun, pure_phase};
 use crate::finder::VectorFinder;
 use crate::nodes::{carried_nodes, new_nodes};
 use alg_model::Algebra;
-use meta_base::{Delivery, Gate, List, NoMemory};
+use meta_base::{Gate, List, NoMemory};
 use net_graph::{Net, RouteRow};
-use node_runs::{Budget, Ran, run_once};
+use node_runs::{Budget, Journal, Ran, run_once};
 use std::alloc::Global;
 use std::sync::Wait;
 use std::thread::Threads;
@@ -19,7 +19,7 @@ pub struct Phase {
     /// The routes of the nodes at its end, by destination, then node.
     pub rows: List<RouteRow>,
     /// Its deliveries, by clock, then by listener.
-    pub journal: List<Delivery>,
+    pub journal: Journal,
 }
 
 /// What a run through phases came to.
@@ -71,7 +71,7 @@ where
         else {
             break;
         };
-        left.turns -= journal.as_slice().len() as u64;
+        left.turns -= journal.len() as u64;
         past.push(Phase { rows, journal })?;
         let nodes = carried_nodes(alloc, nodes, next)?;
         now = run_once(rt, alloc, &finder, next, nodes, left, gate)?;

@@ -20,4 +20,5 @@ mod seating;
 mod sending;
 mod worker;
 
+pub use journal_merge::Journal;
 pub use phase::{Budget, WeaveEnd, weave};

@@ -18,8 +18,8 @@ use crate::gathering::take_apart;
 use crate::lane::Lane;
 use crate::links::block_at;
 use crate::rounds::{Plan, run_round};
-use journal_merge::merge;
-use meta_base::{ArcId, Delivery, Gate, List, NoMemory};
+use journal_merge::Journal;
+use meta_base::{ArcId, Gate, List, NoMemory};
 use net_graph::Net;
 use node_core::{Config, NodeCore};
 use quiet_ledger::Totals;
@@ -43,7 +43,7 @@ pub struct WeaveEnd<N: NodeCore> {
     /// The nodes, in the order of the network.
     pub nodes: List<N>,
     /// The deliveries, by clock, and then by listener.
-    pub journal: List<Delivery>,
+    pub journal: Journal,
     /// How many messages were sent and taken.
     pub totals: Totals,
     /// Nothing was on its way at the end.
@@ -88,7 +88,7 @@ where
     let budget = Budget { workers, turns };
     let (blocks, totals) = run_rounds(rt, alloc, net, blocks, totals, budget, gate)?;
     let (nodes, logs) = take_apart(alloc, net, blocks)?;
-    let journal = merge(alloc, logs)?;
+    let journal = Journal::from_logs(logs)?;
     Ok(WeaveEnd {
         nodes,
         journal,

@@ -26,8 +26,7 @@ returns-in_err-put_trace g c =
     let p = err_from_is_err_and c.from_residual-in_err-put_trace.result c.from_residual-in_err-put_trace.ensures.1 in
     let numbered = lines_more _ _ _ text (number_text c.args.number) (trace ++ rest) (lines_begin (g.K.Sink.holds c.args.out.now) text) c.in_ok-put_number.ensures in
     let holds = g.K.Sink.holds in
-    let cut = subst (λ j. PutsText (holds c.put_number.new.out) (trace_text c.args.is_traced net j) (Err c.in_err-put_trace.field-0.0) (holds c.put_trace.new.out)) c.as_slice-journal.ensures c.in_err-put_trace.ensures in
-    rw (p.1, p.2) (cut_within _ _ _ text trace rest _ numbered cut)
+    rw (p.1, p.2) (cut_within _ _ _ text trace rest _ numbered c.in_err-put_trace.ensures)
 
 pub returns-in_err-put_rows : goal.returns-in_err-put_rows
 returns-in_err-put_rows g c =
@@ -39,7 +38,7 @@ returns-in_err-put_rows g c =
     let rest = rows_text net phase.rows ++ end in
     let p = err_from_is_err_and c.from_residual-in_err-put_rows.result c.from_residual-in_err-put_rows.ensures.1 in
     let numbered = lines_more _ _ _ text (number_text c.args.number) (trace ++ rest) (lines_begin (g.K.Sink.holds c.args.out.now) text) c.in_ok-put_number.ensures in
-    let traced = lines_more _ _ _ text trace rest numbered (rw c.as_slice-journal.ensures at c.in_ok-put_trace.ensures) in
+    let traced = lines_more _ _ _ text trace rest numbered c.in_ok-put_trace.ensures in
     let holds = g.K.Sink.holds in
     let cut = subst (λ rows. PutsText (holds c.put_trace.new.out) (rows_text net (map pure_row rows)) (Err c.in_err-put_rows.field-0.0) (holds c.put_rows.new.out)) c.as_slice.ensures c.in_err-put_rows.ensures in
     rw (p.1, p.2) (cut_within _ _ _ text (rows_text net phase.rows) end _ traced cut)
@@ -53,6 +52,6 @@ returns g c =
     let end = end_text c.args.is_quiet (length phase.journal) in
     let rest = rows_text net phase.rows ++ end in
     let numbered = lines_more _ _ _ text (number_text c.args.number) (trace ++ rest) (lines_begin (g.K.Sink.holds c.args.out.now) text) c.in_ok-put_number.ensures in
-    let traced = lines_more _ _ _ text trace rest numbered (rw c.as_slice-journal.ensures at c.in_ok-put_trace.ensures) in
+    let traced = lines_more _ _ _ text trace rest numbered c.in_ok-put_trace.ensures in
     let reported = lines_more _ _ _ text (rows_text net phase.rows) end traced (rw c.as_slice.ensures at c.in_ok-put_rows.ensures) in
-    put_last _ _ _ text end c.put_line.result reported (c.put_line.ensures end (rw c.as_slice-journal.ensures at c.end_line.ensures))
+    put_last _ _ _ text end c.put_line.result reported (c.put_line.ensures end (rw c.len.ensures at c.end_line.ensures))

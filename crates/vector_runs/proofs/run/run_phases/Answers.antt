@@ -79,13 +79,13 @@ loop-next-preserved g c =
     let nodes = map state_of c.in_ok-nodes-2.nodes in
     let new = map state_of next.nodes in
     let rows = map pure_row next.found in
-    let ended = rw c.as_slice.ensures at c.in_ok-now-2.ensures.phase in
+    let ended = rw c.len.ensures at c.in_ok-now-2.ensures.phase in
     let ran = next_so_far c.args.net.now nets c.args.budget.turns past m (drop (k + 1) nets) left p states is nodes c.in_ok-nodes-2.ensures
     (ran rows next.journal) next.is_quiet new (ran_phase m nodes (left - length now.journal) next.journal next.is_quiet new rows ended c.in_ok-now-2.ensures.found) ended.begun in
     record {
       workers = c.loop-next.invariant.workers;
       few = let few = c.loop-next.invariant.few in omega arith;
-      so_far = rw (c.in_ok-push.ensures.ok, map-append pure_phase c.loop-next.past (record { rows = now.found; journal = now.journal } ∷ []), c.as_slice.ensures) ran;
+      so_far = rw (c.in_ok-push.ensures.ok, map-append pure_phase c.loop-next.past (record { rows = now.found; journal = now.journal } ∷ []), c.len.ensures) ran;
     }
 
 pub returns : goal.returns

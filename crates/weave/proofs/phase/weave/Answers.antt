@@ -79,8 +79,8 @@ take_apart-requires g c =
     let count = c.in_ok-blocks-2.ensures.count in
     record { there = all_there k.kind lawful net is_net n turns views' last.running (vec_len c.in_ok-blocks-2.blocks) count }
 
-pub merge-requires-clause-nodes : goal.merge-requires-clause-nodes
-merge-requires-clause-nodes g c =
+pub from_logs-requires-clause-nodes : goal.from_logs-requires-clause-nodes
+from_logs-requires-clause-nodes g c =
     let k = g.N.NodeCore in
     let lawful = c.keeps_laws.ensures in
     let net = c.args.net.now in
@@ -106,8 +106,8 @@ merge-requires-clause-nodes g c =
     let logs_are = c.in_ok-nodes.ensures.logs ∙ logs_same k.kind lawful net is_net n turns (Start k.kind nodes) views' totals last (vec_len c.in_ok-blocks-2.blocks) count in
     (mergeable k.kind lawful net is_net n turns nodes c.requires.nodes views' totals begun last logs logs_are).0
 
-pub merge-requires-clause-clocks : goal.merge-requires-clause-clocks
-merge-requires-clause-clocks g c =
+pub from_logs-requires-clause-clocks : goal.from_logs-requires-clause-clocks
+from_logs-requires-clause-clocks g c =
     let k = g.N.NodeCore in
     let lawful = c.keeps_laws.ensures in
     let net = c.args.net.now in

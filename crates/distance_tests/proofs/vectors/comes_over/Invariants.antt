@@ -1,5 +1,5 @@
 use Rattle.std.proofs.Common.{Some}
-use Rattle.distance_tests.proofs.vectors.comes_on.Given as goal
+use Rattle.distance_tests.proofs.vectors.comes_over.Given as goal
 
 -- the mark of the algebra
 abbrev pub ghosts-comes_to : goal.ghosts-comes_to

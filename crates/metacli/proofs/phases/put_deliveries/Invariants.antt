@@ -1,7 +1,7 @@
 use Rattle.std.proofs.Common.{◌≡◌, [], drop}
 use Rattle.std.specs.Prelude.{string_bytes}
 use Rattle.metacli.specs.Texts.{HasLines, journal_text}
-use Rattle.metacli.proofs.phases.put_journal.Given as goal
+use Rattle.metacli.proofs.phases.put_deliveries.Given as goal
 
 -- the lines of the deliveries so far were appended, and the room is empty
 abbrev pub invariant-loop-delivery : goal.invariant-loop-delivery

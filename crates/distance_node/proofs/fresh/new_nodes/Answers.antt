@@ -4,7 +4,7 @@ use Rattle.std.proofs.lemmas.List.{map-append}
 use Rattle.std.proofs.lemmas.List.FromFn.{map-range_with_len_more}
 use Rattle.distance_node.specs.Node.{new_node}
 use Rattle.distance_node.specs.Nodes.{state_of}
-use Rattle.distance_node.proofs.nodes.new_nodes.Goals as goal
+use Rattle.distance_node.proofs.fresh.new_nodes.Goals as goal
 
 pub loop-number-preserved : goal.loop-number-preserved
 loop-number-preserved g c =
