@@ -60,6 +60,10 @@ class Corpus:
             self.pairs += [(policy, net) for policy in self.policies if not judged('network', (), [policy, net]).line]
         self.nets = nets
 
+    def one_of_each_net(self):
+        """For each network the last policy that it fits, and itself."""
+        return list({net: (policy, net) for policy, net in self.pairs}.values())
+
     def grow(self, draw, count):
         """Adds drawn policies, and drawn networks over them and over the first ones."""
         policies = self.policies + [expression_text(draw, draw.choice((1, 2, 3, 5, 9))).encode() for _ in range(count)]
@@ -71,9 +75,9 @@ class Corpus:
                 self.pairs.append((policy, net.encode()))
         self.policies, self.nets = policies, [net for _, net in self.pairs]
 
-    def add_reports(self, starts):
-        """Has the program print the rows on each pair, and takes those of one phase."""
-        for policy, net in self.pairs:
+    def add_reports(self, starts, pairs):
+        """Has the program print the rows on each of these pairs, and takes those of one phase."""
+        for policy, net in pairs:
             paths = [starts.file(name, it) for name, it in zip(FILES, (policy, net))]
             ran = starts.run_again(['run', *paths, '--workers', '1', '--turns', '1000'])
             rows = ran.text.rpartition(b'phase ')[2]
@@ -124,21 +128,19 @@ def swept_texts(text):
         yield from with_each_byte(text, byte)
 
 
-def swept_cases(corpus):
-    """Every byte alone and, of each example, what swept_texts gives."""
-    bytes_alone = [bytes([byte]) for byte in range(256)]
-    pair = corpus.pairs[0]
-    report = corpus.reports[0]
-    for text in bytes_alone:
-        yield judged('expression', ('check',), [text])
-        yield judged('network', ('check',), [pair[0], text])
-        yield judged('report', ('verify',), [*report[:2], text])
-    for policy in corpus.policies:
-        for text in swept_texts(policy):
-            yield judged('expression', ('check',), [text])
-    for policy, net in dict((net, (policy, net)) for policy, net in corpus.pairs).values():
-        for text in swept_texts(net):
-            yield judged('network', ('check',), [policy, text])
-    for policy, net, rows in dict((rows, (policy, net, rows)) for policy, net, rows in corpus.reports).values():
-        for text in swept_texts(rows):
-            yield judged('report', ('verify',), [policy, net, text])
+def swept_of(kind, command, lasts):
+    """Every byte alone and what swept_texts gives, in the place of the last of some files."""
+    for number, files in enumerate(lasts):
+        texts = [bytes([byte]) for byte in range(256)] if number == 0 else []
+        for text in (*texts, *swept_texts(files[-1])):
+            yield judged(kind, (command,), [*files[:-1], text])
+
+
+def swept_cases(corpus, kind=None):
+    """The swept policies, networks and reports of the corpus, or those of one kind."""
+    if kind in (None, 'expression'):
+        yield from swept_of('expression', 'check', [[policy] for policy in corpus.policies])
+    if kind in (None, 'network'):
+        yield from swept_of('network', 'check', corpus.one_of_each_net())
+    if kind in (None, 'report'):
+        yield from swept_of('report', 'verify', corpus.reports)

@@ -78,7 +78,7 @@ class Server:
 class Starts:
     """A program, and a temporary folder for the files that it reads and writes. To be used with `with`."""
 
-    def __init__(self, program, seconds=60, environment=None):
+    def __init__(self, program, seconds=600, environment=None):
         self.program, self.seconds = os.path.abspath(program), seconds
         self.environment = dict(os.environ) if environment is None else environment
         self.servers, self.child, self.is_stopped = {}, None, False
