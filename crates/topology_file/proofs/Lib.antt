@@ -1,5 +1,6 @@
 pub mod Splits
 pub mod NameLists
+pub mod NameBytes
 pub mod SpelledLabels
 pub mod Steps
 pub mod Runs
