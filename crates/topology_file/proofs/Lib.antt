@@ -1,4 +1,5 @@
 pub mod Splits
+pub mod QuickForms
 pub mod NameLists
 pub mod NameBytes
 pub mod SpelledLabels

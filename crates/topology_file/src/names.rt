@@ -19,10 +19,10 @@ const NAME_BYTES: [u8; 256] = [
     0, 0, 0, 0, 0, 0, 0, 0, 0, 0, 0, 0, 0, 0, 0, 0, 0, 0, 0, 0, 0, 0, 0, 0, 0, 0, 0, 0, 0, 0, 0, 0,
 ];
 
-// Whether the byte may stand in a name: a letter, a digit or one of `_-.`.
+/// Whether the byte may stand in a name: a letter, a digit or one of `_-.`.
 #[inline]
 #[tactic(auto, using(crate::proofs::NameBytes::table_says))]
-fn is_name_part(byte: u8) -> bool
+pub fn is_name_part(byte: u8) -> bool
     ensures { result ≡ is_name_byte byte }
 {
     NAME_BYTES[byte as usize] == 1
