@@ -1,5 +1,7 @@
 pub mod Splits
+pub mod QuickForms
 pub mod NameLists
+pub mod NameBytes
 pub mod SpelledLabels
 pub mod Steps
 pub mod Runs

@@ -1,6 +1,7 @@
 pub mod Numbers
 pub mod Texts
 pub mod Forms
+pub mod QuickForms
 pub mod Faults
 pub mod NetText
 pub mod LineErrors

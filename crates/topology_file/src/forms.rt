@@ -1,10 +1,12 @@
-ghost use Rattle.std.specs.Prelude.{◌≡◌, [], ◌∷◌};
+ghost use Rattle.std.specs.Prelude.{◌≡◌, [], ◌∷◌, true};
 ghost use Rattle.std.specs.Str.{bytes_eq};
+ghost use Rattle.net_graph.specs.Nets.{is_name as is_name_of};
 ghost use Rattle.topology_file.specs.Texts.{words_of};
 ghost use Rattle.topology_file.specs.Forms.{line_of, plain_line as plain_line_of, node_line as node_line_of, drop_line as drop_line_of, colon_line as colon_line_of, short_line as short_line_of, long_line as long_line_of, origin_line as origin_line_of, then_line as then_line_of};
 ghost use Rattle.topology_file.specs.Views.{pure_line, HasDestName};
 
 use crate::names::is_name;
+use crate::quick_forms::arc_words;
 use crate::texts::{split_at_byte, split_word};
 
 /// What a line asks for, by its form alone. Its parts are slices of the line. All names in it are names,
@@ -57,6 +59,17 @@ pub enum NetLine<'a> {
 
 /// What a line asks for that says this. The colon is the first one.
 pub fn line_form(said: &[u8]) -> Line<'_>
+    ensures form { pure_line result ≡ line_of said.now }
+    ensures names { HasDestName result }
+{
+    match arc_words(said) {
+        Some(line) => named_line(line.word, line.listener, line.speaker, line.label),
+        None => any_line(said),
+    }
+}
+
+// The same of any line, word by word.
+fn any_line(said: &[u8]) -> Line<'_>
     ensures form { pure_line result ≡ line_of said.now }
     ensures names { HasDestName result }
 {
@@ -145,6 +158,16 @@ fn short_line<'a>(word: &[u8], listener: &'a [u8], speaker: &'a [u8], label: &'a
     if !is_name(listener) || !is_name(speaker) {
         return Line::Bad;
     }
+    named_line(word, listener, speaker, label)
+}
+
+// A line of three words before its colon, of which the last two are names.
+fn named_line<'a>(word: &[u8], listener: &'a [u8], speaker: &'a [u8], label: &'a [u8]) -> Line<'a>
+    requires listener { is_name_of listener.now ≡ true }
+    requires speaker { is_name_of speaker.now ≡ true }
+    ensures form { pure_line result ≡ short_line_of word.now listener.now speaker.now label.now }
+    ensures names { HasDestName result }
+{
     match word {
         b"link" => Line::Network(NetLine::Link {
             listener,

@@ -12,6 +12,7 @@ mod laws;
 mod lines;
 mod names;
 mod network;
+mod quick_forms;
 mod texts;
 
 pub use faults::{NetError, NetFault, NetKind, What};

@@ -18,8 +18,8 @@ pub fn split_at_byte(text: &[u8], wanted: u8) -> (&[u8], &[u8])
     }
 }
 
-// What comes after the first byte, if there is one.
-fn after_one(text: &[u8]) -> &[u8]
+/// What comes after the first byte, if there is one.
+pub fn after_one(text: &[u8]) -> &[u8]
     ensures { result.now ≡ drop 1 text.now }
 {
     match text {
