@@ -1,5 +1,5 @@
 -- What a node is offered once it is told something.
-use Rattle.std.proofs.Common.{◌≡◌, ℕ, zero, suc, ◌+◌, ◌*◌, ◌<◌, ◌≤◌, ◌^◌, List, [], ◌∷◌, ◌++◌, Bool, true, false, ◌&&◌, ◌==◌, length, map, cond, slice_get, Option, Some, None, IfSome, subst, refl, sym, ap, ◌∙◌, arith}
+use Rattle.std.proofs.Common.{◌≡◌, ℕ, zero, suc, ◌+◌, ◌*◌, ◌<◌, ◌≤◌, ◌^◌, List, [], ◌∷◌, ◌++◌, Bool, true, false, ◌&&◌, ◌==◌, length, cond, slice_get, Option, Some, None, IfSome, subst, refl, sym, ap, ◌∙◌, arith}
 use Rattle.std.specs.Prelude.{option_map, option_and_then}
 use Rattle.std.proofs.Math.ListN.{take}
 use Rattle.std.proofs.lemmas.Bool.{eqb-true}
@@ -19,7 +19,7 @@ use Rattle.distance_node.specs.declared.chosen.Chosen.{Chosen}
 use Rattle.distance_node.specs.declared.settling.Settled.TheVariants.{Stays, Moves}
 use Rattle.distance_node.specs.declared.site.Arrival.{Arrival}
 use Rattle.distance_node.specs.Arrivals.{heard_told, IsArrival}
-use Rattle.distance_node.specs.Chosen.{IsBest, better_of, chosen_at, entry_of, hop_at, next_at}
+use Rattle.distance_node.specs.Chosen.{IsBest, better_of, chosen_at, entry_of, hop_at}
 use Rattle.distance_node.specs.Choosing.{AllIn, not_itself}
 use Rattle.distance_node.specs.Coherent.{IsHeard}
 use Rattle.distance_node.specs.Fitting.{clock_room}

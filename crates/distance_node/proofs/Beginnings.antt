@@ -1,8 +1,7 @@
 -- What a node tells when it begins, a destination after another.
-use Rattle.std.proofs.Common.{◌≡◌, ℕ, zero, suc, ◌+◌, ◌<◌, ◌≤◌, List, [], ◌∷◌, ◌++◌, Bool, true, false, ◌==◌, is_some, length, cond, Option, Some, None, subst, refl, sym, ap, ◌∙◌, arith}
+use Rattle.std.proofs.Common.{◌≡◌, ℕ, suc, ◌+◌, ◌≤◌, List, [], ◌∷◌, ◌++◌, true, false, is_some, length, cond, Option, Some, None, subst, refl, sym, ap, ◌∙◌, arith}
 use Rattle.std.specs.Prelude.{IfSome, option_map}
 use Rattle.std.specs.List.{range_with_len}
-use Rattle.std.proofs.lemmas.Bool.Decides.{nat_tests}
 use Rattle.std.proofs.lemmas.List.{append-nil, append_assoc}
 use Rattle.alg_model.specs.Bounds.{AtMost}
 use Rattle.alg_model.specs.Expressions.{PureValue}
@@ -10,7 +9,7 @@ use Rattle.net_graph.specs.Nets.{PureNet, IsNet, arcs_to, origin_value}
 use Rattle.net_graph.specs.NetLaws.{few_dests}
 use Rattle.distance_node.specs.declared.chosen.Chosen.{Chosen}
 use Rattle.distance_node.specs.Beginning.{AreBegun}
-use Rattle.distance_node.specs.Chosen.{entry_of, hop_at}
+use Rattle.distance_node.specs.Chosen.{hop_at}
 use Rattle.distance_node.specs.Node.{Hop, PureVector, greatest_at, all_begun, begun_of, own_hop, told_on}
 use Rattle.distance_node.specs.Offers.{own_is, own_may}
 use Rattle.distance_node.specs.Tellings.{told_of}

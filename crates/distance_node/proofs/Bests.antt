@@ -1,5 +1,5 @@
 -- How the best of some offers changes with one of them.
-use Rattle.std.proofs.Common.{◌≡◌, ◌≢◌, ℕ, zero, suc, ◌+◌, ◌<◌, ◌≤◌, List, [], ◌∷◌, ◌++◌, Bool, true, false, ◌==◌, length, cond, slice_get, Option, Some, None, subst, refl, sym, ap, ◌∙◌, arith}
+use Rattle.std.proofs.Common.{◌≡◌, ◌≢◌, ℕ, ◌<◌, ◌≤◌, List, [], ◌∷◌, ◌++◌, Bool, true, false, ◌==◌, length, cond, slice_get, Option, Some, None, subst, refl, sym, ap, ◌∙◌, arith}
 use Rattle.std.specs.Prelude.{nat_lt, option_map, option_and_then}
 use Rattle.std.specs.Ordering.{ordering_reverse}
 use Rattle.std.specs.declared.cmp.Ordering.{Ordering}
@@ -15,13 +15,12 @@ use Rattle.net_graph.specs.Routes.{is_less}
 use Rattle.net_graph.specs.Tables.{carrier}
 use Rattle.net_graph.specs.Unbeaten.{unbeaten_trans}
 use Rattle.distance_node.specs.declared.chosen.Chosen.{Chosen}
-use Rattle.distance_node.specs.declared.settling.Settled.{Settled}
 use Rattle.distance_node.specs.declared.settling.Settled.TheVariants.{Stays, Moves, Lost}
-use Rattle.distance_node.specs.Chosen.{IsBest, IsFirst, better_of, chosen_at, entry_of, hop_at, next_at}
+use Rattle.distance_node.specs.Chosen.{IsBest, IsFirst, better_of, chosen_at, entry_of, hop_at}
 use Rattle.distance_node.specs.Choosing.{AllIn, not_back, not_itself, to_less, not_less}
 use Rattle.distance_node.specs.Node.{Hop}
 use Rattle.distance_node.specs.Settling.{settled, settled_by}
-use Rattle.distance_node.proofs.Pushing.{entry_outside, entry_pushed}
+use Rattle.distance_node.proofs.Pushing.{entry_pushed}
 
 -- the offers are as they were but for the one at a place
 pub record IsReplaced (os new : List (Option Hop)) (p : ℕ) (x : Option Hop) : Type 0 where

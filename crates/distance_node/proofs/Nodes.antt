@@ -1,7 +1,6 @@
 -- The state of a node by its fields, and what it keeps.
-use Rattle.std.proofs.Common.{◌≡◌, ℕ, zero, suc, ◌+◌, ◌*◌, ◌<◌, ◌≤◌, ◌^◌, List, [], ◌∷◌, Bool, true, false, ◌&&◌, ◌==◌, length, map, cond, slice_get, Option, Some, None, subst, refl, sym, ap, ◌∙◌, arith}
+use Rattle.std.proofs.Common.{◌≡◌, ℕ, zero, suc, ◌+◌, ◌*◌, ◌<◌, ◌≤◌, ◌^◌, List, [], Bool, true, false, ◌==◌, length, cond, slice_get, Option, Some, None, subst, refl, sym, ap, ◌∙◌, arith}
 use Rattle.std.specs.Prelude.{IfSome, OnErr, Result, Ok, Err, nat_lt, option_map, option_and_then}
-use Rattle.std.specs.List.{range_with_len}
 use Rattle.std.specs.declared.cmp.Ordering.TheVariants.{Less}
 use Rattle.std.proofs.Math.ListN.{set}
 use Rattle.std.proofs.Math.Path.{fun_ext}
@@ -21,11 +20,11 @@ use Rattle.distance_node.specs.declared.chosen.Change.TheVariants.{Stays, Moves}
 use Rattle.distance_node.specs.Beginning.{AreBegun}
 use Rattle.distance_node.specs.Chosen.{IsBest, changed_row, changed_rows, entry_of, hop_at}
 use Rattle.distance_node.specs.Choosing.{first_is_best, none_is_best, not_itself}
-use Rattle.distance_node.specs.Fitting.{clock_room, same_told_self}
+use Rattle.distance_node.specs.Fitting.{clock_room}
 use Rattle.distance_node.specs.Node.{Hop, DvState, PureVector, Begin, value_of, choice, heard_with, hop_by, new_node, offers, own_hop, same_told, taken, told_on, vector_of}
 use Rattle.distance_node.specs.Nodes.{HasHeard, HasRows, PureNode, row_list, state_of}
 use Rattle.distance_node.specs.Offers.{entry_map, own_is, own_may}
-use Rattle.distance_node.specs.Places.{heard_by, heard_in, place_of, values_in, width}
+use Rattle.distance_node.specs.Places.{heard_by, place_of, values_in, width}
 use Rattle.distance_node.specs.Tellings.{told_of}
 use Rattle.distance_node.proofs.Owns.{no_origin_outside}
 use Rattle.distance_node.proofs.Pushing.{entry_mapped, entry_outside, entry_set, set_length}

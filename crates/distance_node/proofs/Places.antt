@@ -1,5 +1,5 @@
 -- Where a node's arcs stand, and what stands at their places of what it heard.
-use Rattle.std.proofs.Common.{◌≡◌, ◌≢◌, inl, inr, ℕ, zero, suc, ◌+◌, ◌*◌, ◌<◌, ◌≤◌, ◌^◌, List, [], ◌∷◌, Bool, true, false, ◌&&◌, ◌==◌, length, map, filter, cond, slice_get, Option, Some, None, IfSome, subst, refl, sym, ap, ◌∙◌, arith}
+use Rattle.std.proofs.Common.{◌≡◌, ◌≢◌, inl, inr, ℕ, zero, suc, ◌+◌, ◌*◌, ◌<◌, ◌≤◌, List, [], ◌∷◌, Bool, true, false, ◌&&◌, ◌==◌, length, filter, cond, slice_get, Option, Some, None, subst, refl, sym, ap, ◌∙◌, arith}
 use Rattle.std.specs.Prelude.{option_map, option_and_then}
 use Rattle.std.specs.List.{AllByRecursion}
 use Rattle.std.proofs.Math.ListN.{set}
@@ -14,7 +14,7 @@ use Rattle.net_graph.specs.Nets.{PureArc, PureNet, IsNet, AreNumbered, AreDistin
 use Rattle.distance_node.specs.Chosen.{entry_of}
 use Rattle.distance_node.specs.Node.{heard_with}
 use Rattle.distance_node.specs.Places.{place_of, width, heard_in, heard_by, values_in}
-use Rattle.distance_node.proofs.Pushing.{entry_mapped, entry_outside, entry_set}
+use Rattle.distance_node.proofs.Pushing.{entry_mapped, entry_set}
 
 -- ---- places
 

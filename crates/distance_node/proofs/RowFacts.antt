@@ -1,5 +1,5 @@
 -- Rows of a node as they are handed out.
-use Rattle.std.proofs.Common.{◌≡◌, ℕ, suc, ◌<◌, ◌≤◌, ◌+◌, List, Bool, true, false, length, map, slice_get, Option, Some, None, subst, refl, sym, ap, ◌∙◌, arith}
+use Rattle.std.proofs.Common.{◌≡◌, ℕ, suc, ◌<◌, ◌≤◌, List, Bool, true, false, length, slice_get, Option, Some, None, subst, refl, sym, ap, ◌∙◌, arith}
 use Rattle.std.specs.Prelude.{option_map, option_and_then}
 use Rattle.std.proofs.lemmas.List.{length-map}
 use Rattle.std.proofs.lemmas.Option.{slice_get_within}
@@ -9,13 +9,12 @@ use Rattle.alg_model.specs.Views.{pure_value}
 use Rattle.arc_labels.specs.declared.neighbours.Neighbour.{Neighbour}
 use Rattle.meta_base.specs.declared.ids.NodeId.{NodeId}
 use Rattle.net_graph.specs.Nets.{PureArc, PureNet, arcs_from}
-use Rattle.net_graph.specs.Tables.{carrier}
 use Rattle.distance_node.specs.declared.chosen.Chosen.{Chosen}
 use Rattle.distance_node.specs.Chosen.{IsBest, entry_of, hop_at, next_at}
-use Rattle.distance_node.specs.Node.{Hop, hop_by, offers}
+use Rattle.distance_node.specs.Node.{hop_by, offers}
 use Rattle.distance_node.specs.Nodes.{IsNodeOf, row_list}
 use Rattle.distance_node.specs.Places.{heard_by, width}
-use Rattle.distance_node.specs.Rows.{PureHopRow, hop_row}
+use Rattle.distance_node.specs.Rows.{hop_row}
 use Rattle.distance_node.proofs.Pushing.{entry_mapped}
 
 entry_inside : {X : Type 0} (xs : List (Option X)) (k : ℕ) (x : X) → entry_of xs k ≡ Some x → k < length xs

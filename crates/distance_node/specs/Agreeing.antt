@@ -4,7 +4,7 @@ use Rattle.std.specs.Prelude.{option_map}
 use Rattle.std.specs.Ordering.{ordering_reverse}
 use Rattle.std.specs.declared.cmp.Ordering.{Ordering}
 use Rattle.std.specs.declared.cmp.Ordering.TheVariants.{Less, Equal}
-use Rattle.alg_model.specs.Carriers.{In, Order, IsPreferred}
+use Rattle.alg_model.specs.Carriers.{In, Order}
 use Rattle.alg_model.specs.Expressions.{PureCarrier, PureValue}
 use Rattle.alg_model.specs.Laws.{total_preorder}
 use Rattle.alg_model.specs.Properties.{strict, isotone}
@@ -16,7 +16,7 @@ use Rattle.net_graph.specs.Unbeaten.{IsUnbeatenBy, none_last}
 use Rattle.net_graph.specs.Walks.{Walk, Weight}
 use Rattle.distance_node.specs.Following.{row_in, unbeaten, next_hops_lead}
 use Rattle.distance_node.specs.Node.{Hop, value_of}
-use Rattle.distance_node.specs.Tables.{HopTable, IsChosen, Follows, Leads, AreAsGood}
+use Rattle.distance_node.specs.Tables.{HopTable, IsChosen, Follows, AreAsGood}
 
 neither : (c : PureCarrier) (u v : PureValue) → In c u → In c v → Order c v u ≢ Less → Order c u v ≢ Less → Order c u v ≡ Equal
 neither c u v i j f g = by (Order c u v) (Order c v u) ((total_preorder c).flip u v i j) f g

@@ -1,26 +1,26 @@
 -- A delivery keeps a machine coherent. Lemmas, so that proofs of other crates may cite them.
-use Rattle.std.proofs.Common.{◌≡◌, ℕ, ◌<◌, ◌≤◌, ◌+◌, ◌⊎◌, inl, inr, List, [], ◌∷◌, ◌++◌, Bool, true, false, ◌&&◌, ◌==◌, length, cond, slice_get, Option, Some, None, subst, refl, sym, ap, ◌∙◌, arith}
+use Rattle.std.proofs.Common.{◌≡◌, ℕ, ◌<◌, ◌≤◌, ◌⊎◌, inl, inr, List, [], ◌∷◌, ◌++◌, Bool, true, false, ◌&&◌, ◌==◌, cond, Option, Some, subst, refl, sym, ap, ◌∙◌, arith}
 use Rattle.std.specs.List.{AllByRecursion}
 use Rattle.std.proofs.Math.Path.{fun_ext}
-use Rattle.std.proofs.lemmas.Bool.{and_right, eqb-true, eqb-false}
+use Rattle.std.proofs.lemmas.Bool.{and_right, eqb-true}
 use Rattle.std.proofs.lemmas.Bool.Decides.{nat_tests}
 use Rattle.std.proofs.lemmas.Option.{same_Some}
 use Rattle.meta_base.specs.declared.ids.Delivery.{Delivery}
 use Rattle.alg_model.specs.Bounds.{AtMost}
 use Rattle.alg_model.specs.Carriers.{In}
 use Rattle.alg_model.specs.Expressions.{PureValue}
-use Rattle.net_graph.specs.Nets.{PureArc, PureNet, IsNet, arcs_from, arcs_to}
+use Rattle.net_graph.specs.Nets.{PureNet, IsNet, arcs_to}
 use Rattle.net_graph.specs.Tables.{carrier}
 use Rattle.node_core.specs.Kinds.{on_arc, listener, speaker}
-use Rattle.node_core.specs.Machine.{Machine, changed_at, clock_after, Start, Deliver, Replay, replay_from}
+use Rattle.node_core.specs.Machine.{Machine, changed_at, clock_after, Start, Deliver, Replay}
 use Rattle.node_core.specs.MachineLaws.{same_test, at_each, all_join, IsDelivery, option_from, delivery_of, deliver_runs, replay_keeps}
 use Rattle.distance_node.specs.Coherent.{IsCoherent, IsHeard, last_told}
 use Rattle.distance_node.specs.Fitting.{fits_from, fits_parts, fits_dest, told_is_heard, heard_later, same_told_is, last_told_append}
 use Rattle.distance_node.specs.Lawful.{distance_is_lawful}
 use Rattle.distance_node.specs.Node.{Hop, DvState, PureVector, value_of, choice, greatest_at, fits_in, vector_of, told_on, heard_with, same_told, taken, Step, distance, new_nodes}
-use Rattle.distance_node.specs.Offers.{MayTell, AreHeard, choice_may}
+use Rattle.distance_node.specs.Offers.{MayTell, choice_may}
 use Rattle.distance_node.specs.Starting.{start_is_coherent}
-use Rattle.distance_node.specs.Told.{speaks, told_once, told_all}
+use Rattle.distance_node.specs.Told.{speaks, told_once}
 
 module _ (net : PureNet) (n : IsNet net) (c : Machine DvState PureVector) (k : IsCoherent net c) (a : ℕ) (d : Machine DvState PureVector) (w : IsDelivery distance net c a d) where
   abbrev i : ℕ

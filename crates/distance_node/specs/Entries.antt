@@ -1,5 +1,5 @@
 -- What stands in lists whose entries may be none. Lemmas, so that proofs of other crates may cite them.
-use Rattle.std.proofs.Common.{◌≡◌, ℕ, zero, suc, ◌<◌, List, [], ◌∷◌, Bool, true, false, ◌&&◌, filter, map, cond, slice_get, Option, Some, None, option_map, refl, ap, arith}
+use Rattle.std.proofs.Common.{◌≡◌, ℕ, zero, suc, ◌<◌, List, [], ◌∷◌, Bool, true, false, filter, map, slice_get, Option, Some, None, refl, arith}
 use Rattle.std.specs.List.{find, list_all}
 use Rattle.distance_node.specs.Chosen.{entry_of}
 use Rattle.distance_node.specs.Node.{Hop, hops_of}

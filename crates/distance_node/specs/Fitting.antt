@@ -1,5 +1,5 @@
 -- What fits a network, in words of it. Lemmas, so that proofs of other crates may cite them.
-use Rattle.std.proofs.Common.{◌≡◌, ℕ, suc, ◌+◌, ◌*◌, ◌^◌, ◌<◌, ◌≤◌, List, [], ◌∷◌, ◌++◌, Bool, true, false, ◌&&◌, ◌==◌, length, cond, Option, Some, None, refl, arith}
+use Rattle.std.proofs.Common.{◌≡◌, ℕ, ◌+◌, ◌*◌, ◌^◌, ◌<◌, ◌≤◌, List, [], ◌∷◌, ◌++◌, true, ◌==◌, length, cond, Option, Some, None, refl, arith}
 use Rattle.std.specs.Prelude.{nat_lt}
 use Rattle.std.specs.Option.{option_map_or}
 use Rattle.std.proofs.lemmas.Bool.{and_parts}
@@ -9,7 +9,7 @@ use Rattle.alg_model.specs.Bounds.{AtMost}
 use Rattle.alg_model.specs.Carriers.{In}
 use Rattle.alg_model.specs.Expressions.{PureValue}
 use Rattle.alg_model.specs.Laws.{at_most_more}
-use Rattle.alg_model.specs.Tests.{is_in, is_in-Decides, is_at_most, is_at_most-Decides, same_value, same_value-Decides}
+use Rattle.alg_model.specs.Tests.{is_in, is_in-Decides, is_at_most, is_at_most-Decides, same_value-Decides}
 use Rattle.net_graph.specs.Nets.{PureNet}
 use Rattle.net_graph.specs.Tables.{carrier}
 use Rattle.distance_node.specs.Coherent.{IsHeard, last_told}

@@ -1,14 +1,14 @@
 -- Where next hops lead. Lemmas, so that proofs of other crates may cite them.
-use Rattle.std.proofs.Common.{◌≡◌, ◌≢◌, ℕ, zero, suc, ◌+◌, ◌<◌, ◌≤◌, ◌⊎◌, inl, inr, List, [], ◌∷◌, Bool, true, false, not, ◌&&◌, ◌||◌, ◌==◌, length, cond, slice_get, Option, Some, None, IfSome, subst, refl, sym, ap, ◌∙◌, arith}
+use Rattle.std.proofs.Common.{◌≡◌, ℕ, zero, suc, ◌+◌, ◌<◌, ◌≤◌, inl, inr, List, [], ◌∷◌, Bool, true, false, ◌||◌, ◌==◌, length, cond, slice_get, Option, Some, None, IfSome, subst, refl, sym, ap, ◌∙◌, arith}
 use Rattle.std.specs.Prelude.{find, option_map, option_and_then}
 use Rattle.std.specs.List.{list_any, AllByRecursion}
-use Rattle.std.specs.declared.cmp.Ordering.TheVariants.{Less, Equal}
-use Rattle.std.proofs.lemmas.Bool.{eqb-true, cases_lt}
+use Rattle.std.specs.declared.cmp.Ordering.TheVariants.{Less}
+use Rattle.std.proofs.lemmas.Bool.{eqb-true}
 use Rattle.std.proofs.lemmas.Bool.Decides.{nat_tests}
 use Rattle.std.proofs.lemmas.Option.{same_Some}
 use Rattle.alg_model.specs.Application.{App}
-use Rattle.alg_model.specs.Carriers.{In, Order, IsPreferred, distinct}
-use Rattle.alg_model.specs.Expressions.{PureCarrier, PureLabel, PureValue}
+use Rattle.alg_model.specs.Carriers.{In, Order, distinct}
+use Rattle.alg_model.specs.Expressions.{PureCarrier, PureValue}
 use Rattle.alg_model.specs.Laws.{total_preorder}
 use Rattle.alg_model.specs.Properties.{strict, isotone, Has}
 use Rattle.net_graph.specs.ArcLaws.{IsOrigin, origins_are, of_some, found_between, find_any, find_all, walk_within, along_in, along_isotone, weight_in, labels_have}
@@ -22,7 +22,7 @@ use Rattle.distance_node.specs.Chosen.{entry_of}
 use Rattle.distance_node.specs.Choosing.{AllIn, IsUnbeatenEntry, best_is, none_best, not_itself, to_less, to_not_less}
 use Rattle.distance_node.specs.Entries.{found_filtered}
 use Rattle.distance_node.specs.Node.{Hop, value_of, offers, choice}
-use Rattle.distance_node.specs.Offers.{IsArcFrom, IsOwnHop, IsArcHop, arc_from, speaks_on, offer_is, own_offered, arc_offered, own_may, MayTell}
+use Rattle.distance_node.specs.Offers.{IsOwnHop, IsArcHop, arc_from, speaks_on, offer_is, own_offered, arc_offered, own_may}
 use Rattle.distance_node.specs.Tables.{HopTable, values_on, IsChosen, Follows, Leads}
 
 -- what an arc makes of a value, in words of walks

@@ -9,7 +9,7 @@ use Rattle.node_core.specs.Numbers.{max_begun}
 use Rattle.node_core.specs.Machine.{changed_at}
 use Rattle.node_core.specs.Kinds.{IsLawful, IsSentBy, IsLater, on_arc, speaker}
 use Rattle.node_core.specs.MachineLaws.{all_join, on_arc_join}
-use Rattle.distance_node.specs.Node.{Hop, DvState, PureVector, value_of, own_hop, choice, fits_in, vector_of, told_on, begun_of, all_begun, Begin, heard_with, same_told, taken, Step, distance}
+use Rattle.distance_node.specs.Node.{Hop, DvState, PureVector, value_of, own_hop, choice, fits_in, vector_of, told_on, begun_of, all_begun, Begin, heard_with, same_told, Step, distance}
 use Rattle.distance_node.specs.Told.{told_few, told_all, told_by_speaker}
 
 module _ (net : PureNet) (i : ℕ) where

@@ -1,5 +1,5 @@
 -- What a node heard, as it stands in one list: destination by destination, an entry for each of the node's arcs.
-use Rattle.std.specs.Prelude.{ℕ, zero, suc, ◌+◌, ◌*◌, ◌==◌, List, [], ◌∷◌, Option, Some, None, cond, length, map, option_map, option_and_then}
+use Rattle.std.specs.Prelude.{ℕ, suc, ◌+◌, ◌*◌, ◌==◌, List, [], ◌∷◌, Option, Some, None, cond, length, map, option_map, option_and_then}
 use Rattle.alg_model.specs.Expressions.{PureValue}
 use Rattle.net_graph.specs.Nets.{PureArc, PureNet, arcs_from}
 use Rattle.distance_node.specs.Chosen.{entry_of}

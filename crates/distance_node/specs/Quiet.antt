@@ -1,19 +1,17 @@
 -- The rows of a coherent machine in which nothing is on its way are choices from the neighbours' values. Lemmas, so that
 -- proofs of other crates may cite them.
-use Rattle.std.proofs.Common.{◌≡◌, ℕ, ◌<◌, List, [], length, slice_get, Option, Some, None, refl, sym, ap, ◌∙◌, subst}
+use Rattle.std.proofs.Common.{◌≡◌, ℕ, ◌<◌, List, length, slice_get, Some, refl, sym, ap, ◌∙◌}
 use Rattle.std.specs.Prelude.{option_and_then}
 use Rattle.meta_base.specs.declared.ids.Delivery.{Delivery}
 use Rattle.alg_model.specs.Carriers.{In}
-use Rattle.alg_model.specs.Expressions.{PureValue}
 use Rattle.net_graph.specs.Nets.{PureArc, PureNet, IsNet, arcs_from}
 use Rattle.net_graph.specs.Tables.{carrier}
-use Rattle.node_core.specs.Kinds.{listener, speaker}
 use Rattle.node_core.specs.Machine.{Machine, Replay, Drained}
 use Rattle.node_core.specs.MachineLaws.{option_then}
 use Rattle.distance_node.specs.Coherent.{IsCoherent, last_told}
 use Rattle.distance_node.specs.Delivering.{runs_are_coherent}
-use Rattle.distance_node.specs.Node.{Hop, DvState, PureVector, value_of, choice, distance, new_nodes}
-use Rattle.distance_node.specs.Offers.{IsArcFrom, arc_from, listens_on, speaks_on, choice_alike, choice_may}
+use Rattle.distance_node.specs.Node.{Hop, DvState, PureVector, choice, distance, new_nodes}
+use Rattle.distance_node.specs.Offers.{arc_from, listens_on, speaks_on, choice_alike, choice_may}
 use Rattle.distance_node.specs.Tables.{table_of, values_on, IsChosen}
 
 module _ (net : PureNet) (n : IsNet net) (c : Machine DvState PureVector) (k : IsCoherent net c) (dest : ℕ) where

@@ -1,6 +1,5 @@
 -- The new nodes of a network make a coherent machine. Lemmas, so that proofs of other crates may cite them.
 use Rattle.std.proofs.Common.{◌≡◌, ℕ, zero, suc, ◌+◌, ◌<◌, ◌≤◌, inl, inr, List, [], ◌∷◌, ◌++◌, Bool, true, false, ◌||◌, ◌==◌, length, map, cond, is_some, slice_get, Option, Some, None, subst, refl, sym, ap, ◌∙◌, arith}
-use Rattle.std.specs.Prelude.{option_map}
 use Rattle.std.specs.List.{AllByRecursion, list_any, range_with_len}
 use Rattle.std.proofs.lemmas.Bool.{cases_lt, eqb-true}
 use Rattle.std.proofs.lemmas.Bool.Decides.{nat_tests}
@@ -8,9 +7,9 @@ use Rattle.std.proofs.lemmas.Option.{same_Some}
 use Rattle.alg_model.specs.Bounds.{AtMost}
 use Rattle.alg_model.specs.Carriers.{In}
 use Rattle.alg_model.specs.Expressions.{PureValue}
-use Rattle.net_graph.specs.Nets.{PureArc, PureNet, IsNet, arcs_to}
+use Rattle.net_graph.specs.Nets.{PureNet, IsNet, arcs_to}
 use Rattle.net_graph.specs.Tables.{carrier}
-use Rattle.node_core.specs.Kinds.{on_arc, listener, speaker}
+use Rattle.node_core.specs.Kinds.{on_arc, speaker}
 use Rattle.node_core.specs.Machine.{Machine, AreUnbegun, begun_messages, Start}
 use Rattle.node_core.specs.Running.{IsRunning}
 use Rattle.node_core.specs.MachineLaws.{same_test, all_join, on_arc_all, on_arc_join, option_from, start_runs}

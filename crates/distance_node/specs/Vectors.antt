@@ -1,5 +1,5 @@
 -- What a message of the program says.
-use Rattle.std.specs.Prelude.{◌≡◌, ℕ, Option, IfSome, refl}
+use Rattle.std.specs.Prelude.{ℕ, Option, IfSome, refl}
 use Rattle.std.specs.Coded.{Coded, code_by, coded×, coded_option, coded_ℕ}
 use Rattle.meta_base.specs.declared.ids.ArcId.{ArcId}
 use Rattle.alg_model.specs.Bounds.{AtMost}

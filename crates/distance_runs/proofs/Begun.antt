@@ -1,9 +1,8 @@
 -- Nodes that are begun on a network have it, and what the workers made of new nodes is a run of them.
-use Rattle.std.proofs.Common.{◌≡◌, ℕ, ◌+◌, List, [], ◌∷◌, Bool, Some, map, subst}
+use Rattle.std.proofs.Common.{◌≡◌, ℕ, ◌+◌, List, [], ◌∷◌, Bool, map, subst}
 use Rattle.std.specs.List.{AllByRecursion}
 use Rattle.meta_base.specs.declared.ids.Delivery.{Delivery}
 use Rattle.net_graph.specs.Nets.{PureNet, IsNet}
-use Rattle.node_core.specs.Machine.{Replay}
 use Rattle.node_runs.specs.RunLaws.{ended_phase}
 use Rattle.node_runs.specs.Runs.{AreBegun, IsPhaseOf}
 use Rattle.quiet_ledger.specs.declared.totals.Totals.{Totals}

@@ -8,10 +8,9 @@ use Rattle.std.proofs.lemmas.Bool.{eqb-true}
 use Rattle.std.proofs.lemmas.Bool.Decides.{nat_tests}
 use Rattle.std.proofs.lemmas.List.Folds.{find-append}
 use Rattle.meta_base.specs.declared.ids.Delivery.{Delivery}
-use Rattle.alg_model.specs.Carriers.{In}
 use Rattle.alg_model.specs.Expressions.{PureCarrier, PureValue}
 use Rattle.alg_model.specs.Properties.{strict, isotone}
-use Rattle.net_graph.specs.Nets.{PureArc, PureNet, IsNet}
+use Rattle.net_graph.specs.Nets.{PureNet, IsNet}
 use Rattle.net_graph.specs.Routes.{PureRoute}
 use Rattle.net_graph.specs.Tables.{PureRow, NetHas, BestFirst, AreRowsFrom, AreRowsOfTables, OnTablesFrom, carrier, joined_rows, value_at}
 use Rattle.node_core.specs.Machine.{Machine}

@@ -1,11 +1,10 @@
-use Rattle.std.proofs.Common.{◌≡◌, ◌+◌, ◌==◌, ◌≤◌, ◌<◌, length, option_map, sym, ap, subst, ◌∙◌, arith}
+use Rattle.std.proofs.Common.{◌≡◌, ◌+◌, ◌≤◌, length, option_map, sym, ap, subst, ◌∙◌, arith}
 use Rattle.std.specs.Prelude.{option_and_then}
 use Rattle.alg_model.specs.Application.{App}
 use Rattle.alg_model.specs.Carriers.{carrier_of}
 use Rattle.alg_model.specs.Expressions.{Expression}
 use Rattle.arc_labels.specs.Images.{made_in}
 use Rattle.distance_node.specs.Chosen.{IsBest, better_of, chosen_at}
-use Rattle.net_graph.specs.Tables.{carrier}
 use Rattle.distance_node.proofs.Arrived.{all_told_in, best_more, best_of_all, known_may, own_is_best}
 use Rattle.distance_node.proofs.Near.{near_at, signs_in}
 use Rattle.distance_node.proofs.choosing.choose.Goals as goal

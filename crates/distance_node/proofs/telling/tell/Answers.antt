@@ -1,4 +1,4 @@
-use Rattle.std.proofs.Common.{◌≡◌, ◌≤◌, ◌++◌, List, ℕ, length, map, ap, ◌∙◌, arith}
+use Rattle.std.proofs.Common.{◌≤◌, ◌++◌, List, ℕ, length, map, ap, ◌∙◌, arith}
 use Rattle.meta_base.specs.declared.ids.ArcId.{ArcId}
 use Rattle.net_graph.specs.Nets.{arcs_to}
 use Rattle.distance_node.specs.Node.{PureVector}

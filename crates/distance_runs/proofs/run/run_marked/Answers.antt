@@ -3,10 +3,7 @@ use Rattle.std.proofs.Common.{◌≡◌, ◌∙◌, List, ap, map, subst, sym}
 use Rattle.std.specs.List.{AllByRecursion}
 use Rattle.std.proofs.Crossing.{crosses}
 use Rattle.node_core.specs.Machine.{AreUnbegun}
-use Rattle.node_runs.specs.RunLaws.{ended_phase}
-use Rattle.node_runs.specs.Runs.{IsPhaseOf}
 use Rattle.weave.proofs.Sent.{net_sync}
-use Rattle.distance_node.specs.Delivering.{runs_are_coherent}
 use Rattle.distance_node.specs.Node.{distance}
 use Rattle.distance_node.specs.Nodes.{PureNode, state_of}
 use Rattle.distance_node.specs.Rows.{HopRows}
