@@ -18,7 +18,7 @@ fn files_are_taken(rt: HostRuntime) -> Result<(), Fail> {
 }
 
 // An output that takes this line, and fails on all else.
-struct OneLine;
+pub(crate) struct OneLine;
 
 const LINE: &[u8] = b"a line\n";
 

@@ -10,6 +10,8 @@ mod demos;
 #[cfg(test)]
 mod distance;
 #[cfg(test)]
+mod faults;
+#[cfg(test)]
 mod floods;
 #[cfg(test)]
 mod gadgets;

@@ -28,20 +28,21 @@ pub(crate) fn is_missing(outcome: Outcome, begins: &str) -> Result<bool, Fail> {
 }
 
 // What stands around a run: the bytes of the expression file `f`, of the network file `n` and of the report `r`, the
-// calls of the shelf and of the sink that fail, and how much the sink takes at a time.
+// calls of the shelf and of the sink that fail, and how much the shelf gives and the sink takes at a time.
 #[derive(Clone, Copy)]
-struct Around<'a> {
-    file: &'a [u8],
-    net: &'a [u8],
-    report: &'a [u8],
-    failing_calls: &'a [u64],
-    failing_writes: &'a [u64],
-    bite: usize,
+pub(crate) struct Around<'a> {
+    pub(crate) file: &'a [u8],
+    pub(crate) net: &'a [u8],
+    pub(crate) report: &'a [u8],
+    pub(crate) failing_calls: &'a [u64],
+    pub(crate) failing_writes: &'a [u64],
+    pub(crate) read_bite: usize,
+    pub(crate) bite: usize,
 }
 
-// How much the sink takes at a time where that is of no matter, and what it has room for: eight of the longest lines of
+// How much is given and taken at a time where that is of no matter, and what it has room for: eight of the longest lines of
 // a network file.
-const BITE: usize = 100;
+pub(crate) const BITE: usize = 100;
 
 const ROOM: usize = 32768;
 
@@ -63,8 +64,45 @@ fn status_of_run<S: Shelf, K: Sink, G: Gate>(
     status
 }
 
+fn push_file(
+    alloc: Global,
+    files: &mut List<MemFile>,
+    name: &str,
+    bytes: &[u8],
+) -> Result<(), Fail> {
+    files.push(MemFile {
+        name: Text::copy(alloc, name)?,
+        bytes: list_of(alloc, bytes)?,
+    })?;
+    Ok(())
+}
+
+// A shelf of the three files.
+fn shelf_of(alloc: Global, around: &Around) -> Result<MemShelf, Fail> {
+    let mut files = List::new(alloc);
+    push_file(alloc, &mut files, "f", around.file)?;
+    push_file(alloc, &mut files, "n", around.net)?;
+    push_file(alloc, &mut files, "r", around.report)?;
+    let failing = list_of(alloc, around.failing_calls)?;
+    Ok(MemShelf::in_bites(files, around.read_bite.max(1), failing))
+}
+
+// The status of `check` on the expression file, into that sink.
+pub(crate) fn status_of_check<K: Sink>(
+    rt: &(impl AllocGlobal + Threads + Wait + Sync),
+    around: Around,
+    out: &mut K,
+) -> Result<u8, Fail> {
+    let alloc = rt.alloc();
+    let mut shelf = shelf_of(alloc, &around)?;
+    let mut words = Vec::new(alloc);
+    words.push(Text::copy(alloc, "check")?)?;
+    words.push(Text::copy(alloc, "f")?)?;
+    Ok(status_of_run(rt, &words, &mut shelf, out, &OpenGate))
+}
+
 // A run of these words.
-fn run_around(
+pub(crate) fn run_around(
     rt: &(impl AllocGlobal + Threads + Wait + Sync),
     words: &[&str],
     around: Around,
@@ -80,20 +118,7 @@ fn run_watched<G: Gate>(
     gate: &G,
 ) -> Result<Outcome, Fail> {
     let alloc = rt.alloc();
-    let mut files = List::new(alloc);
-    files.push(MemFile {
-        name: Text::copy(alloc, "f")?,
-        bytes: list_of(alloc, around.file)?,
-    })?;
-    files.push(MemFile {
-        name: Text::copy(alloc, "n")?,
-        bytes: list_of(alloc, around.net)?,
-    })?;
-    files.push(MemFile {
-        name: Text::copy(alloc, "r")?,
-        bytes: list_of(alloc, around.report)?,
-    })?;
-    let mut shelf = MemShelf::new(files, list_of(alloc, around.failing_calls)?);
+    let mut shelf = shelf_of(alloc, &around)?;
     let failing = list_of(alloc, around.failing_writes)?;
     let mut out = MemSink::new(alloc, ROOM, around.bite.max(1), failing)?;
     let mut texts = Vec::new(alloc);
@@ -140,6 +165,7 @@ pub(crate) fn run_at<G: Gate>(
         report: b"",
         failing_calls: &[],
         failing_writes: &[],
+        read_bite: BITE,
         bite: BITE,
     };
     run_watched(rt, words, around, gate)
@@ -158,6 +184,7 @@ pub(crate) fn run_verify(
         report,
         failing_calls: &[],
         failing_writes: &[],
+        read_bite: BITE,
         bite: BITE,
     };
     run_around(rt, &["verify", "f", "n", "r"], around)
@@ -203,7 +230,8 @@ fn other_refusals_are_reported_apart(rt: HostRuntime) -> Result<(), Fail> {
     Ok(())
 }
 
-const ALL_HOLD: &[u8] = b"monotone yes\nstrict yes\nisotone yes\ncancellative yes\ntotal yes\n";
+pub(crate) const ALL_HOLD: &[u8] =
+    b"monotone yes\nstrict yes\nisotone yes\ncancellative yes\ntotal yes\n";
 
 #[test]
 fn all_five_hold(rt: HostRuntime) -> Result<(), Fail> {
@@ -630,54 +658,6 @@ fn long_files(rt: HostRuntime) -> Result<(), Fail> {
         let outcome = run(&rt, &["check", "f"], &file);
         drop(file);
         assert!(rt; ended_with(outcome?, *text, *status));
-    }
-    Ok(())
-}
-
-// A run of `check` on the file of this name, where that call of the shelf fails.
-fn run_failing(
-    rt: &(impl AllocGlobal + Threads + Wait + Sync),
-    name: &str,
-    call: u64,
-) -> Result<Outcome, Fail> {
-    let around = Around {
-        file: b"main add(1..10);",
-        net: b"",
-        report: b"",
-        failing_calls: &[call],
-        failing_writes: &[],
-        bite: BITE,
-    };
-    run_around(rt, &["check", name], around)
-}
-
-// The file is begun by call 0, read whole by call 1, and found to end by call 2; another name has no
-// file.
-#[test]
-fn reading_fails(rt: HostRuntime) -> Result<(), Fail> {
-    for (name, call) in [("f", 0), ("f", 1), ("f", 2), ("g", 9)] {
-        let outcome = run_failing(&rt, name, call)?;
-        assert!(rt; ended_with(outcome, b"read fault on the expression\n", 5));
-    }
-    Ok(())
-}
-
-// Each write offers a line or the rest of one, of which the sink takes five bytes.
-#[test]
-fn writing_fails(rt: HostRuntime) -> Result<(), Fail> {
-    let lengths = [0, 5, 10, 13, 18, 23, 24, 29, 34, 36, 41, 46, 51, 53, 58];
-    for (write, length) in lengths.iter().enumerate() {
-        let around = Around {
-            file: b"main add(1..10);",
-            net: b"",
-            report: b"",
-            failing_calls: &[],
-            failing_writes: &[write as u64],
-            bite: 5,
-        };
-        let outcome = run_around(&rt, &["check", "f"], around)?;
-        let text = ALL_HOLD.get(..*length).unwrap_or_default();
-        assert!(rt; ended_with(outcome, text, 6));
     }
     Ok(())
 }
