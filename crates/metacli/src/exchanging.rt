@@ -151,7 +151,8 @@ fn exchange_by_width<R: AllocGlobal + Threads + Wait + Sync, G: Gate>(
     requires workers { AreWorkers workers }
     requires turns { AreTurns turns }
     ensures net { IsNet net.now }
-    ensures run { IfOk result (λ run. IsDistanceRun net.now turns (map pure_hop_row run.hops) run.journal run.is_quiet) }
+    ensures run { IfOk result (λ run.
+        IsDistanceRun net.now turns (map pure_hop_row run.hops) run.journal run.is_quiet) }
 {
     rows_have_their_width();
     match row_width(net.alg()) {

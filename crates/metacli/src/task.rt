@@ -1,6 +1,6 @@
 // What commands ask for, by the files that they read.
 ghost use Rattle.std.specs.Prelude.{◌≡◌};
-ghost use Rattle.command_words.specs.declared.command.Command.TheVariants.{Check, Code};
+ghost use Rattle.command_words.specs.declared.command.Command.TheVariants.{Check, Code, Gadget};
 ghost use Rattle.metacli.specs.Tasks.{task_of};
 ghost use Rattle.metacli.specs.declared.task.NetworkTask.TheVariants.{Distance, Flood, Route, Run};
 ghost use Rattle.metacli.specs.declared.task.Task.TheVariants.{On};
@@ -121,11 +121,17 @@ pub fn task_of(command: Command) -> Task
             net,
             task: NetworkTask::Hops,
         },
-        Command::Gadget { file } => Task::Alone {
-            file,
-            task: AlgebraTask::Gadget,
-        },
+        Command::Gadget { file } => gadget_task(file),
         Command::Demo { seed, nodes } => Task::Demo { seed, nodes },
+    }
+}
+
+fn gadget_task(file: usize) -> Task
+    ensures { result ≡ task_of (Gadget file) }
+{
+    Task::Alone {
+        file,
+        task: AlgebraTask::Gadget,
     }
 }
 

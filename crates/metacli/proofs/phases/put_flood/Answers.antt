@@ -27,4 +27,4 @@ returns g c =
     let end = end_text run.is_quiet (length run.journal) in
     let holds = g.K.Sink.holds in
     let put = lines_more _ _ _ text (rows_text net rows) end (lines_begin (holds c.args.out.now) text) (rw c.as_slice.ensures at c.in_ok-put_rows.ensures) in
-    put_last _ _ _ text end c.put_line.result put (c.put_line.ensures end (rw c.len.ensures at c.end_line.ensures))
+    put_last _ _ _ text end c.put_line.result put (c.put_line.ensures end (rw c.len-made.ensures at c.end_line.ensures))
