@@ -11,6 +11,8 @@ mod machines;
 #[cfg(test)]
 mod nodes;
 #[cfg(test)]
+mod schedules;
+#[cfg(test)]
 mod tables;
 #[cfg(test)]
 mod texts;

@@ -227,6 +227,21 @@ fn good_lines_are_read(rt: HostRuntime) -> Result<(), Fail> {
     Ok(())
 }
 
+// A line of blanks says nothing, unless it has more bytes than a line may have.
+#[test]
+fn long_lines_are_refused(rt: HostRuntime) -> Result<(), Fail> {
+    let alloc = rt.alloc();
+    let longest = vec![in alloc; b' '; 4096]?;
+    assert_eq!(rt; fault_of(alloc, ADD, &longest)?, None);
+    let longer = vec![in alloc; b' '; 4097]?;
+    let fault = NetFault {
+        line: 1,
+        kind: BadLine,
+    };
+    assert_eq!(rt; fault_of(alloc, ADD, &longer)?, Some(fault));
+    Ok(())
+}
+
 // So many nodes, one on a line.
 fn nodes(alloc: Global, count: usize) -> Result<Vec<u8>, Fail> {
     let mut net = Vec::new(alloc);
