@@ -7,7 +7,8 @@ WORKERS, TURNS, REQUIRE = b'--workers', b'--turns', b'--require'
 COMMANDS = {
     b'check': (1, 2, (REQUIRE,)), b'code': (1, 2, ()), b'gadget': (1, 1, ()), b'route': (2, 2, (WORKERS,)),
     b'hops': (2, 2, ()), b'stable': (2, 2, ()), b'settle': (2, 2, ()), b'run': (2, 2, (WORKERS, TURNS)),
-    b'trace': (2, 2, (WORKERS, TURNS)), b'flood': (2, 2, (WORKERS, TURNS)), b'verify': (3, 3, ()), b'demo': (2, 2, ()),
+    b'trace': (2, 2, (WORKERS, TURNS)), b'flood': (2, 2, (WORKERS, TURNS)),
+    b'distance': (2, 2, (WORKERS, TURNS)), b'verify': (3, 3, ()), b'demo': (2, 2, ()),
 }
 RANGES = {WORKERS: (1, 16), TURNS: (0, 1000000)}
 DEMO_RANGES = ((0, 18446744073709551615), (2, 512))

@@ -10,7 +10,8 @@ from rough.drawn import expression_text, network_text
 ALONE = (('check',), ('check',), ('code',), ('gadget',))
 WITH_NET = (('check',), ('check',), ('check',), ('code',), ('hops',), ('stable',), ('settle',),
             ('route', '--workers', '1'), ('run', '--workers', '1', '--turns', '300'),
-            ('trace', '--workers', '2', '--turns', '200'), ('flood', '--workers', '1', '--turns', '300'))
+            ('trace', '--workers', '2', '--turns', '200'), ('flood', '--workers', '1', '--turns', '300'),
+            ('distance', '--workers', '1', '--turns', '300'))
 EACH_BYTE = (b'{', b' ', b'7')
 KINDS = ('expression', 'network', 'report', 'words')
 # The names of the files in the folder that the runs read.
