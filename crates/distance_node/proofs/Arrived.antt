@@ -1,4 +1,4 @@
--- What a node is offered once it is told something.
+-- What a node is offered once it is sent something.
 use Rattle.std.proofs.Common.{◌≡◌, ℕ, zero, suc, ◌+◌, ◌*◌, ◌<◌, ◌≤◌, ◌^◌, List, [], ◌∷◌, ◌++◌, Bool, true, false, ◌&&◌, ◌==◌, length, cond, slice_get, Option, Some, None, IfSome, subst, refl, sym, ap, ◌∙◌, arith}
 use Rattle.std.specs.Prelude.{option_map, option_and_then}
 use Rattle.std.proofs.Math.ListN.{take}
@@ -124,7 +124,7 @@ own_is_best {S} value net dest i heard best all e first = by best e first
             let same : hop_at value net i r ≡ g = cc in
             subst (λ (h : Hop). ¬ (Order (carrier net) h.value (value r.sig) ≡ Less)) same (not_itself (carrier net) (value r.sig) (all 0 (hop_at value net i r) hop_is))
 
--- ---- what is told
+-- ---- what is sent
 
 module _ {S : Type 0} (is_sig : S → Type 0) (value : S → PureValue) (net : PureNet) (n : IsNet net) (i : ℕ) (sig_in : (s : S) → is_sig s → In (carrier net) (value s)) (heard : List (Option S)) (clock : ℕ)
     (kept : HasHeard is_sig value net i clock heard)
@@ -298,7 +298,7 @@ module _ {S : Type 0} (is_sig : S → Type 0) (value : S → PureValue) (net : P
           (settled_moves value net i (offers net dest i (λ a. heard_by value net i heard a dest)) (offers net dest i told) (suc t.place) made all_told_in (all_in dest arrival.dest_in) (told_replaced made image) before best
           (subst (λ z. settled value (carrier net) before z made ≡ Moves) next is))
 
-      -- what is told of a row may be told
+      -- what is sent of a row may be sent
       pub row_small : (row : Option (Chosen S)) → IsBest value net i (offers net dest i told) row → IfSome (told_of value row) (AtMost (greatest_at t.clock))
       row_small None best = tt
       row_small (Some r) best = (all_may r.offer (hop_at value net i r) best.there).small

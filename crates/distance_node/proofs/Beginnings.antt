@@ -40,7 +40,7 @@ module _ {S : Type 0} (is_sig : S → Type 0) (value : S → PureValue) (net : P
       by None f = refl
       by (Some r) f = rw f refl
 
-  -- what is told of it
+  -- what is sent of it
   pub told_one : (dest : ℕ) (row : Option (Chosen S)) (out new : List (ℕ × PureVector)) → option_map (hop_at value net i) row ≡ own_hop net dest i
       → new ≡ cond (is_some row) (out ++ told_on (arcs_to net i) (record { dest = dest; value = told_of value row; stamp = 0 })) out → new ≡ out ++ begun_of net i dest
   told_one dest row out new e f = f ∙ subst (λ (o : Option Hop). cond (is_some row) (out ++ told_on (arcs_to net i) (record { dest = dest; value = told_of value row; stamp = 0 })) out
@@ -68,12 +68,12 @@ module _ {S : Type 0} (is_sig : S → Type 0) (value : S → PureValue) (net : P
   pub no_rows : AreBegun is_sig value net i 0 []
   no_rows = record { row_count = refl; sigs = λ dest r e. absurd (cc); first = λ dest r e. absurd (cc); hops = λ dest l. absurd (omega (arith, l)) }
 
-  -- the own origin's value may be told at the start
+  -- the own origin's value may be sent at the start
   pub own_small : IsNet net → (dest : ℕ) (row : Option (Chosen S)) → option_map (hop_at value net i) row ≡ own_hop net dest i → IfSome (told_of value row) (AtMost (greatest_at 0))
   own_small n dest None e = tt
   own_small n dest (Some r) e = (own_may net n dest i 0 (hop_at value net i r) (own_is net dest i (hop_at value net i r) (sym e))).small
 
-  -- where there is a row it is told, and else nothing is
+  -- where there is a row it is sent, and else nothing is
   pub told_some : (dest : ℕ) (row : Option (Chosen S)) (out new : List (ℕ × PureVector)) → option_map (hop_at value net i) row ≡ own_hop net dest i → is_some row ≡ true
       → new ≡ out ++ told_on (arcs_to net i) (record { dest = dest; value = told_of value row; stamp = 0 }) → new ≡ out ++ begun_of net i dest
   told_some dest row out new e some f =

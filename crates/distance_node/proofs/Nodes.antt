@@ -204,7 +204,7 @@ module _ {S : Type 0} (value : S → PureValue) (net : PureNet) (number : ℕ) w
           ∙ (ap (changed_at (hops_at value net number rows) dest) row_is ∙ ap (λ z. changed_at (hops_at value net number rows) z (choice net m.dest number (λ a. heard_with (heard_by value net number heard) arc m.dest m.value a m.dest))) dest_is))
           ∙ ap (λ s. (taken s arc m clock).0) (sym (state_is begun heard rows last))))
 
-      -- what is told of the row
+      -- what is sent of the row
       pub told_is_taken : (begun : Bool) (sent : List (ℕ × PureVector))
           → sent ≡ cond (same_told (told_of value (changed_row (entry_of rows dest) change)) (told_of value (entry_of rows dest))) []
           (told_on (arcs_to net number) (record { dest = dest; value = told_of value (changed_row (entry_of rows dest) change); stamp = clock }))

@@ -1,4 +1,4 @@
--- What is told on the arcs of some numbers.
+-- What is sent on the arcs of some numbers.
 use Rattle.std.proofs.Common.{◌≡◌, ℕ, List, [], ◌∷◌, map, refl}
 use Rattle.meta_base.specs.declared.ids.ArcId.{ArcId}
 use Rattle.net_graph.specs.Nets.{PureArc}

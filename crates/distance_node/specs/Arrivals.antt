@@ -1,4 +1,4 @@
--- What a node is told on an arc, and what it heard then.
+-- What a node is sent on an arc, and what it heard then.
 use Rattle.std.specs.Prelude.{◌≡◌, ℕ, ◌*◌, ◌^◌, ◌<◌, ◌≤◌, List, Option, Some, IfSome, length, option_map, slice_get}
 use Rattle.alg_model.specs.Bounds.{AtMost}
 use Rattle.alg_model.specs.Expressions.{PureValue}
@@ -8,7 +8,7 @@ use Rattle.distance_node.specs.declared.site.Arrival.{Arrival}
 use Rattle.distance_node.specs.Node.{heard_with}
 use Rattle.distance_node.specs.Places.{heard_by}
 
--- the arc stands at its place among the node's arcs, the destination is the network's, and the value was told before the
+-- the arc stands at its place among the node's arcs, the destination is the network's, and the value was sent before the
 -- clock
 pub record IsArrival {S : Type 0} (is_sig : S → Type 0) (value : S → PureValue) (net : PureNet) (i : ℕ) (t : Arrival S) : Type 0 where
   pub from : PureArc
@@ -18,6 +18,6 @@ pub record IsArrival {S : Type 0} (is_sig : S → Type 0) (value : S → PureVal
   pub told : IfSome t.value.now (λ s. is_sig s × AtMost (t.clock * 2 ^ 64) (value s))
   pub early : t.clock ≤ MAX_CLOCK
 
--- what was heard on each arc of the destination, with what is told
+-- what was heard on each arc of the destination, with what is sent
 abbrev pub heard_told : {S : Type 0} → (S → PureValue) → PureNet → ℕ → List (Option S) → Arrival S → ℕ → Option PureValue
 heard_told value net i heard t a = heard_with (heard_by value net i heard) t.arc.0 t.dest.0 (option_map value t.value.now) a t.dest.0

@@ -22,7 +22,7 @@ pub record IsHeard (net : PureNet) (dest clock : ℕ) (v : PureValue) : Type 0 w
   pub value_in : In (carrier net) v
   pub small : AtMost (clock * 2 ^ 64) v
 
--- Every message fits, and what a node heard was told before its clock; each row is its node's choice from what it heard;
+-- Every message fits, and what a node heard was sent before its clock; each row is its node's choice from what it heard;
 -- what a listener heard of a destination, with what is on its way to it, is the value of the speaker's row.
 pub record IsCoherent (net : PureNet) (c : Machine DvState PureVector) : Type 0 where
   pub running : IsRunning distance net c

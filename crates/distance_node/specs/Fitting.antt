@@ -60,14 +60,14 @@ later_room s t l =
 pub clock_room : (s t : ℕ) → s ≤ t → s * 2 ^ 64 ≤ t * 2 ^ 64
 clock_room s t l = mul-le s (2 ^ 64) t (2 ^ 64) l (omega arith)
 
--- what may be told at a clock may have been heard at a later one
+-- what may be sent at a clock may have been heard at a later one
 pub told_is_heard : (net : PureNet) (dest s t : ℕ) (v : PureValue) → s < t → MayTell net dest s v → IsHeard net dest t v
 told_is_heard net dest s t v l m = record { dest_in = m.dest_in; value_in = m.value_in; small = at_most_more (greatest_at s) (t * 2 ^ 64) v (later_room s t l) m.small }
 
 pub heard_later : (net : PureNet) (dest s t : ℕ) (v : PureValue) → s ≤ t → IsHeard net dest s v → IsHeard net dest t v
 heard_later net dest s t v l h = record { dest_in = h.dest_in; value_in = h.value_in; small = at_most_more (s * 2 ^ 64) (t * 2 ^ 64) v (clock_room s t l) h.small }
 
--- ---- what is told
+-- ---- what is sent
 
 pub same_told_is : (u v : Option PureValue) → same_told u v ≡ true → u ≡ v
 same_told_is None None e = refl

@@ -71,22 +71,22 @@ best_of c hops = find (is_unbeaten c hops) hops
 abbrev pub choice : PureNet → ℕ → ℕ → (ℕ → Option PureValue) → Option Hop
 choice net dest i heard = best_of (carrier net) (hops_of (offers net dest i heard))
 
--- ---- what is told
+-- ---- what is sent
 
--- the greatest number of a value that is told at a clock: a label adds less than 2 ^ 64, and the clock rises with each
+-- the greatest number of a value that is sent at a clock: a label adds less than 2 ^ 64, and the clock rises with each
 -- arc that a value passes
 abbrev pub greatest_at : ℕ → ℕ
 greatest_at clock = (clock + 1) * 2 ^ 64
 
--- the value may be told at a clock in the network
+-- the value may be sent at a clock in the network
 abbrev pub may_be_told : PureNet → ℕ → PureValue → Bool
 may_be_told net clock v = is_in (carrier net) v && is_at_most (greatest_at clock) v
 
--- the destination is the network's, and the value, if there is one, may be told at the message's clock
+-- the destination is the network's, and the value, if there is one, may be sent at the message's clock
 abbrev pub fits_in : PureNet → PureVector → Bool
 fits_in net m = nat_lt m.dest (length net.dests) && option_map_or (may_be_told net m.stamp) m.value true
 
--- what is told of a row
+-- what is sent of a row
 abbrev pub vector_of : ℕ → Option Hop → ℕ → PureVector
 vector_of dest row stamp = record { dest = dest; value = value_of row; stamp = stamp }
 
@@ -96,7 +96,7 @@ told_on arcs m = map (λ (a : PureArc). (a.id, m)) arcs
 
 -- ---- begin and step
 
--- at the start a row with a value is told to all that listen to the node
+-- at the start a row with a value is sent to all that listen to the node
 abbrev pub begun_of : PureNet → ℕ → ℕ → List (ℕ × PureVector)
 begun_of net i dest = cond (is_some (own_hop net dest i)) (told_on (arcs_to net i) (vector_of dest (own_hop net dest i) 0)) []
 
@@ -104,7 +104,7 @@ abbrev pub all_begun : PureNet → ℕ → List ℕ → List (ℕ × PureVector)
 all_begun net i [] = []
 all_begun net i (dest ∷ dests) = begun_of net i dest ++ all_begun net i dests
 
--- each row is the own origin's, and it is told in order of the destinations
+-- each row is the own origin's, and it is sent in order of the destinations
 abbrev pub Begin : DvState → DvState × List (ℕ × PureVector)
 Begin s = (
   record s { is_begun = true; rows = λ dest. own_hop s.net dest s.number; last = 0 },

@@ -99,7 +99,7 @@ pub arc_offered : (net : PureNet) (dest i : ℕ) (heard : ℕ → Option PureVal
     → App net.alg.expression a.label u ≡ Some v → entry_of (offers net dest i heard) (suc k) ≡ Some (hop v (Some a.head))
 arc_offered net dest i heard k a u v e f g = entry_map (λ (a : PureArc). hop_by net a (heard a.id)) (arcs_from net i) k ∙ rw (e, f, g) refl
 
--- what may be told of an offer
+-- what may be sent of an offer
 pub record MayTell (net : PureNet) (dest clock : ℕ) (v : PureValue) : Type 0 where
   pub dest_in : dest < length net.dests
   pub value_in : In (carrier net) v
@@ -139,7 +139,7 @@ arc_may net n dest i clock heard g are o =
       small = at_most_more (clock * 2 ^ 64 + max_label_number) (greatest_at clock) g.value (arc_room clock) bound;
     }
 
--- all offers may be told
+-- all offers may be sent
 pub offers_may : (net : PureNet) → IsNet net → (dest i clock : ℕ) (heard : ℕ → Option PureValue) → AreHeard net dest i clock heard → (k : ℕ) (g : Hop) → entry_of (offers net dest i heard) k ≡ Some g
     → MayTell net dest clock g.value
 offers_may net n dest i clock heard are k g e = elim (offer_is net dest i heard k g e) [

@@ -1,4 +1,4 @@
--- What is told of rows of the program.
+-- What is sent of rows of the program.
 use Rattle.std.specs.Prelude.{Option, option_map}
 use Rattle.alg_model.specs.Expressions.{PureValue}
 use Rattle.distance_node.specs.declared.chosen.Chosen.{Chosen}

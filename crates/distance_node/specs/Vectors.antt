@@ -7,7 +7,7 @@ use Rattle.alg_model.specs.Codes.{coded_value}
 use Rattle.alg_model.specs.Expressions.{PureValue}
 use Rattle.distance_node.specs.Node.{PureVector, greatest_at}
 
--- what is told at a clock stands for a value of the algebra with small numbers, if it is there
+-- what is sent at a clock stands for a value of the algebra with small numbers, if it is there
 abbrev pub IsTold : {S : Type 0} → (S → Type 0) → (S → PureValue) → ℕ → Option S → Type 0
 IsTold is_sig value clock told = IfSome told (λ s. is_sig s × AtMost (greatest_at clock) (value s))
 

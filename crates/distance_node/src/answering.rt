@@ -25,7 +25,7 @@ pub(crate) struct Reply<A: Algebra, M: Mark<A>> {
     pub sent: Outgoing<Vector<A, M>>,
 }
 
-// What a node makes of what it is told of a destination, whose row was its choice before.
+// What a node makes of what it is sent of a destination, whose row was its choice before.
 #[tactic(auto, using(crate::specs::Fitting::same_told_self))]
 pub(crate) fn reply_to<A: Algebra, M: Mark<A>>(
     alloc: Global,

@@ -110,7 +110,7 @@ fn keep_better<A: Algebra>(
     }
 }
 
-// What was told, or the entry of what was heard.
+// What was sent, or the entry of what was heard.
 fn known_at<'h, S>(
     heard: &'h [Option<S>],
     entry: usize,
@@ -126,7 +126,7 @@ fn known_at<'h, S>(
     &heard[entry]
 }
 
-// The node's choice of what it is offered, once it is told that. Offers are made in the memory of the spare value.
+// The node's choice of what it is offered, once it is sent that. Offers are made in the memory of the spare value.
 pub(crate) fn choose<A: Algebra>(
     alloc: Global,
     site: &Site<'_, A>,

@@ -2,7 +2,7 @@
 //! paths, the rows with next hops that they choose, and what holds of every machine of such nodes. It stands on
 //! `node_core`, whose machines run the nodes, on `arc_labels`, which lends the labels, on `best_first` and
 //! `settled_laws`, with whose laws the values of quiet machines are compared, and on `net_graph`; nothing in it knows of
-//! paths that are told, or of threads.
+//! paths that are sent, or of threads.
 #![tactic(auto)]
 
 mod answering;

@@ -29,7 +29,7 @@ use std::marker::{Model, PhantomData};
 use std::mem::replace;
 
 /// A node that routes by distance vector over an algebra, as a router of RIP does (RFC 2453, section 3): it keeps the
-/// values that its neighbours told it last, chooses for each destination the best of what it makes of them, and tells
+/// values that its neighbours sent it last, chooses for each destination the best of what it makes of them, and tells
 /// those that listen to it when the value of its choice changes. Contracts see it by lists; `state_of` gives its state.
 #[derive(Drop)]
 pub struct DvNode<'a, A: Algebra, M: Mark<A>> {

@@ -68,7 +68,7 @@ fn settle<A: Algebra>(
     }
 }
 
-// What becomes of the row of a destination, which was the node's choice, once the node is told something. The new offer
+// What becomes of the row of a destination, which was the node's choice, once the node is sent something. The new offer
 // is compared with the row alone; the others are asked only where the row's own offer got worse.
 pub(crate) fn rechoose<A: Algebra>(
     alloc: Global,

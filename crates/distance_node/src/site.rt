@@ -13,7 +13,7 @@ pub(crate) struct Site<'s, A: Algebra> {
     pub speakers: &'s [Neighbour<'s, A::Lab>],
 }
 
-// What a node is told of a destination: on which arc, where that one stands among the node's arcs, the value, and the
+// What a node is sent of a destination: on which arc, where that one stands among the node's arcs, the value, and the
 // clock that the node gets by it.
 #[derive(Drop)]
 pub(crate) struct Arrival<'t, S> {

@@ -39,7 +39,7 @@ module _ (net : PureNet) (origins : List PureOrigin) (same : (dest i : ℕ) → 
   best_here : BestFirst other dest table → BestFirst net dest table
   best_here b = record { table_of = record { rows = rows_here 0 table b.table_of.rows; count = b.table_of.count }; order = b.order; fixed = fixed_here [] b.order b.fixed }
 
--- a table on a network that is as told is one on what was told
+-- a table on a network that is as told is one on what was sent
 pub best_as_told : (net told : PureNet) (known : ℕ → Bool) (dest : ℕ) (table : List PureRow) → IsAsTold net known told → BestFirst told dest table → BestFirst (Told net known) dest table
 best_as_told net told known dest table is_told best =
     best_here (Told net known) told.origins (λ d i. ap (λ (n : PureNet). origin_value n d i) (sym is_told.but_origins) ∙ is_told.origins d i) dest table

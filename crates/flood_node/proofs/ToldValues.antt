@@ -1,4 +1,4 @@
--- The values of the origins that cards tell of are those of the network that was told.
+-- The values of the origins that cards tell of are those of the network that was sent.
 use Rattle.std.proofs.Common.{◌≡◌, ℕ, zero, suc, ◌<◌, ◌≤◌, List, [], ◌∷◌, ◌++◌, Bool, true, false, ◌&&◌, ◌==◌, ltb, length, cond, Option, Some, None, refl, sym, ap, ◌∙◌, subst, arith}
 use mathlib.Core.Path.{fun_ext}
 use Rattle.std.specs.Prelude.{option_map}
@@ -140,7 +140,7 @@ module _ (net : PureNet) where
           let within : i < length net.nodes = (of_some (IsOrigin net dest i) (origin_value net dest i) v (origins_are net h dest i) e).node_in in
           absurd (omega (arith, within, l))
 
-  -- so what the cards of all nodes say is what was told
+  -- so what the cards of all nodes say is what was sent
   pub told_values : IsNet net → (known : ℕ → Bool) (dest i : ℕ) → value_of dest i (told_origins net known (length net.nodes)) ≡ origin_value (Told net known) dest i
   told_values h known dest i = told_value known dest i (length net.nodes) ∙ by (known i) refl (ltb i (length net.nodes)) refl
     where

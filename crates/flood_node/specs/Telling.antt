@@ -1,4 +1,4 @@
--- What is told on which arc: a message to all that listen to a node stands once on each arc that it speaks on. Lemmas,
+-- What is sent on which arc: a message to all that listen to a node stands once on each arc that it speaks on. Lemmas,
 -- so that proofs of other crates may cite them.
 use Rattle.std.proofs.Common.{◌≡◌, ℕ, zero, suc, ◌+◌, ◌<◌, ◌≤◌, List, [], ◌∷◌, Bool, true, false, length, filter, cond, slice_get, Option, Some, None, option_map, refl, sym, ap, ◌∙◌, arith}
 use Rattle.std.specs.Prelude.{◌==◌}
@@ -22,7 +22,7 @@ leads_to i arcs k = option_map_or (λ (a : PureArc). a.head == i) (slice_get arc
 abbrev pub heard_by : ℕ → List PureArc → List PureArc
 heard_by i arcs = filter (λ (a : PureArc). a.head == i) arcs
 
--- nothing is told on an arc of a lower number
+-- nothing is sent on an arc of a lower number
 told_early : (n b i : ℕ) (arcs : List PureArc) (m : PureFlooded) → AreNumbered n arcs → b < n → on_arc b (told_on (heard_by i arcs) m) ≡ []
 told_early n b i [] m h l = refl
 told_early n b i (a ∷ arcs) m h l = by (a.head == i) (told_early (n + 1) b i arcs m h.1 (omega arith))
@@ -71,7 +71,7 @@ told_few net i b m n = rw (told_once net i b m n) (by (speaks net i b))
     by true = omega arith
     by false = omega arith
 
--- whatever holds of a message holds of each that is told
+-- whatever holds of a message holds of each that is sent
 pub told_all : (P : PureFlooded → Type 0) (arcs : List PureArc) (m : PureFlooded) → P m → AllByRecursion (λ (q : ℕ × PureFlooded). P q.1) (told_on arcs m)
 told_all P [] m h = tt
 told_all P (a ∷ arcs) m h = (h, told_all P arcs m h)

@@ -1,4 +1,4 @@
--- The network that a node was told of, and the rows that it computes on it.
+-- The network that a node heard of, and the rows that it computes on it.
 use Rattle.std.specs.Prelude.{◌≡◌, ℕ, ◌+◌, ◌<◌, Bool, true, List, [], ◌∷◌, Some, length, filter, slice_get}
 use Rattle.std.specs.List.{AllByRecursion}
 use Rattle.net_graph.specs.Changes.{numbered_from}
@@ -27,7 +27,7 @@ abbrev pub AreBegun : PureNet → ℕ → List FloodState → Type 0
 AreBegun net i [] = length net.nodes ≡ i
 AreBegun net i (s ∷ nodes) = (s.net ≡ net) × (s.number ≡ i) × (s.is_begun ≡ true) × AreBegun net (i + 1) nodes
 
--- the node's row in the table that is made best first on what it was told
+-- the node's row in the table that is made best first on what it heard
 pub record IsToldRow (net : PureNet) (dest : ℕ) (s : FloodState) (row : PureRow) : Type 0 where
   pub table : List PureRow
   pub best_first : BestFirst (Told net (holds s)) dest table

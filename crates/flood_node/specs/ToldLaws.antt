@@ -1,4 +1,4 @@
--- The network that a node was told of is a network, and a part of the whole one. Lemmas, so that proofs of other crates
+-- The network that a node heard of is a network, and a part of the whole one. Lemmas, so that proofs of other crates
 -- may cite them.
 use Rattle.std.proofs.Common.{◌≡◌, ℕ, ◌+◌, ◌≤◌, List, [], ◌∷◌, Bool, true, false, length, filter, cond, Option, None, refl, sym, ap, ◌∙◌, arith}
 use Rattle.std.specs.Prelude.{option_map}
@@ -139,7 +139,7 @@ module _ (net : PureNet) (known : ℕ → Bool) where
       by true h false e r = rw (h, e) r
       by false h c e r = rw h r
 
-  -- so what a node was told is a part of the network
+  -- so what a node heard is a part of the network
   pub told_is_part : IsPart net (Told net known) known
   told_is_part =
       record {
