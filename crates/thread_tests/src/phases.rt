@@ -10,7 +10,7 @@ use testkit_nodes::{NOTHING, are_rows};
 use testkit_readers::network;
 
 // The deliveries of a text, each by its clock and its arc.
-fn journal_of(alloc: Global, text: &str) -> Result<Vec<Delivery>, Fail> {
+pub(crate) fn journal_of(alloc: Global, text: &str) -> Result<Vec<Delivery>, Fail> {
     let mut journal = Vec::new(alloc);
     if text == NOTHING {
         return Ok(journal);
