@@ -148,7 +148,7 @@ const METALS: &str =
     "table { gold < silver; same: gold -> gold, silver -> silver; plain: gold -> silver, silver -> silver; lesser: silver -> silver }";
 
 const CASES: &[Case] = &[
-    // The start: each origin's row is told, on each arc that its node speaks on.
+    // The start: each origin's row is sent, on each arc that its node speaks on.
     (
         HOPS,
         HUB,
@@ -156,7 +156,7 @@ const CASES: &[Case] = &[
         "0 0 1 1 0",
         "none / none / none / 0 here / none",
     ),
-    // A message, and what is told on.
+    // A message, and what is sent on.
     (
         HOPS,
         HUB,
@@ -164,7 +164,7 @@ const CASES: &[Case] = &[
         "0 1 1 0 0",
         "none / none / 1 via d / 0 here / none",
     ),
-    // Of equal offers the first in file order counts, whichever came first. A next hop that changes alone isn't told.
+    // Of equal offers the first in file order counts, whichever came first. A next hop that changes alone isn't sent.
     (
         HOPS,
         HUB,

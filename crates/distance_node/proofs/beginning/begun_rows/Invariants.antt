@@ -5,7 +5,7 @@ use Rattle.distance_node.specs.Node.{all_begun}
 use Rattle.distance_node.specs.Vectors.{noted}
 use Rattle.distance_node.proofs.beginning.begun_rows.Given as goal
 
--- the rows so far are the own origins', and were told
+-- the rows so far are the own origins', and were sent
 abbrev pub invariant-loop-place : goal.invariant-loop-place
 invariant-loop-place g l =
     let A = g.A.Algebra in

@@ -4,7 +4,7 @@ use Rattle.distance_node.specs.Tellings.{told_of}
 use Rattle.distance_node.specs.Vectors.{noted}
 use Rattle.distance_node.proofs.telling.tell.Given as goal
 
--- it was told on the arcs so far
+-- it was sent on the arcs so far
 abbrev pub invariant-loop-arc : goal.invariant-loop-arc
 invariant-loop-arc g l =
     let value = g.A.Algebra.sig_value l.fn.site.algebra.now in
