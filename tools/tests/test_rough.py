@@ -188,12 +188,22 @@ class Uses(unittest.TestCase):
 
 
 class Load(Folder):
-    """load on the built program, and how many deliveries a flood makes."""
+    """load on the built program, how many deliveries a flood makes, and where next hops lead."""
 
     def test_deliveries(self):
         # d reaches itself alone, and b and c listen to it; c reaches two nodes, and b listens; b three, and a listens
         net = b'node a b c d\nlink b d : 1\nlink c d : 1\nlink b c : 1\nlink a b : 1\norigin x at d : 0\n'
         self.assertEqual(loaded('load').deliveries_due(net), 7)
+
+    def test_next_hops(self):
+        rows = ['a x 2 via b', 'b x 1 via d', 'c x none', 'd x 0 here', 'a y (1,{}) here']
+        self.assertEqual(loaded('load').rows_along_next_hops(rows),
+                         ['a x 2 a b d', 'b x 1 b d', 'c x none', 'd x 0 d', 'a y (1,{}) a'])
+
+    def test_next_hops_that_go_round(self):
+        load = loaded('load')
+        with self.assertRaises(load.Wrong):
+            load.rows_along_next_hops(['a x 2 via b', 'b x 1 via a'])
 
     def test_processors(self):
         self.assertEqual(loaded('load').processors_of('0,2-4'), {0, 2, 3, 4})
