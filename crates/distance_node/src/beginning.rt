@@ -32,7 +32,7 @@ pub(crate) fn begun_rows<A: Algebra, M: Mark<A>>(
         map noted r.1 ≡ all_begun at.net.now at.node.0 (range_with_len 0 (length own.now))) }
 {
     let mut rows = Vec::with_capacity(alloc, own.len())?;
-    let mut out = List::new(alloc);
+    let mut out = Vec::new(alloc);
     for place in 0..own.len() {
         let row = own_offer(alloc, site.algebra, &own[place])?;
         if row.is_some() {
@@ -41,5 +41,5 @@ pub(crate) fn begun_rows<A: Algebra, M: Mark<A>>(
         }
         rows.push(row)?;
     }
-    Ok((rows, out))
+    Ok((rows, List::from_vec(out)))
 }

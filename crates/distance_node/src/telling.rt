@@ -10,7 +10,7 @@ use crate::chosen::Chosen;
 use crate::site::Site;
 use crate::{Mark, Vector};
 use alg_model::{Algebra, same_value};
-use meta_base::{DestId, List, NoMemory};
+use meta_base::{ArcId, DestId, List, NoMemory};
 use node_core::Outgoing;
 use std::alloc::Global;
 use std::cmp::Ordering;
@@ -56,19 +56,21 @@ pub(crate) fn tell<A: Algebra, M: Mark<A>>(
     dest: DestId,
     row: &Option<Chosen<A::Sig>>,
     clock: u64,
-    out: &mut Outgoing<Vector<A, M>>,
+    out: &mut Vec<(ArcId, Vector<A, M>)>,
 ) -> Result<(), NoMemory>
     requires mark { M.algebra ≡ Some site.now.algebra.now }
     requires node { site.now.node.0 < length site.now.net.now.nodes }
     requires sig { IfSome row.now (λ r. A.is_sig site.now.algebra.now r.sig) }
     requires small { IfSome (told_of (A.sig_value site.now.algebra.now) row.now) (AtMost (greatest_at clock)) }
-    ensures { let at = site.now in OnOk result (map noted out.new ≡ map noted out.old
+    ensures { let at = site.now in OnOk result (map noted out.new.items ≡ map noted out.old.items
         ++ told_on (arcs_to at.net.now at.node.0)
         (record { dest = dest.0; value = told_of (A.sig_value at.algebra.now) row.now; stamp = clock })) }
 {
-    for arc in site.net.listeners(site.node) {
+    let listeners = site.net.listeners(site.node);
+    out.reserve(listeners.len())?;
+    for arc in listeners {
         let value = copied(alloc, site.algebra, row)?;
-        out.push((*arc, Vector::new(site.algebra, dest, value, clock)))?;
+        out.push_reserved((*arc, Vector::new(site.algebra, dest, value, clock)));
     }
     Ok(())
 }
@@ -145,9 +147,9 @@ pub(crate) fn news<A: Algebra, M: Mark<A>>(
         cond (same_told (told_of value row.now) (told_of value before.now)) [] (told_on (arcs_to at.net.now at.node.0)
         (record { dest = dest.0; value = told_of value row.now; stamp = clock }))) }
 {
-    let mut out = List::new(alloc);
+    let mut out = Vec::new(alloc);
     if !tells_same(alloc, site.algebra, row, before)? {
         tell(alloc, site, dest, row, clock, &mut out)?;
     }
-    Ok(out)
+    Ok(List::from_vec(out))
 }

@@ -48,10 +48,10 @@ loop-place-preserved g c =
       rows = subst (AreBegun (A.is_sig s) (A.sig_value s) net i (k + 1)) (sym c.in_ok-push.ensures.items)
           (rows_next (A.is_sig s) (A.sig_value s) net i k c.loop-place.rows.items row c.loop-place.invariant.rows c.in_ok-row.ensures.sig c.in_ok-row.ensures.place hop);
       told = elim c.if-is_some.branch [
-        | then-is_some+in_ok-tell w ↦ told_next net i k (map noted c.loop-place.out) (map noted c.if-is_some.out) c.loop-place.invariant.told
-            (told_some (A.is_sig s) (A.sig_value s) net i k row (map noted c.loop-place.out) (map noted c.if-is_some.out) hop (sym c.is_some.ensures ∙ w.if-is_some.true) (ap (map noted) w.out-is ∙ w.in_ok-tell.ensures))
-        | else-is_some w ↦ told_next net i k (map noted c.loop-place.out) (map noted c.if-is_some.out) c.loop-place.invariant.told
-            (told_none (A.is_sig s) (A.sig_value s) net i k row (map noted c.loop-place.out) (map noted c.if-is_some.out) hop (sym c.is_some.ensures ∙ w.if-is_some.false) (ap (map noted) w.out-is))
+        | then-is_some+in_ok-tell w ↦ told_next net i k (map noted c.loop-place.out.items) (map noted c.if-is_some.out.items) c.loop-place.invariant.told
+            (told_some (A.is_sig s) (A.sig_value s) net i k row (map noted c.loop-place.out.items) (map noted c.if-is_some.out.items) hop (sym c.is_some.ensures ∙ w.if-is_some.true) (ap (λ o. map noted o.items) w.out-is ∙ w.in_ok-tell.ensures))
+        | else-is_some w ↦ told_next net i k (map noted c.loop-place.out.items) (map noted c.if-is_some.out.items) c.loop-place.invariant.told
+            (told_none (A.is_sig s) (A.sig_value s) net i k row (map noted c.loop-place.out.items) (map noted c.if-is_some.out.items) hop (sym c.is_some.ensures ∙ w.if-is_some.false) (ap (λ o. map noted o.items) w.out-is))
       ];
     }
 
@@ -59,4 +59,4 @@ pub returns-clause-told : goal.returns-clause-told
 returns-clause-told g c =
     let at = c.args.site.now in
     let whole : c.loop-place.place ≡ length c.args.own.now = (let few = c.loop-place-test.false in let more = c.loop-place.auto.place-end in omega (arith, few, more)) in
-    c.loop-place.invariant.told ∙ ap (λ z. all_begun at.net.now at.node.0 (range_with_len 0 z)) whole
+    ap (map noted) c.from_vec.ensures ∙ (c.loop-place.invariant.told ∙ ap (λ z. all_begun at.net.now at.node.0 (range_with_len 0 z)) whole)

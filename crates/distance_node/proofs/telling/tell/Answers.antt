@@ -11,9 +11,9 @@ use Rattle.distance_node.proofs.telling.tell.Goals as goal
 pub returns : goal.returns
 returns g c =
     let at = c.args.site.now in
-    let items = c.listeners-arc-items.result.now in
+    let items = c.listeners-listeners.result.now in
     let m : PureVector = record { dest = c.args.dest.0; value = told_of (g.A.Algebra.sig_value at.algebra.now) c.args.row.now; stamp = c.args.clock } in
     let past : length items ≤ c.loop-arc.arc-index = (let l = c.loop-arc-test.false in omega (arith, l)) in
     c.loop-arc.invariant.told
-    ∙ (ap (λ (l : List ArcId). map noted c.args.out.now ++ map {B = ℕ × PureVector} (λ (a : ArcId). (a.0, m)) l) (take_whole items c.loop-arc.arc-index past)
-    ∙ ap (λ (l : List (ℕ × PureVector)). map noted c.args.out.now ++ l) (told_ids items (arcs_to at.net.now at.node.0) m c.listeners-arc-items.ensures))
+    ∙ (ap (λ (l : List ArcId). map noted c.args.out.now.items ++ map {B = ℕ × PureVector} (λ (a : ArcId). (a.0, m)) l) (take_whole items c.loop-arc.arc-index past)
+    ∙ ap (λ (l : List (ℕ × PureVector)). map noted c.args.out.now.items ++ l) (told_ids items (arcs_to at.net.now at.node.0) m c.listeners-listeners.ensures))
