@@ -10,6 +10,7 @@ use Rattle.std.proofs.lemmas.Option.{slice_get_within}
 use Rattle.alg_model.specs.Carriers.{In, Order}
 use Rattle.alg_model.specs.Expressions.{PureCarrier, PureValue}
 use Rattle.alg_model.specs.Laws.{total_preorder}
+use Rattle.arc_labels.specs.Images.{made_in}
 use Rattle.net_graph.specs.Nets.{PureNet}
 use Rattle.net_graph.specs.Routes.{is_less}
 use Rattle.net_graph.specs.Tables.{carrier}
@@ -261,3 +262,18 @@ better_is_best {S} value net i os made best all old is = by best made all is
         either false e =
             let apart : (b.offer == length os) ≡ false = (let l = inside in grind (arith, nat_tests)) in
             stays_worse (carrier net) os (os ++ Some (hop_at value net i (chosen_at (length os) s)) ∷ []) (length os) all (hop_at value net i (chosen_at (length os) s)) replaced b.offer (hop_at value net i b) b_in is apart (not_less (Order (carrier net) (value s) (value b.sig)) e) (λ l. absurd (omega (arith, l, inside)))
+
+-- a row moves to an offer that was made
+pub moved_is_made : {S : Type 0} (value : S → PureValue) (c : PureCarrier) (before : Option (Chosen S)) (offer : ℕ) (made : Bool) (place : Option S) → settled value c before offer (made_in made place) ≡ Moves → made_in made place ≡ place
+moved_is_made value c before offer made None e = refl
+moved_is_made value c before offer true (Some s) e = refl
+moved_is_made value c None offer false (Some s) e = absurd (cc)
+moved_is_made value c (Some b) offer false (Some s) e = absurd (by (b.offer == offer) e)
+  where
+    by : (t : Bool) → cond t Lost Stays ≡ Moves → ⊥
+    by true f = absurd (cc)
+    by false f = absurd (cc)
+
+pub made_is_there : {S : Type 0} (place : Option S) → made_in true place ≡ place
+made_is_there None = refl
+made_is_there (Some s) = refl

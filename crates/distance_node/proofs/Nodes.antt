@@ -15,10 +15,8 @@ use Rattle.net_graph.specs.Tables.{carrier}
 use Rattle.node_core.specs.Machine.{changed_at}
 use Rattle.node_core.specs.declared.node.TheConstants.{MAX_CLOCK}
 use Rattle.distance_node.specs.declared.chosen.Chosen.{Chosen}
-use Rattle.distance_node.specs.declared.chosen.Change.{Change}
-use Rattle.distance_node.specs.declared.chosen.Change.TheVariants.{Stays, Moves}
 use Rattle.distance_node.specs.Beginning.{AreBegun}
-use Rattle.distance_node.specs.Chosen.{IsBest, changed_row, changed_rows, entry_of, hop_at}
+use Rattle.distance_node.specs.Chosen.{IsBest, entry_of, hop_at}
 use Rattle.distance_node.specs.Choosing.{first_is_best, none_is_best, not_itself}
 use Rattle.distance_node.specs.Fitting.{clock_room}
 use Rattle.distance_node.specs.Node.{Hop, DvState, PureVector, Begin, value_of, choice, heard_with, hop_by, new_node, offers, own_hop, same_told, taken, told_on, vector_of}
@@ -46,36 +44,15 @@ pub best_is_choice : {S : Type 0} (value : S → PureValue) (net : PureNet) (des
 best_is_choice value net dest i heard None best = sym (none_is_best (carrier net) (offers net dest i heard) best)
 best_is_choice value net dest i heard (Some r) best = sym (first_is_best (carrier net) (offers net dest i heard) r.offer (hop_at value net i r) best)
 
--- what is changed to what it was is as it was
-changed_to_itself : {X : Type 0} (f : ℕ → X) (i : ℕ) → changed_at f i (f i) ≡ f
-changed_to_itself f i = fun_ext (λ j. by j (j == i) refl)
-  where
-    by : (j : ℕ) (b : Bool) → (j == i) ≡ b → cond b (f i) (f j) ≡ f j
-    by j true e = ap f (sym (eqb-true j i e))
-    by j false e = refl
-
 module _ {S : Type 0} (value : S → PureValue) (net : PureNet) (i : ℕ) where
   -- the rows, one of which changed
-  pub rows_changed : (rows : List (Option (Chosen S))) (dest : ℕ) (change : Change S) → dest < length rows
-      → hops_at value net i (changed_rows rows dest change) ≡ changed_at (hops_at value net i rows) dest (option_map (hop_at value net i) (changed_row (entry_of rows dest) change))
-  rows_changed rows dest Stays l = sym (changed_to_itself (hops_at value net i rows) dest)
-  rows_changed rows dest (Moves row) l = fun_ext (λ d. ap (option_map (hop_at value net i)) (entry_set rows dest row d l) ∙ by d (d == dest))
+  pub rows_changed : (rows : List (Option (Chosen S))) (dest : ℕ) (next : Option (Chosen S)) → dest < length rows
+      → hops_at value net i (set rows dest next) ≡ changed_at (hops_at value net i rows) dest (option_map (hop_at value net i) next)
+  rows_changed rows dest next l = fun_ext (λ d. ap (option_map (hop_at value net i)) (entry_set rows dest next d l) ∙ by d (d == dest))
     where
-      by : (d : ℕ) (b : Bool) → option_map (hop_at value net i) (cond b row (entry_of rows d)) ≡ cond b (option_map (hop_at value net i) row) (hops_at value net i rows d)
+      by : (d : ℕ) (b : Bool) → option_map (hop_at value net i) (cond b next (entry_of rows d)) ≡ cond b (option_map (hop_at value net i) next) (hops_at value net i rows d)
       by d true = refl
       by d false = refl
-
-  pub changed_count : (rows : List (Option (Chosen S))) (dest : ℕ) (change : Change S) → length (changed_rows rows dest change) ≡ length rows
-  changed_count rows dest Stays = refl
-  changed_count rows dest (Moves row) = set_length rows dest row
-
-  pub changed_entry : (rows : List (Option (Chosen S))) (dest d : ℕ) (change : Change S) → dest < length rows → entry_of (changed_rows rows dest change) d ≡ cond (d == dest) (changed_row (entry_of rows dest) change) (entry_of rows d)
-  changed_entry rows dest d Stays l = by (d == dest) refl
-    where
-      by : (b : Bool) → (d == dest) ≡ b → entry_of rows d ≡ cond b (entry_of rows dest) (entry_of rows d)
-      by true e = ap (entry_of rows) (eqb-true d dest e)
-      by false e = refl
-  changed_entry rows dest d (Moves row) l = entry_set rows dest row d l
 
 -- ---- states by fields
 
@@ -179,38 +156,38 @@ module _ {S : Type 0} (value : S → PureValue) (net : PureNet) (number : ℕ) w
 
   -- ---- a message more
 
-  module _ (heard new : List (Option S)) (rows : List (Option (Chosen S))) (last arc dest clock : ℕ) (told : Option S) (change : Change S) (m : PureVector)
+  module _ (heard new : List (Option S)) (rows : List (Option (Chosen S))) (last arc dest clock : ℕ) (told : Option S) (next : Option (Chosen S)) (m : PureVector)
       (dest_is : dest ≡ m.dest) (told_is : option_map value told ≡ m.value)
       (heard_is : heard_by value net number new ≡ heard_with (heard_by value net number heard) arc dest (option_map value told)) (within : dest < length rows)
-      (best : IsBest value net number (offers net dest number (λ a. heard_with (heard_by value net number heard) arc dest (option_map value told) a dest)) (changed_row (entry_of rows dest) change))
+      (best : IsBest value net number (offers net dest number (λ a. heard_with (heard_by value net number heard) arc dest (option_map value told) a dest)) next)
     where
       abbrev row : Option Hop
-      row = option_map (hop_at value net number) (changed_row (entry_of rows dest) change)
+      row = option_map (hop_at value net number) next
 
       abbrev chosen : Option Hop
       chosen = choice net m.dest number (λ a. heard_with (heard_by value net number heard) arc m.dest m.value a m.dest)
 
       row_is : row ≡ choice net m.dest number (λ a. heard_with (heard_by value net number heard) arc m.dest m.value a m.dest)
       row_is =
-          best_is_choice value net dest number (λ a. heard_with (heard_by value net number heard) arc dest (option_map value told) a dest) (changed_row (entry_of rows dest) change) best
+          best_is_choice value net dest number (λ a. heard_with (heard_by value net number heard) arc dest (option_map value told) a dest) next best
           ∙ (ap (λ z. choice net dest number (λ a. heard_with (heard_by value net number heard) arc dest z a dest)) told_is
           ∙ ap (λ z. choice net z number (λ a. heard_with (heard_by value net number heard) arc z m.value a z)) dest_is)
 
-      pub taken_is : (begun : Bool) → state_of (node_with begun new (changed_rows rows dest change) clock) ≡ (taken (state_of (node_with begun heard rows last)) arc m clock).0
+      pub taken_is : (begun : Bool) → state_of (node_with begun new (set rows dest next) clock) ≡ (taken (state_of (node_with begun heard rows last)) arc m clock).0
       taken_is begun =
-          state_is begun new (changed_rows rows dest change) clock
-          ∙ (ap (λ h. state_with net number begun h (hops_at value net number (changed_rows rows dest change)) clock) (heard_is ∙ (ap (heard_with (heard_by value net number heard) arc dest) told_is ∙ ap (λ z. heard_with (heard_by value net number heard) arc z m.value) dest_is))
-          ∙ (ap (λ r. state_with net number begun (heard_with (heard_by value net number heard) arc m.dest m.value) r clock) (rows_changed value net number rows dest change within
+          state_is begun new (set rows dest next) clock
+          ∙ (ap (λ h. state_with net number begun h (hops_at value net number (set rows dest next)) clock) (heard_is ∙ (ap (heard_with (heard_by value net number heard) arc dest) told_is ∙ ap (λ z. heard_with (heard_by value net number heard) arc z m.value) dest_is))
+          ∙ (ap (λ r. state_with net number begun (heard_with (heard_by value net number heard) arc m.dest m.value) r clock) (rows_changed value net number rows dest next within
           ∙ (ap (changed_at (hops_at value net number rows) dest) row_is ∙ ap (λ z. changed_at (hops_at value net number rows) z (choice net m.dest number (λ a. heard_with (heard_by value net number heard) arc m.dest m.value a m.dest))) dest_is))
           ∙ ap (λ s. (taken s arc m clock).0) (sym (state_is begun heard rows last))))
 
       -- what is sent of the row
       pub told_is_taken : (begun : Bool) (sent : List (ℕ × PureVector))
-          → sent ≡ cond (same_told (told_of value (changed_row (entry_of rows dest) change)) (told_of value (entry_of rows dest))) []
-          (told_on (arcs_to net number) (record { dest = dest; value = told_of value (changed_row (entry_of rows dest) change); stamp = clock }))
+          → sent ≡ cond (same_told (told_of value next) (told_of value (entry_of rows dest))) []
+          (told_on (arcs_to net number) (record { dest = dest; value = told_of value next; stamp = clock }))
           → sent ≡ (taken (state_of (node_with begun heard rows last)) arc m clock).1
       told_is_taken begun sent e =
-          e ∙ (ap (λ v. cond (same_told v (told_of value (entry_of rows dest))) [] (told_on (arcs_to net number) (record { dest = dest; value = v; stamp = clock }))) (value_is (changed_row (entry_of rows dest) change))
+          e ∙ (ap (λ v. cond (same_told v (told_of value (entry_of rows dest))) [] (told_on (arcs_to net number) (record { dest = dest; value = v; stamp = clock }))) (value_is next)
           ∙ (ap (λ v. cond (same_told (value_of row) v) [] (told_on (arcs_to net number) (vector_of dest row clock))) (value_is (entry_of rows dest))
           ∙ (ap (λ r. cond (same_told (value_of r) (value_of (hops_at value net number rows dest))) [] (told_on (arcs_to net number) (vector_of dest r clock))) row_is
           ∙ (ap (λ z. cond (same_told (value_of chosen) (value_of (hops_at value net number rows z))) [] (told_on (arcs_to net number) (vector_of z chosen clock))) dest_is
@@ -246,34 +223,34 @@ module _ {S : Type 0} (value : S → PureValue) (net : PureNet) (number : ℕ) w
     early = early;
   }
 
-  pub rows_more : (is_sig : S → Type 0) (heard new : List (Option S)) (rows : List (Option (Chosen S))) (arc dest : ℕ) (told : Option PureValue) (change : Change S) → HasRows is_sig value net number heard rows
+  pub rows_more : (is_sig : S → Type 0) (heard new : List (Option S)) (rows : List (Option (Chosen S))) (arc dest : ℕ) (told : Option PureValue) (next : Option (Chosen S)) → HasRows is_sig value net number heard rows
       → heard_by value net number new ≡ heard_with (heard_by value net number heard) arc dest told → dest < length rows
-      → IfSome (changed_row (entry_of rows dest) change) (λ r. is_sig r.sig)
-      → IsBest value net number (offers net dest number (λ a. heard_with (heard_by value net number heard) arc dest told a dest)) (changed_row (entry_of rows dest) change)
-      → HasRows is_sig value net number new (changed_rows rows dest change)
-  rows_more is_sig heard new rows arc dest told change has heard_is within sig best = record { sigs = sigs; best = bests }
+      → IfSome next (λ r. is_sig r.sig)
+      → IsBest value net number (offers net dest number (λ a. heard_with (heard_by value net number heard) arc dest told a dest)) next
+      → HasRows is_sig value net number new (set rows dest next)
+  rows_more is_sig heard new rows arc dest told next has heard_is within sig best = record { sigs = sigs; best = bests }
     where
-      sigs : (d : ℕ) (r : Chosen S) → entry_of (changed_rows rows dest change) d ≡ Some r → is_sig r.sig
-      sigs d r e = by (d == dest) (sym (changed_entry value net number rows dest d change within) ∙ e)
+      sigs : (d : ℕ) (r : Chosen S) → entry_of (set rows dest next) d ≡ Some r → is_sig r.sig
+      sigs d r e = by (d == dest) (sym (entry_set rows dest next d within) ∙ e)
         where
           of : (o : Option (Chosen S)) → IfSome o (λ r. is_sig r.sig) → o ≡ Some r → is_sig r.sig
           of None h f = absurd (cc)
           of (Some x) h f = let same : x ≡ r = cc in subst (λ (z : Chosen S). is_sig z.sig) same h
 
-          by : (b : Bool) → cond b (changed_row (entry_of rows dest) change) (entry_of rows d) ≡ Some r → is_sig r.sig
-          by true f = of (changed_row (entry_of rows dest) change) sig f
+          by : (b : Bool) → cond b next (entry_of rows d) ≡ Some r → is_sig r.sig
+          by true f = of next sig f
           by false f = has.sigs d r f
 
-      bests : (d : ℕ) → IsBest value net number (offers net d number (λ a. heard_by value net number new a d)) (entry_of (changed_rows rows dest change) d)
+      bests : (d : ℕ) → IsBest value net number (offers net d number (λ a. heard_by value net number new a d)) (entry_of (set rows dest next) d)
       bests d =
-          subst (λ (h : ℕ → ℕ → Option PureValue). IsBest value net number (offers net d number (λ a. h a d)) (entry_of (changed_rows rows dest change) d)) (sym heard_is)
-          (subst (λ r. IsBest value net number (offers net d number (λ a. heard_with (heard_by value net number heard) arc dest told a d)) r) (sym (changed_entry value net number rows dest d change within)) (by (d == dest) refl))
+          subst (λ (h : ℕ → ℕ → Option PureValue). IsBest value net number (offers net d number (λ a. h a d)) (entry_of (set rows dest next) d)) (sym heard_is)
+          (subst (λ r. IsBest value net number (offers net d number (λ a. heard_with (heard_by value net number heard) arc dest told a d)) r) (sym (entry_set rows dest next d within)) (by (d == dest) refl))
         where
           by : (b : Bool) → (d == dest) ≡ b
-              → IsBest value net number (offers net d number (λ a. heard_with (heard_by value net number heard) arc dest told a d)) (cond b (changed_row (entry_of rows dest) change) (entry_of rows d))
+              → IsBest value net number (offers net d number (λ a. heard_with (heard_by value net number heard) arc dest told a d)) (cond b next (entry_of rows d))
           by true e =
               let same : dest ≡ d = sym (eqb-true d dest e) in
-              subst (λ z. IsBest value net number (offers net z number (λ a. heard_with (heard_by value net number heard) arc dest told a z)) (changed_row (entry_of rows dest) change)) same best
+              subst (λ z. IsBest value net number (offers net z number (λ a. heard_with (heard_by value net number heard) arc dest told a z)) next) same best
           by false e =
               let kept : (λ a. heard_by value net number heard a d) ≡ (λ a. heard_with (heard_by value net number heard) arc dest told a d) =
               fun_ext (λ a. sym (ap (λ t. cond t told (heard_by value net number heard a d)) (and_right (a == arc) (d == dest) e))) in

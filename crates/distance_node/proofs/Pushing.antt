@@ -86,8 +86,11 @@ entry_set (x ∷ xs) (suc i) y (suc d) l =
     rw same (entry_set xs i y d (omega arith))
 
 -- what stands at a place of the entries
+pub entry_or : {X : Type 0} (xs : List (Option X)) (i : ℕ) (x : Option X) → i < length xs → entry_of xs i ≡ get_or xs i x
+entry_or xs i x l = ap (λ z. option_and_then (λ y. y) z) (slice_get-get_or xs i x l)
+
 pub entry_is : {X : Type 0} (xs : List (Option X)) (i : ℕ) (x : Option X) → i < length xs → x ≡ get_or xs i x → entry_of xs i ≡ x
-entry_is xs i x l e = ap (λ z. option_and_then (λ y. y) z) (slice_get-get_or xs i x l) ∙ sym e
+entry_is xs i x l e = entry_or xs i x l ∙ sym e
 
 joined : {X Y : Type 0} (f : X → Y) (o : Option (Option X)) → option_and_then (λ x. x) (option_map (option_map f) o) ≡ option_map f (option_and_then (λ x. x) o)
 joined f None = refl

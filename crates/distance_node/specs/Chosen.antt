@@ -1,15 +1,12 @@
 -- Rows in an algebra's own form: a value, and which of the offers it is.
 use Rattle.std.specs.Prelude.{◌≡◌, ℕ, zero, suc, ◌<◌, List, Option, Some, None, cond, option_map, option_and_then, slice_get}
 use Rattle.std.specs.declared.cmp.Ordering.TheVariants.{Less}
-use Rattle.std.proofs.Math.ListN.{set}
 use Rattle.alg_model.specs.Carriers.{Order}
 use Rattle.alg_model.specs.Expressions.{PureCarrier, PureValue}
 use Rattle.net_graph.specs.Nets.{PureArc, PureNet, arcs_from}
 use Rattle.net_graph.specs.Routes.{is_less}
 use Rattle.net_graph.specs.Tables.{carrier}
 use Rattle.distance_node.specs.declared.chosen.Chosen.{Chosen}
-use Rattle.distance_node.specs.declared.chosen.Change.{Change}
-use Rattle.distance_node.specs.declared.chosen.Change.TheVariants.{Stays, Moves}
 use Rattle.distance_node.specs.Node.{Hop}
 
 -- the entry at a place, if there is one
@@ -45,13 +42,3 @@ module _ {S : Type 0} (value : S → PureValue) where
 -- an offer of this value, at a place
 abbrev pub chosen_at : {S : Type 0} → ℕ → S → Chosen S
 chosen_at place s = record { sig = s; offer = place }
-
--- what a change makes of a row
-abbrev pub changed_row : {S : Type 0} → Option (Chosen S) → Change S → Option (Chosen S)
-changed_row before Stays = before
-changed_row before (Moves row) = row
-
--- and of the rows of all destinations
-abbrev pub changed_rows : {S : Type 0} → List (Option (Chosen S)) → ℕ → Change S → List (Option (Chosen S))
-changed_rows rows dest Stays = rows
-changed_rows rows dest (Moves row) = set rows dest row

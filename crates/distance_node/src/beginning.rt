@@ -20,21 +20,20 @@ use std::alloc::Global;
 pub(crate) fn begun_rows<A: Algebra, M: Mark<A>>(
     alloc: Global,
     site: &Site<'_, A>,
-    own: &[Option<A::Sig>],
 ) -> Result<(Vec<Option<Chosen<A::Sig>>>, Outgoing<Vector<A, M>>), NoMemory>
     requires mark { M.algebra ≡ Some site.now.algebra.now }
     requires algebra { let at = site.now in A.expression at.algebra.now ≡ at.net.now.alg.expression }
     requires placed { let at = site.now in IsPlaced (A.stands_for at.algebra.now)
-        (A.is_sig at.algebra.now) (A.sig_value at.algebra.now) at.net.now at.node.0 own.now at.speakers.now }
+        (A.is_sig at.algebra.now) (A.sig_value at.algebra.now) at.net.now at.node.0 at.own.now at.speakers.now }
     ensures rows { let at = site.now in IfOk result (λ r. AreBegun (A.is_sig at.algebra.now)
-        (A.sig_value at.algebra.now) at.net.now at.node.0 (length own.now) r.0.items) }
+        (A.sig_value at.algebra.now) at.net.now at.node.0 (length at.own.now) r.0.items) }
     ensures told { let at = site.now in IfOk result (λ r.
-        map noted r.1 ≡ all_begun at.net.now at.node.0 (range_with_len 0 (length own.now))) }
+        map noted r.1 ≡ all_begun at.net.now at.node.0 (range_with_len 0 (length at.own.now))) }
 {
-    let mut rows = Vec::with_capacity(alloc, own.len())?;
+    let mut rows = Vec::with_capacity(alloc, site.own.len())?;
     let mut out = Vec::new(alloc);
-    for place in 0..own.len() {
-        let row = own_offer(alloc, site.algebra, &own[place])?;
+    for place in 0..site.own.len() {
+        let row = own_offer(alloc, site.algebra, &site.own[place])?;
         if row.is_some() {
             let dest = DestId(place as u32);
             tell(alloc, site, dest, &row, 0, &mut out)?;

@@ -6,7 +6,6 @@ ghost use Rattle.alg_model.specs.Bounds.{AtMost};
 ghost use Rattle.alg_model.specs.Carriers.{carrier_of};
 ghost use Rattle.alg_model.specs.Expressions.{PureLabel};
 ghost use Rattle.arc_labels.specs.Images.{made_in};
-ghost use Rattle.net_graph.specs.Nets.{origin_value};
 ghost use Rattle.distance_node.specs.Arrivals.{heard_told, IsArrival};
 ghost use Rattle.distance_node.specs.Chosen.{IsBest, better_of, chosen_at, entry_of};
 ghost use Rattle.distance_node.specs.Node.{offers};
@@ -130,17 +129,13 @@ fn known_at<'h, S>(
 pub(crate) fn choose<A: Algebra>(
     alloc: Global,
     site: &Site<'_, A>,
-    own: &Option<A::Sig>,
     heard: &[Option<A::Sig>],
     arrival: &Arrival<'_, A::Sig>,
     spare: &mut Option<A::Sig>,
 ) -> Result<Option<Chosen<A::Sig>>, NoMemory>
     requires algebra { let at = site.now in A.expression at.algebra.now ≡ at.net.now.alg.expression }
-    requires placed { let at = site.now in (own : List (Option A.Sig)) × IsPlaced (A.stands_for at.algebra.now)
-        (A.is_sig at.algebra.now) (A.sig_value at.algebra.now) at.net.now at.node.0 own at.speakers.now }
-    requires own { IfSome own.now (A.is_sig site.now.algebra.now) }
-    requires origin { let at = site.now in option_map (A.sig_value at.algebra.now) own.now ≡
-        origin_value at.net.now arrival.now.dest.0 at.node.0 }
+    requires placed { let at = site.now in IsPlaced (A.stands_for at.algebra.now)
+        (A.is_sig at.algebra.now) (A.sig_value at.algebra.now) at.net.now at.node.0 at.own.now at.speakers.now }
     requires heard { let at = site.now in (clock : ℕ) × (clock ≤ arrival.now.clock)
         × HasHeard (A.is_sig at.algebra.now) (A.sig_value at.algebra.now) at.net.now at.node.0 clock heard.now }
     requires arrival { let at = site.now in IsArrival (A.is_sig at.algebra.now)
@@ -150,8 +145,9 @@ pub(crate) fn choose<A: Algebra>(
         IfOk result (IsBest value at.net.now at.node.0 (offers at.net.now arrival.now.dest.0 at.node.0
         (heard_told value at.net.now at.node.0 heard.now arrival.now))) }
 {
-    let base = arrival.dest.0 as usize * site.speakers.len();
-    let mut best = own_offer(alloc, site.algebra, own)?;
+    let dest = arrival.dest.0 as usize;
+    let base = dest * site.speakers.len();
+    let mut best = own_offer(alloc, site.algebra, &site.own[dest])?;
     for place in 0..site.speakers.len() {
         let is_told = place == arrival.place;
         let known = known_at(&*heard, base + place, &*arrival.value, is_told);

@@ -5,10 +5,3 @@ pub(crate) struct Chosen<S> {
     pub sig: S,
     pub offer: usize,
 }
-
-// What becomes of a row.
-#[derive(Drop)]
-pub(crate) enum Change<S> {
-    Stays,
-    Moves(Option<Chosen<S>>),
-}

@@ -4,7 +4,7 @@ ghost use Rattle.node_core.specs.declared.node.TheConstants.{MAX_CLOCK};
 ghost use Rattle.arc_labels.specs.Neighbours.{AreNeighbours, AreSpeakerLabels, head_of};
 ghost use Rattle.net_graph.specs.Nets.{arcs_from};
 ghost use Rattle.node_core.specs.Kinds.{listener};
-ghost use Rattle.distance_node.specs.Chosen.{changed_rows, entry_of, next_at};
+ghost use Rattle.distance_node.specs.Chosen.{entry_of, next_at};
 ghost use Rattle.distance_node.specs.Lawful.{distance_is_lawful};
 ghost use Rattle.distance_node.specs.Node.{DvState, PureVector, distance, fits_in, new_node, taken};
 ghost use Rattle.distance_node.specs.Nodes.{state_of};
@@ -13,7 +13,7 @@ ghost use Rattle.distance_node.specs.Vectors.{noted};
 
 use crate::answering::reply_to;
 use crate::beginning::begun_rows;
-use crate::chosen::{Change, Chosen};
+use crate::chosen::Chosen;
 use crate::own::own_sigs;
 use crate::rows::HopRow;
 use crate::site::{Arrival, Site};
@@ -26,7 +26,6 @@ use net_graph::Net;
 use node_core::{NodeCore, Outgoing};
 use std::alloc::Global;
 use std::marker::{Model, PhantomData};
-use std::mem::replace;
 
 /// A node that routes by distance vector over an algebra, as a router of RIP does (RFC 2453, section 3): it keeps the
 /// values that its neighbours sent it last, chooses for each destination the best of what it makes of them, and tells
@@ -173,35 +172,31 @@ impl<'a, A: Algebra, M: Mark<A>> DvNode<'a, A, M> {
         let dest = message.dest();
         let place = self.net.place_of(arc);
         let told = copied_value(alloc, self.algebra, message.told(self.algebra))?;
-        let reply = reply_to(
+        let site = Site {
+            algebra: self.algebra,
+            net: self.net,
+            node: self.number,
+            own: &self.own,
+            speakers: self.speakers,
+        };
+        let arrival = Arrival {
+            arc,
+            place,
+            dest,
+            value: &told,
+            clock,
+        };
+        reply_to(
             alloc,
-            &Site {
-                algebra: self.algebra,
-                net: self.net,
-                node: self.number,
-                speakers: self.speakers,
-            },
-            &self.own[dest.0 as usize],
+            &site,
             &self.heard,
-            &self.rows[dest.0 as usize],
-            &Arrival {
-                arc,
-                place,
-                dest,
-                value: &told,
-                clock,
-            },
+            &mut self.rows[dest.0 as usize],
+            &arrival,
             &mut self.spare,
+            out,
         )?;
         self.heard[dest.0 as usize * self.speakers.len() + place] = told;
-        put_row(
-            &mut self.rows,
-            dest.0 as usize,
-            reply.change,
-            &mut self.spare,
-        );
         self.last = clock;
-        *out = reply.sent;
         Ok(())
     }
 }
@@ -237,24 +232,6 @@ fn next_of<A: Algebra>(
     Some(speakers[offer - 1].node)
 }
 
-// Lets a change of a row happen. The value of a row that moves is kept for offers.
-fn put_row<S: Drop>(
-    rows: &mut Vec<Option<Chosen<S>>>,
-    dest: usize,
-    change: Change<S>,
-    spare: &mut Option<S>,
-)
-    requires { dest < length rows.old.items }
-    ensures { rows.new.items ≡ changed_rows rows.old.items dest change }
-{
-    let Change::Moves(row) = change else {
-        return;
-    };
-    if let Some(old) = replace(&mut rows[dest], row) {
-        *spare = Some(old.sig);
-    }
-}
-
 impl<'a, A: Algebra, M: Mark<A>> NodeCore for DvNode<'a, A, M> {
     type Message = Vector<A, M>;
 
@@ -279,9 +256,10 @@ impl<'a, A: Algebra, M: Mark<A>> NodeCore for DvNode<'a, A, M> {
             algebra: self.algebra,
             net: self.net,
             node: self.number,
+            own: &self.own,
             speakers: self.speakers,
         };
-        let (rows, told) = begun_rows(*self.rows.allocator(), &site, &self.own)?;
+        let (rows, told) = begun_rows(*self.rows.allocator(), &site)?;
         self.rows = rows;
         self.is_begun = true;
         self.last = 0;

@@ -1,18 +1,17 @@
 // How a node chooses a row again once one of its offers was replaced.
-ghost use Rattle.std.specs.Prelude.{◌≡◌, ◌≤◌, List, None, Option, ℕ, IfOk, IfSome, option_map};
+ghost use Rattle.std.specs.Prelude.{◌≡◌, ◌≤◌, ◌+◌, List, None, Option, ℕ, IfOk, IfSome, option_map};
 ghost use Rattle.alg_model.specs.Carriers.{carrier_of};
 ghost use Rattle.alg_model.specs.Expressions.{PureCarrier, PureValue};
 ghost use Rattle.arc_labels.specs.Images.{made_in};
-ghost use Rattle.net_graph.specs.Nets.{origin_value};
 ghost use Rattle.distance_node.specs.Arrivals.{heard_told, IsArrival};
-ghost use Rattle.distance_node.specs.Chosen.{IsBest, changed_row};
+ghost use Rattle.distance_node.specs.Chosen.{IsBest, chosen_at};
 ghost use Rattle.distance_node.specs.Node.{offers};
 ghost use Rattle.distance_node.specs.Nodes.{HasHeard, IsPlaced};
 ghost use Rattle.distance_node.specs.Places.{heard_by};
 ghost use Rattle.distance_node.specs.Settling.{settled};
 
-use crate::choosing::{choose, offer_into, taken};
-use crate::chosen::{Change, Chosen};
+use crate::choosing::offer_into;
+use crate::chosen::Chosen;
 use crate::site::{Arrival, Site};
 use alg_model::Algebra;
 use meta_base::NoMemory;
@@ -68,46 +67,40 @@ fn settle<A: Algebra>(
     }
 }
 
-// What becomes of the row of a destination, which was the node's choice, once the node is sent something. The new offer
-// is compared with the row alone; the others are asked only where the row's own offer got worse.
-pub(crate) fn rechoose<A: Algebra>(
+// How the row of a destination, which was the node's choice, is settled once the node is sent something. The new offer
+// is made in the spare's place and compared with the row alone; the others must be asked only where the row's own offer
+// got worse.
+pub(crate) fn settle_by<A: Algebra>(
     alloc: Global,
     site: &Site<'_, A>,
-    own: &Option<A::Sig>,
-    heard: &[Option<A::Sig>],
+    _heard: &[Option<A::Sig>],
     before: &Option<Chosen<A::Sig>>,
     arrival: &Arrival<'_, A::Sig>,
     spare: &mut Option<A::Sig>,
-) -> Result<Change<A::Sig>, NoMemory>
+) -> Result<Settled, NoMemory>
     requires algebra { let at = site.now in A.expression at.algebra.now ≡ at.net.now.alg.expression }
-    requires placed { let at = site.now in (own : List (Option A.Sig)) × IsPlaced (A.stands_for at.algebra.now)
-        (A.is_sig at.algebra.now) (A.sig_value at.algebra.now) at.net.now at.node.0 own at.speakers.now }
-    requires own { IfSome own.now (A.is_sig site.now.algebra.now) }
-    requires origin { let at = site.now in option_map (A.sig_value at.algebra.now) own.now ≡
-        origin_value at.net.now arrival.now.dest.0 at.node.0 }
+    requires placed { let at = site.now in IsPlaced (A.stands_for at.algebra.now)
+        (A.is_sig at.algebra.now) (A.sig_value at.algebra.now) at.net.now at.node.0 at.own.now at.speakers.now }
     requires heard { let at = site.now in (clock : ℕ) × (clock ≤ arrival.now.clock)
-        × HasHeard (A.is_sig at.algebra.now) (A.sig_value at.algebra.now) at.net.now at.node.0 clock heard.now }
+        × HasHeard (A.is_sig at.algebra.now) (A.sig_value at.algebra.now) at.net.now at.node.0 clock _heard.now }
     requires arrival { let at = site.now in IsArrival (A.is_sig at.algebra.now)
         (A.sig_value at.algebra.now) at.net.now at.node.0 arrival.now }
     requires before { IfSome before.now (λ b. A.is_sig site.now.algebra.now b.sig) }
     requires best { let at = site.now in let value = A.sig_value at.algebra.now in let dest = arrival.now.dest.0 in
         IsBest value at.net.now at.node.0 (offers at.net.now dest at.node.0
-        (λ a. heard_by value at.net.now at.node.0 heard.now a dest)) before.now }
-    ensures sig { IfOk result (λ change.
-        IfSome (changed_row before.now change) (λ r. A.is_sig site.now.algebra.now r.sig)) }
-    ensures best { let at = site.now in let value = A.sig_value at.algebra.now in
-        IfOk result (λ change. IsBest value at.net.now at.node.0 (offers at.net.now arrival.now.dest.0 at.node.0
-        (heard_told value at.net.now at.node.0 heard.now arrival.now)) (changed_row before.now change)) }
+        (λ a. heard_by value at.net.now at.node.0 _heard.now a dest)) before.now }
+    ensures stays { let at = site.now in let value = A.sig_value at.algebra.now in
+        IfOk result (λ how. how ≡ Settled.Stays → IsBest value at.net.now at.node.0
+        (offers at.net.now arrival.now.dest.0 at.node.0
+        (heard_told value at.net.now at.node.0 _heard.now arrival.now)) before.now) }
+    ensures moves { let at = site.now in let value = A.sig_value at.algebra.now in
+        IfOk result (λ how. how ≡ Settled.Moves → IsBest value at.net.now at.node.0
+        (offers at.net.now arrival.now.dest.0 at.node.0
+        (heard_told value at.net.now at.node.0 _heard.now arrival.now))
+        (option_map (chosen_at (arrival.now.place + 1)) spare.new)) }
+    ensures sig { IfOk result (λ how. how ≡ Settled.Moves → IfSome spare.new (A.is_sig site.now.algebra.now)) }
 {
     let label = site.speakers[arrival.place].label;
-    let offer = arrival.place + 1;
     let made = offer_into(alloc, site.algebra, label, arrival.value, spare)?;
-    match settle(site.algebra, before, offer, made, spare) {
-        Settled::Stays => Ok(Change::Stays),
-        Settled::Moves => Ok(Change::Moves(taken(made, offer, spare))),
-        Settled::Lost => {
-            let row = choose(alloc, site, own, heard, arrival, spare)?;
-            Ok(Change::Moves(row))
-        }
-    }
+    Ok(settle(site.algebra, before, arrival.place + 1, made, spare))
 }

@@ -3,13 +3,14 @@ use arc_labels::Neighbour;
 use meta_base::{ArcId, DestId, NodeId};
 use net_graph::Net;
 
-// Where rows are chosen: the node of that number in a network, whose algebra it is, with the neighbours that it may
-// route by, in the order of the arcs to them.
+// Where rows are chosen: the node of that number in a network, whose algebra it is, with the values of its own origins
+// by destination, and the neighbours that it may route by, in the order of the arcs to them.
 #[derive(Drop)]
 pub(crate) struct Site<'s, A: Algebra> {
     pub algebra: &'s A,
     pub net: &'s Net,
     pub node: NodeId,
+    pub own: &'s [Option<A::Sig>],
     pub speakers: &'s [Neighbour<'s, A::Lab>],
 }
 

@@ -1,5 +1,5 @@
 // What a node tells those that listen to it.
-ghost use Rattle.std.specs.Prelude.{◌≡◌, ◌<◌, ◌++◌, Some, [], cond, length, map, IfOk, IfSome, OnOk, option_map};
+ghost use Rattle.std.specs.Prelude.{◌≡◌, ◌<◌, ◌++◌, Some, [], cond, length, map, IfOk, IfSome, OnErr, OnOk, option_map};
 ghost use Rattle.alg_model.specs.Bounds.{AtMost};
 ghost use Rattle.net_graph.specs.Nets.{arcs_to};
 ghost use Rattle.distance_node.specs.Node.{greatest_at, same_told, told_on};
@@ -14,6 +14,7 @@ use meta_base::{ArcId, DestId, List, NoMemory};
 use node_core::Outgoing;
 use std::alloc::Global;
 use std::cmp::Ordering;
+use std::mem::replace;
 
 // The value once more, if there is one.
 pub(crate) fn copied_value<A: Algebra>(
@@ -129,7 +130,8 @@ fn tells_same<A: Algebra>(
     }
 }
 
-// What the node tells of a row that was another: its value, if that has changed.
+// Puts into `out`, which is empty, what the node tells of a row that was another: its value, if that has changed. The
+// memory of `out` is used again.
 pub(crate) fn news<A: Algebra, M: Mark<A>>(
     alloc: Global,
     site: &Site<'_, A>,
@@ -137,19 +139,24 @@ pub(crate) fn news<A: Algebra, M: Mark<A>>(
     before: &Option<Chosen<A::Sig>>,
     row: &Option<Chosen<A::Sig>>,
     clock: u64,
-) -> Result<Outgoing<Vector<A, M>>, NoMemory>
+    out: &mut Outgoing<Vector<A, M>>,
+) -> Result<(), NoMemory>
+    requires out { out.old ≡ [] }
     requires mark { M.algebra ≡ Some site.now.algebra.now }
     requires node { site.now.node.0 < length site.now.net.now.nodes }
     requires before { IfSome before.now (λ r. A.is_sig site.now.algebra.now r.sig) }
     requires sig { IfSome row.now (λ r. A.is_sig site.now.algebra.now r.sig) }
     requires small { IfSome (told_of (A.sig_value site.now.algebra.now) row.now) (AtMost (greatest_at clock)) }
-    ensures { let at = site.now in let value = A.sig_value at.algebra.now in IfOk result (λ out. map noted out ≡
+    ensures ok { let at = site.now in let value = A.sig_value at.algebra.now in OnOk result (map noted out.new ≡
         cond (same_told (told_of value row.now) (told_of value before.now)) [] (told_on (arcs_to at.net.now at.node.0)
         (record { dest = dest.0; value = told_of value row.now; stamp = clock }))) }
+    ensures err { OnErr result (out.new ≡ []) }
 {
-    let mut out = Vec::new(alloc);
-    if !tells_same(alloc, site.algebra, row, before)? {
-        tell(alloc, site, dest, row, clock, &mut out)?;
+    if tells_same(alloc, site.algebra, row, before)? {
+        return Ok(());
     }
-    Ok(List::from_vec(out))
+    let mut told = replace(out, List::new(alloc)).into_vec();
+    tell(alloc, site, dest, row, clock, &mut told)?;
+    *out = List::from_vec(told);
+    Ok(())
 }

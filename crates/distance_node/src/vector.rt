@@ -12,8 +12,8 @@ use std::marker::{Model, PhantomData};
 #[derive(Drop)]
 pub struct Vector<A: Algebra, M: Mark<A>> {
     dest: DestId,
-    value: Option<A::Sig>,
     stamp: u64,
+    value: Option<A::Sig>,
     mark: PhantomData<M>,
 }
 
@@ -47,8 +47,8 @@ impl<A: Algebra, M: Mark<A>> Vector<A, M> {
     {
         Vector {
             dest,
-            value,
             stamp,
+            value,
             mark: PhantomData,
         }
     }

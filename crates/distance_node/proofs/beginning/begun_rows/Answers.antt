@@ -5,16 +5,15 @@ use Rattle.distance_node.specs.Beginning.{AreBegun}
 use Rattle.distance_node.specs.Node.{all_begun}
 use Rattle.distance_node.specs.Vectors.{noted}
 use Rattle.distance_node.proofs.Beginnings.{dests_few, own_row, own_small, rows_next, told_next, told_none, told_some}
-use Rattle.distance_node.proofs.Pushing.{entry_is}
+use Rattle.distance_node.proofs.Pushing.{entry_or}
 use Rattle.distance_node.proofs.Taking.{some_holds}
 use Rattle.distance_node.proofs.beginning.begun_rows.Goals as goal
 use Rattle.distance_node.proofs.beginning.begun_rows.Goals.{then-is_some+in_ok-tell, else-is_some}
 
 pub own_offer-requires : goal.own_offer-requires
 own_offer-requires g c =
-    let own = c.args.own.now in
     let k = c.loop-place.place in
-    some_holds _ c.index-own-place.result (λ s e. c.requires.placed.own_sigs k s (entry_is own k c.index-own-place.result c.loop-place-test.true c.index-own-place.is ∙ e))
+    some_holds _ _ (λ s e. c.requires.placed.own_sigs k s (entry_or c.args.site.now.own.now k c.index-site-place.result c.loop-place-test.true ∙ e))
 
 pub overflow_cast-dest : goal.overflow_cast-dest
 overflow_cast-dest g c =
@@ -29,7 +28,7 @@ tell-requires-clause-small g c =
     let at = c.args.site.now in
     let s = at.algebra.now in
     let k = c.loop-place.place in
-    let entry = entry_is c.args.own.now k c.index-own-place.result c.loop-place-test.true c.index-own-place.is in
+    let entry = entry_or c.args.site.now.own.now k c.index-site-place.result c.loop-place-test.true in
     let hop = own_row (A.is_sig s) (A.sig_value s) at.net.now at.node.0 k c.in_ok-row.row (c.in_ok-row.ensures.value ∙ (ap (option_map (A.sig_value s)) (sym entry) ∙ c.requires.placed.own_values k)) c.in_ok-row.ensures.place in
     own_small (A.is_sig s) (A.sig_value s) at.net.now at.node.0 c.requires.placed.is_net k c.in_ok-row.row hop
 
@@ -42,7 +41,7 @@ loop-place-preserved g c =
     let i = at.node.0 in
     let k = c.loop-place.place in
     let row = c.in_ok-row.row in
-    let entry = entry_is c.args.own.now k c.index-own-place.result c.loop-place-test.true c.index-own-place.is in
+    let entry = entry_or c.args.site.now.own.now k c.index-site-place.result c.loop-place-test.true in
     let hop = own_row (A.is_sig s) (A.sig_value s) net i k row (c.in_ok-row.ensures.value ∙ (ap (option_map (A.sig_value s)) (sym entry) ∙ c.requires.placed.own_values k)) c.in_ok-row.ensures.place in
     record {
       rows = subst (AreBegun (A.is_sig s) (A.sig_value s) net i (k + 1)) (sym c.in_ok-push.ensures.items)
@@ -58,5 +57,5 @@ loop-place-preserved g c =
 pub returns-clause-told : goal.returns-clause-told
 returns-clause-told g c =
     let at = c.args.site.now in
-    let whole : c.loop-place.place ≡ length c.args.own.now = (let few = c.loop-place-test.false in let more = c.loop-place.auto.place-end in omega (arith, few, more)) in
+    let whole : c.loop-place.place ≡ length c.args.site.now.own.now = (let few = c.loop-place-test.false in let more = c.loop-place.auto.place-end in omega (arith, few, more)) in
     ap (map noted) c.from_vec.ensures ∙ (c.loop-place.invariant.told ∙ ap (λ z. all_begun at.net.now at.node.0 (range_with_len 0 z)) whole)

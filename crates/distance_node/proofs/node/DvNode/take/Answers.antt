@@ -1,18 +1,18 @@
 use Rattle.std.proofs.Common.{◌≡◌, ◌*◌, ◌+◌, ◌<◌, ◌≤◌, [], Some, true, cond, length, map, option_map, sym, ap, subst, ◌∙◌, arith}
-use Rattle.std.specs.Prelude.{IfSome}
 use Rattle.std.proofs.Math.ListN.{set}
+use Rattle.std.proofs.lemmas.List.{set-get_or}
 use Rattle.net_graph.specs.Nets.{arcs_to}
 use Rattle.node_core.specs.Kinds.{listener}
-use Rattle.distance_node.specs.Chosen.{IsBest, changed_row, entry_of}
+use Rattle.distance_node.specs.Chosen.{IsBest, entry_of}
 use Rattle.distance_node.specs.Fitting.{fits_dest}
 use Rattle.distance_node.specs.Node.{fits_in, heard_with, offers, same_told, taken, told_on}
-use Rattle.distance_node.specs.Nodes.{HasRows, state_of}
+use Rattle.distance_node.specs.Nodes.{state_of}
 use Rattle.distance_node.specs.Places.{heard_by}
 use Rattle.distance_node.specs.Tellings.{told_of}
 use Rattle.distance_node.specs.Vectors.{noted}
-use Rattle.distance_node.proofs.Nodes.{changed_count, heard_more, node_with, rows_more, taken_is, told_is_taken}
-use Rattle.distance_node.proofs.Pushing.{entry_is}
-use Rattle.distance_node.proofs.Taking.{came_on, entry_there, heard_put, some_holds, told_before}
+use Rattle.distance_node.proofs.Nodes.{heard_more, node_with, on_refusal, rows_more, taken_is, told_is_taken}
+use Rattle.distance_node.proofs.Pushing.{entry_is, set_length}
+use Rattle.distance_node.proofs.Taking.{came_on, entry_there, heard_put, told_before}
 use Rattle.distance_node.proofs.node.DvNode.take.Goals as goal
 
 pub reply_to-requires-clause-arrival : goal.reply_to-requires-clause-arrival
@@ -43,57 +43,6 @@ reply_to-requires-clause-arrival g c =
       told = may;
       early = c.requires.early;
     }
-
-pub reply_to-requires-clause-before : goal.reply_to-requires-clause-before
-reply_to-requires-clause-before g c =
-    let A = g.A.Algebra in
-    let inside = c.self.inside in
-    let s = inside.algebra.now in
-    let value = A.sig_value s in
-    let net = inside.net.now in
-    let i = inside.number.0 in
-    let m = c.args.message.now in
-    let dest = c.dest-dest.result.0 in
-    let place = c.place_of-place.result in
-    let w = length inside.speakers.now in
-    let node = c.self.invariant.1 in
-    let n = node.placed.is_net in
-    let fits : fits_in net m ≡ true = rw (← c.self.view_is) at c.requires.fits in
-    let below : dest < length net.dests = subst (λ z. z < length net.dests) (sym c.dest-dest.ensures) (fits_dest net m fits) in
-    let listens : listener net c.args.arc.0 ≡ Some i = rw (← c.self.view_is) at c.requires.listens in
-    let came = came_on net n i c.args.arc.0 place listens c.place_of-place.ensures in
-    let begun : inside.is_begun ≡ true = rw (← c.self.view_is) at c.requires.begun in
-    let rows = inside.rows.items in
-    let row_there : dest < length rows = subst (λ z. dest < z) (sym node.row_count) below in
-    let has = node.has_rows begun in
-    let entry : entry_of rows dest ≡ c.index-2.result.now = entry_is rows dest c.index-2.result.now row_there c.index-2.ensures in
-    some_holds _ c.index-2.result.now (λ r e. has.sigs dest r (entry ∙ e))
-
-pub reply_to-requires-clause-best : goal.reply_to-requires-clause-best
-reply_to-requires-clause-best g c =
-    let A = g.A.Algebra in
-    let inside = c.self.inside in
-    let s = inside.algebra.now in
-    let value = A.sig_value s in
-    let net = inside.net.now in
-    let i = inside.number.0 in
-    let m = c.args.message.now in
-    let dest = c.dest-dest.result.0 in
-    let place = c.place_of-place.result in
-    let w = length inside.speakers.now in
-    let node = c.self.invariant.1 in
-    let n = node.placed.is_net in
-    let fits : fits_in net m ≡ true = rw (← c.self.view_is) at c.requires.fits in
-    let below : dest < length net.dests = subst (λ z. z < length net.dests) (sym c.dest-dest.ensures) (fits_dest net m fits) in
-    let listens : listener net c.args.arc.0 ≡ Some i = rw (← c.self.view_is) at c.requires.listens in
-    let came = came_on net n i c.args.arc.0 place listens c.place_of-place.ensures in
-    let begun : inside.is_begun ≡ true = rw (← c.self.view_is) at c.requires.begun in
-    let rows = inside.rows.items in
-    let row_there : dest < length rows = subst (λ z. dest < z) (sym node.row_count) below in
-    let has = node.has_rows begun in
-    let entry : entry_of rows dest ≡ c.index-2.result.now = entry_is rows dest c.index-2.result.now row_there c.index-2.ensures in
-    subst (λ h. IsBest value net i (offers net dest i (λ a. heard_by value net i h a dest)) c.index-2.result.now) (sym c.deref.ensures.value)
-    (subst (IsBest value net i (offers net dest i (λ a. heard_by value net i inside.heard.items a dest))) entry (has.best dest))
 
 pub overflow_mul-dest : goal.overflow_mul-dest
 overflow_mul-dest g c =
@@ -159,8 +108,8 @@ index_mut-requires g c =
     let len = inside.heard.ok.0 in
     omega (arith, is_entry.inside, len)
 
-pub put_row-requires : goal.put_row-requires
-put_row-requires g c =
+pub reply_to-requires-clause-best : goal.reply_to-requires-clause-best
+reply_to-requires-clause-best g c =
     let A = g.A.Algebra in
     let inside = c.self.inside in
     let s = inside.algebra.now in
@@ -177,7 +126,54 @@ put_row-requires g c =
     let below : dest < length net.dests = subst (λ z. z < length net.dests) (sym c.dest-dest.ensures) (fits_dest net m fits) in
     let listens : listener net c.args.arc.0 ≡ Some i = rw (← c.self.view_is) at c.requires.listens in
     let came = came_on net n i c.args.arc.0 place listens c.place_of-place.ensures in
-    subst (λ z. dest < z) (sym node.row_count) below
+    let begun : inside.is_begun ≡ true = rw (← c.self.view_is) at c.requires.begun in
+    let rows = inside.rows.items in
+    let row_there : dest < length rows = subst (λ z. dest < z) (sym node.row_count) below in
+    let has = node.has_rows begun in
+    let entry : entry_of rows dest ≡ c.index_mut.result.now = entry_is rows dest c.index_mut.result.now row_there c.index_mut.ensures.value in
+    subst (λ h. IsBest value net i (offers net dest i (λ a. heard_by value net i h a dest)) c.index_mut.result.now) (sym c.deref-2.ensures.value)
+    (subst (IsBest value net i (offers net dest i (λ a. heard_by value net i inside.heard.items a dest))) entry (has.best dest))
+
+pub index_mut-requires-2 : goal.index_mut-requires-2
+index_mut-requires-2 g c =
+    let A = g.A.Algebra in
+    let inside = c.self.inside in
+    let s = inside.algebra.now in
+    let value = A.sig_value s in
+    let net = inside.net.now in
+    let i = inside.number.0 in
+    let m = c.args.message.now in
+    let dest = c.dest-dest.result.0 in
+    let place = c.place_of-place.result in
+    let w = length inside.speakers.now in
+    let node = c.self.invariant.1 in
+    let n = node.placed.is_net in
+    let fits : fits_in net m ≡ true = rw (← c.self.view_is) at c.requires.fits in
+    let below : dest < length net.dests = subst (λ z. z < length net.dests) (sym c.dest-dest.ensures) (fits_dest net m fits) in
+    let listens : listener net c.args.arc.0 ≡ Some i = rw (← c.self.view_is) at c.requires.listens in
+    let came = came_on net n i c.args.arc.0 place listens c.place_of-place.ensures in
+    let is_entry = entry_there net n i place w dest came.0 inside.heard.items came.1 node.placed.near.count node.has_heard.count below in
+    let len = inside.heard.ok.0 in
+    omega (arith, is_entry.inside, len)
+
+pub returns-in_err-reply_to-clause-err : goal.returns-in_err-reply_to-clause-err
+returns-in_err-reply_to-clause-err g c =
+    let A = g.A.Algebra in
+    let inside = c.self.inside in
+    let s = inside.algebra.now in
+    let value = A.sig_value s in
+    let net = inside.net.now in
+    let i = inside.number.0 in
+    let m = c.args.message.now in
+    let dest = c.dest-dest.result.0 in
+    let place = c.place_of-place.result in
+    let w = length inside.speakers.now in
+    let kept = c.in_err-reply_to.ensures.err in
+    let rows = inside.rows.items in
+    let same = ap (set rows dest) (kept.0 ∙ c.index_mut.ensures.value) ∙ set-get_or rows dest c.index_mut.result.now in
+    let unchanged : state_of (node_with value net i inside.is_begun inside.heard.items (set rows dest c.reply_to.new.row) inside.last) ≡ state_of c.args.self.now = ap (λ z. state_of (node_with value net i inside.is_begun inside.heard.items z inside.last)) same ∙ ap state_of c.self.view_is in
+    let both : (state_of (node_with value net i inside.is_begun inside.heard.items (set rows dest c.reply_to.new.row) inside.last) ≡ state_of c.args.self.now) × (c.reply_to.new.out ≡ []) = (unchanged, kept.1) in
+    on_refusal _ _ both
 
 pub invariant_of-self-2 : goal.invariant_of-self-2
 invariant_of-self-2 g c =
@@ -203,26 +199,24 @@ invariant_of-self-2 g c =
     let rows = inside.rows.items in
     let row_there : dest < length rows = subst (λ z. dest < z) (sym node.row_count) below in
     let has = node.has_rows begun in
-    let entry : entry_of rows dest ≡ c.index-2.result.now = entry_is rows dest c.index-2.result.now row_there c.index-2.ensures in
+    let entry : entry_of rows dest ≡ c.index_mut.result.now = entry_is rows dest c.index_mut.result.now row_there c.index_mut.ensures.value in
     let heard = inside.heard.items in
-    let change = c.in_ok-reply.reply.change in
+    let next = c.reply_to.new.row in
     let late : inside.last < c.args.clock = rw (← c.self.view_is) at c.requires.last in
     let later : inside.last ≤ c.args.clock = omega (arith, late) in
     let is_entry = entry_there net n i place w dest came.0 heard came.1 node.placed.near.count node.has_heard.count below in
     let heard_is = heard_put value net n i place w c.args.arc.0 dest came.0 heard told came.1 came.2 node.placed.near.count node.has_heard.count below in
-    let best = subst (λ r. IsBest value net i (offers net dest i (λ a. heard_with (heard_by value net i heard) c.args.arc.0 dest (option_map value told) a dest)) (changed_row r change)) (sym entry)
-    (subst (λ h. IsBest value net i (offers net dest i (λ a. heard_with (heard_by value net i h) c.args.arc.0 dest (option_map value told) a dest)) (changed_row c.index-2.result.now change)) c.deref.ensures.value c.in_ok-reply.ensures.best) in
-    let sig = subst (λ r. IfSome (changed_row r change) (λ x. A.is_sig s x.sig)) (sym entry) c.in_ok-reply.ensures.sig in (
+    let best = subst (λ h. IsBest value net i (offers net dest i (λ a. heard_with (heard_by value net i h) c.args.arc.0 dest (option_map value told) a dest)) next) c.deref-2.ensures.value c.in_ok-reply_to.ensures.best in
+    let sig = c.in_ok-reply_to.ensures.sig in (
       c.self.invariant.0,
       record {
         algebra = node.algebra;
         placed = node.placed;
         has_heard = heard_more value net i (A.is_sig s) heard inside.last c.args.clock (dest * w + place) told node.has_heard later c.requires.early is_entry.inside may;
         silent = λ e. absurd (let z = sym begun ∙ e in cc);
-        row_count = ap length c.put_row.ensures ∙ (changed_count value net i rows dest change ∙ node.row_count);
+        row_count = set_length rows dest next ∙ node.row_count;
         rowless = λ e. absurd (let z = sym begun ∙ e in cc);
-        has_rows = λ b. subst (HasRows (A.is_sig s) value net i (set heard (dest * w + place) told)) (sym c.put_row.ensures)
-            (rows_more value net i (A.is_sig s) heard (set heard (dest * w + place) told) rows c.args.arc.0 dest (option_map value told) change has heard_is row_there sig best);
+        has_rows = λ b. rows_more value net i (A.is_sig s) heard (set heard (dest * w + place) told) rows c.args.arc.0 dest (option_map value told) next has heard_is row_there sig best;
       },
     )
 
@@ -250,18 +244,16 @@ returns-clause-node g c =
     let rows = inside.rows.items in
     let row_there : dest < length rows = subst (λ z. dest < z) (sym node.row_count) below in
     let has = node.has_rows begun in
-    let entry : entry_of rows dest ≡ c.index-2.result.now = entry_is rows dest c.index-2.result.now row_there c.index-2.ensures in
+    let entry : entry_of rows dest ≡ c.index_mut.result.now = entry_is rows dest c.index_mut.result.now row_there c.index_mut.ensures.value in
     let heard = inside.heard.items in
-    let change = c.in_ok-reply.reply.change in
+    let next = c.reply_to.new.row in
     let late : inside.last < c.args.clock = rw (← c.self.view_is) at c.requires.last in
     let later : inside.last ≤ c.args.clock = omega (arith, late) in
     let is_entry = entry_there net n i place w dest came.0 heard came.1 node.placed.near.count node.has_heard.count below in
     let heard_is = heard_put value net n i place w c.args.arc.0 dest came.0 heard told came.1 came.2 node.placed.near.count node.has_heard.count below in
-    let best = subst (λ r. IsBest value net i (offers net dest i (λ a. heard_with (heard_by value net i heard) c.args.arc.0 dest (option_map value told) a dest)) (changed_row r change)) (sym entry)
-    (subst (λ h. IsBest value net i (offers net dest i (λ a. heard_with (heard_by value net i h) c.args.arc.0 dest (option_map value told) a dest)) (changed_row c.index-2.result.now change)) c.deref.ensures.value c.in_ok-reply.ensures.best) in
-    ap (λ z. state_of (node_with value net i inside.is_begun (set heard (dest * w + place) told) z c.args.clock)) c.put_row.ensures
-    ∙ (taken_is value net i heard (set heard (dest * w + place) told) rows inside.last c.args.arc.0 dest c.args.clock told change m c.dest-dest.ensures (c.in_ok-told.ensures.value ∙ c.told.ensures.value) heard_is row_there best inside.is_begun
-    ∙ ap (λ z. (taken (state_of z) c.args.arc.0 m c.args.clock).0) c.self.view_is)
+    let best = subst (λ h. IsBest value net i (offers net dest i (λ a. heard_with (heard_by value net i h) c.args.arc.0 dest (option_map value told) a dest)) next) c.deref-2.ensures.value c.in_ok-reply_to.ensures.best in
+    taken_is value net i heard (set heard (dest * w + place) told) rows inside.last c.args.arc.0 dest c.args.clock told next m c.dest-dest.ensures (c.in_ok-told.ensures.value ∙ c.told.ensures.value) heard_is row_there best inside.is_begun
+    ∙ ap (λ z. (taken (state_of z) c.args.arc.0 m c.args.clock).0) c.self.view_is
 
 pub returns-clause-out : goal.returns-clause-out
 returns-clause-out g c =
@@ -287,17 +279,16 @@ returns-clause-out g c =
     let rows = inside.rows.items in
     let row_there : dest < length rows = subst (λ z. dest < z) (sym node.row_count) below in
     let has = node.has_rows begun in
-    let entry : entry_of rows dest ≡ c.index-2.result.now = entry_is rows dest c.index-2.result.now row_there c.index-2.ensures in
+    let entry : entry_of rows dest ≡ c.index_mut.result.now = entry_is rows dest c.index_mut.result.now row_there c.index_mut.ensures.value in
     let heard = inside.heard.items in
-    let change = c.in_ok-reply.reply.change in
+    let next = c.reply_to.new.row in
     let late : inside.last < c.args.clock = rw (← c.self.view_is) at c.requires.last in
     let later : inside.last ≤ c.args.clock = omega (arith, late) in
     let is_entry = entry_there net n i place w dest came.0 heard came.1 node.placed.near.count node.has_heard.count below in
     let heard_is = heard_put value net n i place w c.args.arc.0 dest came.0 heard told came.1 came.2 node.placed.near.count node.has_heard.count below in
-    let best = subst (λ r. IsBest value net i (offers net dest i (λ a. heard_with (heard_by value net i heard) c.args.arc.0 dest (option_map value told) a dest)) (changed_row r change)) (sym entry)
-    (subst (λ h. IsBest value net i (offers net dest i (λ a. heard_with (heard_by value net i h) c.args.arc.0 dest (option_map value told) a dest)) (changed_row c.index-2.result.now change)) c.deref.ensures.value c.in_ok-reply.ensures.best) in
-    let sent = subst (λ r. map noted c.in_ok-reply.reply.sent ≡ cond (same_told (told_of value (changed_row r change)) (told_of value r)) []
-    (told_on (arcs_to net i) (record { dest = dest; value = told_of value (changed_row r change); stamp = c.args.clock }))) (sym entry) c.in_ok-reply.ensures.sent in
-    told_is_taken value net i heard (set heard (dest * w + place) told) rows inside.last c.args.arc.0 dest c.args.clock told change m c.dest-dest.ensures (c.in_ok-told.ensures.value ∙ c.told.ensures.value) heard_is row_there best inside.is_begun
-    (map noted c.in_ok-reply.reply.sent) sent
+    let best = subst (λ h. IsBest value net i (offers net dest i (λ a. heard_with (heard_by value net i h) c.args.arc.0 dest (option_map value told) a dest)) next) c.deref-2.ensures.value c.in_ok-reply_to.ensures.best in
+    let sent = subst (λ r. map noted c.reply_to.new.out ≡ cond (same_told (told_of value next) (told_of value r)) []
+    (told_on (arcs_to net i) (record { dest = dest; value = told_of value next; stamp = c.args.clock }))) (sym entry) c.in_ok-reply_to.ensures.sent in
+    told_is_taken value net i heard (set heard (dest * w + place) told) rows inside.last c.args.arc.0 dest c.args.clock told next m c.dest-dest.ensures (c.in_ok-told.ensures.value ∙ c.told.ensures.value) heard_is row_there best inside.is_begun
+    (map noted c.reply_to.new.out) sent
     ∙ ap (λ z. (taken (state_of z) c.args.arc.0 m c.args.clock).1) c.self.view_is
