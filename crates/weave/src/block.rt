@@ -29,6 +29,7 @@ pub struct Block<N: NodeCore> {
 
 /// The listener of the arc takes the message in front there, if both are here and one is seen. What it puts out isn't
 /// sent yet.
+#[inline(always)]
 pub(crate) fn hear<N: NodeCore>(
     seats: &mut Vec<Option<Seat<N>>>,
     lanes: &mut Vec<Lane<N::Message>>,
@@ -65,12 +66,14 @@ pub(crate) fn hear<N: NodeCore>(
     }))
 }
 
-/// The listener of the arc takes the message in front there, if both are here and one is seen, and what it puts out is
-/// sent. The gate gets a report of it, as made by the worker. It answers how many messages were sent, where one was
-/// taken.
+/// The listener of the arc takes the message in front there, if both are here and one is seen, and what it puts into the
+/// outbox is sent. The gate gets a report of it, as made by the worker. It answers how many messages were sent, where one
+/// was taken.
+#[inline(always)]
 pub(crate) fn step<N: NodeCore, G: Gate>(
     alloc: Global,
     block: &mut Block<N>,
+    outbox: &mut Outgoing<N::Message>,
     net: &Net,
     arc: ArcId,
     worker: u32,
@@ -83,12 +86,22 @@ pub(crate) fn step<N: NodeCore, G: Gate>(
     ensures some { IfOk result (λ sent. IfSome sent (λ count. TakesOne N.kind net.now
         (view_of N.state N.note block.old) count (view_of N.state N.note block.new))) }
 {
-    let mut out = List::new(alloc);
-    let Some(made) = hear(&mut block.seats, &mut block.lanes, net, arc, &mut out)? else {
+    if !outbox.as_slice().is_empty() {
+        *outbox = List::new(alloc);
+    }
+    let Some(made) = hear(&mut block.seats, &mut block.lanes, net, arc, outbox)? else {
         return Ok(None);
     };
     gate.pass(worker, &made);
-    let sent = out.as_slice().len() as u64;
-    send_all(&mut block.lanes, &mut block.ready, &mut block.unsent, out)?;
+    let sent = outbox.as_slice().len() as u64;
+    if sent > 0 {
+        send_all(
+            alloc,
+            &mut block.lanes,
+            &mut block.ready,
+            &mut block.unsent,
+            outbox,
+        )?;
+    }
     Ok(Some(sent))
 }

@@ -7,7 +7,7 @@ use crate::block::{Block, step};
 use crate::sending::flush_all;
 use meta_base::{ArcId, Gate, NoMemory};
 use net_graph::Net;
-use node_core::NodeCore;
+use node_core::{NodeCore, Outgoing};
 use quiet_ledger::{Book, Share};
 use std::alloc::Global;
 use std::sync::Wait;
@@ -17,6 +17,8 @@ use std::sync::Wait;
 #[derive(Drop)]
 pub struct Part<N: NodeCore> {
     pub(crate) block: Block<N>,
+    // Where a node puts what it sends. Its memory is used again.
+    pub(crate) outbox: Outgoing<N::Message>,
     pub(crate) turns: u64,
     pub(crate) share: Share,
     pub(crate) sent: u64,
@@ -42,7 +44,16 @@ pub(crate) fn turn<N: NodeCore, G: Gate>(
     if part.turns == 0 || arc.0 as usize >= net.arc_count() {
         return Ok(false);
     }
-    let Some(sent) = step(alloc, &mut part.block, net, arc, worker, gate)? else {
+    let Some(sent) = step(
+        alloc,
+        &mut part.block,
+        &mut part.outbox,
+        net,
+        arc,
+        worker,
+        gate,
+    )?
+    else {
         return Ok(false);
     };
     part.turns -= 1;

@@ -36,7 +36,7 @@ pub(crate) struct Plan {
 }
 
 // What a worker is lent: a block, a share of the book in which nothing is entered, and turns.
-fn part_of<N: NodeCore>(block: Block<N>, share: Share, turns: u64) -> Part<N>
+fn part_of<N: NodeCore>(alloc: Global, block: Block<N>, share: Share, turns: u64) -> Part<N>
     requires { (sent_by share ≡ 0) × (taken_by share ≡ 0) }
     ensures block { result.block ≡ block }
     ensures turns { result.turns ≡ turns }
@@ -44,6 +44,7 @@ fn part_of<N: NodeCore>(block: Block<N>, share: Share, turns: u64) -> Part<N>
 {
     Part {
         block,
+        outbox: List::new(alloc),
         turns,
         share,
         sent: 0,
@@ -74,7 +75,7 @@ fn lent<N: NodeCore>(
             unreachable!()
         };
         let turns = turns_of(turns, count, extra, parts.len());
-        parts.push(part_of(block, share, turns))?;
+        parts.push(part_of(alloc, block, share, turns))?;
     }
     Ok(parts)
 }

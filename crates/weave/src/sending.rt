@@ -6,9 +6,11 @@ ghost use Rattle.weave.specs.Lanes.{HasPassed, lane_in, lane_of};
 
 use crate::lane::Lane;
 use link_queues::{Local, OutEnd};
-use meta_base::{ArcId, NoMemory};
+use meta_base::{ArcId, List, NoMemory};
 use node_core::Outgoing;
+use std::alloc::Global;
 use std::collections::VecDeque;
+use std::mem::replace;
 
 // Appends the message to what waits, and notes that one more waits on the arc.
 fn send_inside<M: Drop>(
@@ -79,19 +81,22 @@ fn send_one<M: Drop>(
 }
 
 /// Sends each message on its arc, in order: inside the block, where the arc is then ready, or to another worker, where
-/// it is still to be flushed.
+/// it is still to be flushed. The memory of `out` stays there.
 pub(crate) fn send_all<M: Drop>(
+    alloc: Global,
     lanes: &mut Vec<Lane<M>>,
     ready: &mut VecDeque<ArcId>,
     unsent: &mut VecDeque<ArcId>,
-    out: Outgoing<M>,
+    out: &mut Outgoing<M>,
 ) -> Result<(), NoMemory>
     ensures { OnOk result ((b : ℕ) → HasPassed (lane_in (slice_get lanes.old.items b))
-        (on_arc b (map numbered out)) [] (lane_in (slice_get lanes.new.items b))) }
+        (on_arc b (map numbered out.old)) [] (lane_in (slice_get lanes.new.items b))) }
 {
-    for (arc, message) in out.into_vec() {
+    let mut left = VecDeque::from_vec(replace(out, List::new(alloc)).into_vec());
+    while let Some((arc, message)) = left.pop_front() {
         send_one(lanes, ready, unsent, arc, message)?;
     }
+    *out = List::from_vec(left.into_vec());
     Ok(())
 }
 
