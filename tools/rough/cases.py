@@ -137,11 +137,22 @@ def swept_of(kind, command, lasts):
             yield judged(kind, (command,), [*files[:-1], text])
 
 
+def swept_literals(policies):
+    """Every byte alone as a label and as a value, over each of the policies that are policies."""
+    for policy in policies:
+        if judged('network', (), [policy]).line:
+            continue
+        for byte in range(256):
+            for front in (b'node a b\nlink a b :', b'node a\norigin x at a :'):
+                yield judged('network', ('check',), [policy, front + bytes([byte])])
+
+
 def swept_cases(corpus, kind=None):
     """The swept policies, networks and reports of the corpus, or those of one kind."""
     if kind in (None, 'expression'):
         yield from swept_of('expression', 'check', [[policy] for policy in corpus.policies])
     if kind in (None, 'network'):
+        yield from swept_literals(corpus.policies)
         yield from swept_of('network', 'check', corpus.one_of_each_net())
     if kind in (None, 'report'):
         yield from swept_of('report', 'verify', corpus.reports)

@@ -12,8 +12,8 @@ from support import TOP, Folder, built, loaded, needs_program, tool
 sys.path.insert(0, os.path.join(TOP, 'tools'))
 
 from plain import expressions
-from rough import changes, drawn
-from rough.cases import Case
+from rough import changes, drawn, greatest
+from rough.cases import Case, judged, swept_literals
 
 TOOLS = ('fuzz', 'refused_memory', 'rough_use', 'load')
 POLICY = b'main lex(table { a < b; R: a -> b }, tags(3));\n'
@@ -58,6 +58,20 @@ class Texts(unittest.TestCase):
     def test_sweeps(self):
         self.assertEqual(list(changes.fronts(b'ab')), [b'', b'a', b'ab'])
         self.assertEqual(list(changes.with_each_byte(b'ab', b'{')), [b'{b', b'a{'])
+
+    def test_swept_literals(self):
+        cases = list(swept_literals([b'main seq(3);', b'main', b'main table { a < B; L: none };']))
+        self.assertEqual(len(cases), 2 * 512)
+        good = {case.files[1] for case in cases if not case.line}
+        # A line feed ends its line, and so does a comment, and the blank that is left is no literal.
+        self.assertEqual(good, {b'node a b\nlink a b :' + it for it in (b'0', b'1', b'2', b'L')}
+                         | {b'node a\norigin x at a :' + it for it in (b'a', b'B')})
+
+    def test_greatest_texts(self):
+        for text in greatest.texts():
+            for size in (65_536, 100_000):
+                case = judged(text.kind, (), text.files(text.text(size)))
+                self.assertEqual(case.line, text.refusal(size), (text.kind, text.name, size))
 
     def test_drawn_networks_are_networks(self):
         from plain import networks
@@ -125,6 +139,21 @@ class Fuzz(Folder):
             status, out, err = tool('fuzz', '--count', '25', '--kind', kind, '--program', built)
             self.assertEqual((status, err), (0, ''), out)
             self.assertIn(f'{kind} 25: accepted', out)
+
+    def test_what_is_wrong_with_a_great_file(self):
+        fuzz = loaded('fuzz')
+        self.assertFalse(fuzz.is_steep([0.1, 0.2, 0.4]))
+        self.assertFalse(fuzz.is_steep([0.0, 0.0, 0.09]))
+        self.assertTrue(fuzz.is_steep([0.1, 0.4, 1.6]))
+        status, out, _ = tool('fuzz', '--greatest', '--kind', 'report', '--count', '1', '--program',
+                              self.program('exit 9'))
+        self.assertEqual((status, 'status 9' in out, '1 wrong' in out), (1, True, True), out)
+
+    @needs_program
+    def test_greatest(self):
+        status, out, err = tool('fuzz', '--greatest', '--kind', 'report', '--count', '1', '--program', built)
+        self.assertEqual((status, err), (0, ''), out)
+        self.assertIn('report, empty lines: V5 at line 4194305; ', out)
 
     @needs_program
     def test_sweep(self):
