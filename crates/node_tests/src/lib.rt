@@ -5,6 +5,8 @@
 #![tactic(auto)]
 
 #[cfg(test)]
+mod changed_schedules;
+#[cfg(test)]
 mod judged;
 #[cfg(test)]
 mod machines;

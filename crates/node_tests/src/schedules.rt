@@ -16,11 +16,15 @@ use testkit_readers::network;
 
 // Knuth's MMIX linear congruential generator, by which the networks of `demo` are drawn too.
 #[derive(Drop)]
-struct Draws {
+pub(crate) struct Draws {
     state: u64,
 }
 
 impl Draws {
+    pub(crate) fn of_seed(seed: u64) -> Draws {
+        Draws { state: seed }
+    }
+
     // A number below the bound.
     fn below(&mut self, bound: usize) -> usize
         requires { 0 < bound }
@@ -34,7 +38,7 @@ impl Draws {
     }
 }
 
-const SEEDS: u64 = 100;
+pub(crate) const SEEDS: u64 = 100;
 
 const MOST_DELIVERIES: u64 = 1000;
 
@@ -54,14 +58,15 @@ fn waiting_arcs<N: NodeCore>(
 }
 
 // Makes deliveries on drawn arcs until nothing waits. Whether so many were enough.
-fn comes_to_rest<N: NodeCore>(
+pub(crate) fn comes_to_rest<N: NodeCore>(
     alloc: Global,
     config: &mut Config<'_, N>,
     draws: &mut Draws,
 ) -> Result<bool, Fail>
     requires running { IsRunning N.kind (net_of config.old) (machine_of N.state N.note config.old) }
     requires begun { AreUpTo N.kind (machine_of N.state N.note config.old) 0 }
-    ensures { OnOk result (IsRunning N.kind (net_of config.new) (machine_of N.state N.note config.new)) }
+    ensures net { OnOk result (net_of config.new ≡ net_of config.old) }
+    ensures running { OnOk result (IsRunning N.kind (net_of config.new) (machine_of N.state N.note config.new)) }
 {
     for made in 0..MOST_DELIVERIES {
         let arcs = waiting_arcs(alloc, &*config)?;
@@ -85,11 +90,18 @@ fn rows_by<A: Algebra>(
 {
     let nodes = new_nodes(alloc, algebra, net)?;
     let mut config = Config::start(alloc, net, nodes)?;
-    let mut draws = Draws { state: seed };
+    let mut draws = Draws::of_seed(seed);
     if !comes_to_rest(alloc, &mut config, &mut draws)? {
         return Ok(None);
     }
     Ok(Some(rows_now(alloc, &config)?))
+}
+
+// Whether the rows, of the one destination, are a stable table of the network.
+pub(crate) fn is_at_rest(alloc: Global, net: &Net, rows: List<RouteRow>) -> Result<bool, Fail> {
+    let dest = DestId(0);
+    let table = DestTable { dest, rows };
+    Ok(is_table_of(net, &table) && is_stable(alloc, net, &table)?)
 }
 
 // The place among these tables of the one that the nodes come to rest with, if they do. It fails where the table isn't
@@ -104,9 +116,7 @@ fn table_by(alloc: Global, net: &Net, tables: &[&str], seed: u64) -> Result<Opti
             place = Some(number);
         }
     }
-    let dest = DestId(0);
-    let table = DestTable { dest, rows };
-    if place.is_none() || !is_table_of(net, &table) || !is_stable(alloc, net, &table)? {
+    if place.is_none() || !is_at_rest(alloc, net, rows)? {
         return Err("the table is another one, or isn't stable".into());
     }
     Ok(place)
