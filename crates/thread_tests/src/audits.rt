@@ -83,7 +83,7 @@ fn journals_of_a_pair_are_audited(rt: HostRuntime) -> Result<(), Fail> {
     Ok(())
 }
 
-fn is_drained<N: NodeCore>(config: &Config<'_, N>) -> bool {
+pub(crate) fn is_drained<N: NodeCore>(config: &Config<'_, N>) -> bool {
     for id in 0..config.net().arc_count() {
         if config.waiting(ArcId(id as u32)) > 0 {
             return false;
@@ -109,7 +109,7 @@ fn is_reached(alloc: Global, net: &Net, ran: &Ran) -> Result<bool, Fail> {
 }
 
 // The journal with another entry at that place.
-fn replaced(
+pub(crate) fn replaced(
     alloc: Global,
     journal: &[Delivery],
     place: usize,
@@ -123,7 +123,7 @@ fn replaced(
 }
 
 // The journal with that entry once more, after itself.
-fn doubled(
+pub(crate) fn doubled(
     alloc: Global,
     journal: &[Delivery],
     place: usize,

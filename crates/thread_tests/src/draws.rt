@@ -134,10 +134,11 @@ fn push_origins(
     Ok(())
 }
 
-// The lines of a network of 2 to 12 nodes, with at most three arcs from each and 1 to 3 destinations.
-pub(crate) fn network_lines(alloc: Global, draws: &mut Draws, kind: &Kind) -> Result<String, Fail> {
+// The lines of a network of so many nodes, with at most three arcs from each and 1 to 3 destinations.
+fn lines_of(alloc: Global, draws: &mut Draws, kind: &Kind, nodes: u32) -> Result<String, Fail>
+    requires { 0 < nodes }
+{
     let mut lines = String::new(alloc);
-    let nodes = 2 + draws.below(11);
     for node in 0..nodes {
         lines.push_str(format!(in alloc; "node n{node}\n")?.as_str())?;
     }
@@ -146,6 +147,33 @@ pub(crate) fn network_lines(alloc: Global, draws: &mut Draws, kind: &Kind) -> Re
     }
     for dest in 0..1 + draws.below(3) {
         push_origins(alloc, &mut lines, draws, kind, nodes, dest)?;
+    }
+    Ok(lines)
+}
+
+// The lines of a network of 2 to 12 nodes.
+pub(crate) fn network_lines(alloc: Global, draws: &mut Draws, kind: &Kind) -> Result<String, Fail> {
+    let nodes = 2 + draws.below(11);
+    lines_of(alloc, draws, kind, nodes)
+}
+
+// The lines of a network of 2 to 12 nodes, and of 1 to 4 arcs that get a label each. Some of these arcs are there, and
+// some are taken out then.
+pub(crate) fn script_lines(alloc: Global, draws: &mut Draws, kind: &Kind) -> Result<String, Fail> {
+    let nodes = 2 + draws.below(11);
+    let mut lines = lines_of(alloc, draws, kind, nodes)?;
+    for _ in 0..1 + draws.below(4) {
+        let tail = 1 + draws.below(nodes - 1);
+        let head = draws.below(tail);
+        let label = draws.word(if head == 0 {
+            kind.homeward
+        } else {
+            kind.labels
+        });
+        lines.push_str(format!(in alloc; "then link n{tail} n{head} : {label}\n")?.as_str())?;
+        if draws.below(2) == 0 {
+            lines.push_str(format!(in alloc; "then drop n{tail} n{head}\n")?.as_str())?;
+        }
     }
     Ok(lines)
 }

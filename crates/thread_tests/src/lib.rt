@@ -16,6 +16,8 @@ mod links;
 #[cfg(test)]
 mod merge;
 #[cfg(test)]
+mod phase_audits;
+#[cfg(test)]
 mod phases;
 #[cfg(test)]
 mod replays;
