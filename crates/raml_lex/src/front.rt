@@ -16,6 +16,7 @@ pub enum Front {
 }
 
 /// The longest token of a text that begins with no space and no comment.
+#[inline(always)]
 pub fn token_at_front(text: &[u8], greatest: u64) -> Front
     ensures step { step_for result text.now ≡ token_at greatest text.now }
     ensures fits { Fits result text.now }

@@ -21,6 +21,7 @@ fn line_len(text: &[u8]) -> usize
 }
 
 // The end of the comment that begins there: the line feed of its line, or the end of the source.
+#[inline(never)]
 fn after_comment(source: &[u8], here: Cursor) -> Cursor
     requires cursor { IsCursor source.now here }
     requires within { here.at < length source.now }
@@ -34,9 +35,9 @@ fn after_comment(source: &[u8], here: Cursor) -> Cursor
     here.after(line_len(comment))
 }
 
-// How many bytes of a long run of spaces are passed together. A short run, as between most tokens, is passed
-// byte by byte.
-const BLOCK: usize = 256;
+// How many bytes of a long run of spaces are passed together: so few that one byte counts their line feeds. A
+// short run, as between most tokens, is passed byte by byte.
+const BLOCK: usize = 240;
 
 // Whether all are spaces. It looks at each and branches at none, so that one instruction looks at several.
 fn are_spaces(bytes: &[u8]) -> bool
@@ -50,13 +51,13 @@ fn are_spaces(bytes: &[u8]) -> bool
 }
 
 // How many line feeds there are.
-fn line_feeds(bytes: &[u8]) -> u32
-    requires { FitsPlace (length bytes.now) }
+fn line_feeds(bytes: &[u8]) -> u8
+    requires { length bytes.now < 2 ^ 8 }
     ensures { result ≡ count_by is_line_feed bytes.now }
 {
     let mut count = 0;
     for byte in bytes {
-        count += u32::from(*byte == b'\n');
+        count += u8::from(*byte == b'\n');
     }
     count
 }
@@ -66,13 +67,14 @@ fn after_bytes(source: &[u8], here: Cursor, bytes: &[u8]) -> Cursor
     requires cursor { IsCursor source.now here }
     requires bytes { take (length bytes.now) (drop here.at source.now) ≡ bytes.now }
     requires within { length bytes.now ≤ length (drop here.at source.now) }
+    requires few { length bytes.now < 2 ^ 8 }
     ensures cursor { IsCursor source.now result }
     ensures at { result.at ≡ here.at + length bytes.now }
 {
     match memrchr(b'\n', bytes) {
         Some(last) => Cursor {
             at: here.at + bytes.len(),
-            line: here.line + line_feeds(bytes),
+            line: here.line + u32::from(line_feeds(bytes)),
             line_start: here.at + last + 1,
         },
         None => here.after(bytes.len()),
@@ -80,6 +82,7 @@ fn after_bytes(source: &[u8], here: Cursor, bytes: &[u8]) -> Cursor
 }
 
 // After all whole blocks of spaces that stand from here on.
+#[inline(never)]
 fn after_blocks(source: &[u8], from: Cursor) -> Cursor
     requires { IsCursor source.now from }
     ensures cursor { IsCursor source.now result }
@@ -98,7 +101,9 @@ fn after_blocks(source: &[u8], from: Cursor) -> Cursor
     here
 }
 
-/// Where the spaces and comments end that stand from here on.
+/// Where the spaces and comments end that stand from here on. It stands in each call that takes a token, since
+/// most gaps are one space or none.
+#[inline(always)]
 pub fn gap_end(source: &[u8], from: Cursor) -> Cursor
     requires { IsCursor source.now from }
     ensures cursor { IsCursor source.now result }

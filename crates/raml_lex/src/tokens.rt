@@ -79,6 +79,7 @@ impl<'a> Tokens<'a> {
     /// byte outside comments that begins no token, and `NumberTooLarge` exactly at a run of digits
     /// whose value is above the greatest; the same fault comes again at each later call. The
     /// time of all calls together grows with the bytes of the source alone.
+    #[inline(never)]
     pub fn next(&mut self) -> Option<Result<Token<'a>, LexFault>>
         ensures end { IfNone result (Ended self.old self.new) }
         ensures token { IfSome result (λ r. IfOk r (λ t. Found self.old t self.new)) }

@@ -9,7 +9,7 @@ pub loop-here-preserved : goal.loop-here-preserved
 loop-here-preserved c =
     let source = c.args.source.now in
     let i = c.loop-here.here.at in
-    let n = i + 256 - i in
+    let n = i + 240 - i in
     let left = length-drop i source in
     let test = c.loop-here-test.true in
     let room : n ≤ length (drop i source) = omega arith in

@@ -9,7 +9,7 @@ pub returns-in-Some-clause-cursor : goal.returns-in-Some-clause-cursor
 returns-in-Some-clause-cursor c =
     let bytes = c.args.bytes.now in
     let found = c.in-Some.ensures in
-    rw c.line_feeds.ensures (IsCursor-lines c.args.source.now c.args.here bytes c.in-Some.last c.requires.cursor c.requires.bytes c.requires.within
+    rw (c.from.ensures, c.line_feeds.ensures) (IsCursor-lines c.args.source.now c.args.here bytes c.in-Some.last c.requires.cursor c.requires.bytes c.requires.within
     found.0.high (eqb-true _ 10 found.1) (none_from bytes (c.in-Some.last + 1) (λ k l m e. found.0.after k l m e)))
 
 pub returns-in-None-clause-cursor : goal.returns-in-None-clause-cursor

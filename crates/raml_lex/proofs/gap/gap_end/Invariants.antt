@@ -8,7 +8,7 @@ abbrev pub invariant-loop-here : goal.invariant-loop-here
 invariant-loop-here l = record {
   cursor : IsCursor l.source l.here;
   over : GapOver l.source l.fn.from.at l.here.at;
-  run : l.run < 256;
+  run : l.run < 240;
 }
 
 abbrev pub decreases-loop-here : goal.decreases-loop-here
