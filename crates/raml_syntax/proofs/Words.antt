@@ -3,6 +3,7 @@ use Rattle.std.proofs.Common.{◌≡◌, ℕ, ◌<◌, ◌==◌, Bool, true, fal
 use Rattle.std.specs.List.{find, list_any}
 use Rattle.std.specs.Str.{IsAscii, bytes_eq}
 use Rattle.std.proofs.lemmas.Bool.Decides.{nat_tests}
+use Rattle.std.proofs.lemmas.Slice.Eq.{bytes_eq-Decides}
 use Rattle.meta_base.specs.Bytes.{is_digit, is_letter, is_word_byte, front, after_front, number_from}
 use Rattle.raml_lex.specs.Gaps.{after_gap}
 use Rattle.raml_lex.specs.Lexers.{Lexer}
@@ -14,6 +15,13 @@ use Rattle.raml_syntax.specs.Meaning.{target_of, image_place}
 use Rattle.raml_syntax.specs.Reading.{TakesOne}
 use Rattle.raml_syntax.specs.Maps.{sources}
 use Rattle.raml_syntax.specs.Rows.{row_names}
+
+pub other_words : (a b : List ℕ) → (a ≡ b → ⊥) → bytes_eq a b ≡ false
+other_words a b other = by (bytes_eq a b) refl
+  where
+    by : (t : Bool) → bytes_eq a b ≡ t → bytes_eq a b ≡ false
+    by true e = absurd (other ((bytes_eq-Decides a b).0 e))
+    by false e = e
 
 pub among_sources : (ms : List MapSyntax) (w : List ℕ) → is_among (sources ms) w ≡ list_any (λ (m : MapSyntax). bytes_eq m.source w) ms
 among_sources [] w = refl

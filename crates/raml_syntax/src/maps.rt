@@ -13,7 +13,7 @@ ghost use Rattle.raml_syntax.specs.Syntax.{is_among, is_none};
 ghost use Rattle.raml_syntax.specs.Tested.{ReadsFollowing};
 
 use crate::expect::{refused, take, take_mark, take_word};
-use crate::values::{is_among, is_none};
+use crate::values::{is_among, is_none, is_same};
 use crate::{AlgError, ExprKind};
 use alg_model::place_of;
 use meta_base::{List, NoMemory, Text};
@@ -72,7 +72,7 @@ impl<'a> Map<'a> {
 fn is_mapped(maps: &[Map<'_>], word: &[u8]) -> bool
     ensures { result ≡ list_any (λ m. bytes_eq m.source word.now) maps.now }
 {
-    maps.iter().any(|map| map.source() == word)
+    maps.iter().any(|map| is_same(map.source(), word))
 }
 
 // Whether the word may be the source of a map after these.
@@ -94,7 +94,7 @@ fn is_target(names: &[Text], word: &[u8]) -> bool
 fn map_of<'m, 'a>(maps: &'m [Map<'a>], name: &[u8]) -> Option<&'m Map<'a>>
     ensures { option_map (λ m. m.now) result ≡ find (λ m. bytes_eq m.source name.now) maps.now }
 {
-    maps.iter().find(|map| map.source() == name)
+    maps.iter().find(|map| is_same(map.source(), name))
 }
 
 // The place of the image of the value of this name.

@@ -1,6 +1,6 @@
 // The values of a table.
-ghost use Rattle.std.specs.Prelude.{◌≡◌, ◌+◌, ◌<◌, ◌≤◌, ◌^◌, ◌&&◌, length, not, nat_le, IfOk, OnOk};
-ghost use Rattle.std.specs.Str.{IsAscii};
+ghost use Rattle.std.specs.Prelude.{◌≡◌, ◌+◌, ◌<◌, ◌≤◌, ◌^◌, ◌&&◌, true, length, not, nat_le, IfOk, OnOk};
+ghost use Rattle.std.specs.Str.{IsAscii, bytes_eq};
 ghost use Rattle.alg_model.specs.declared.alg.TheConstants.{MAX_TABLE_NAMES};
 ghost use Rattle.raml_syntax.specs.Leaves.{IsReady};
 ghost use Rattle.raml_syntax.specs.Marks.{own_name};
@@ -39,11 +39,31 @@ pub fn is_none(word: &[u8]) -> bool
     word == b"none".as_slice()
 }
 
+// Whether two words, of one length, have the same last byte.
+#[inline(always)]
+fn ends_alike(name: &[u8], word: &[u8]) -> bool
+    requires { length name.now ≡ length word.now }
+    ensures { name.now ≡ word.now → result ≡ true }
+{
+    word.is_empty() || name[word.len() - 1] == word[word.len() - 1]
+}
+
+/// Whether both are the same word. Names of a table are mostly alike at their front, so the last byte is compared first.
+#[inline(always)]
+#[tactic(auto, using(crate::proofs::Words::other_words))]
+pub fn is_same(name: &[u8], word: &[u8]) -> bool
+    ensures { result ≡ bytes_eq name.now word.now }
+{
+    name.len() == word.len() && ends_alike(name, word) && name == word
+}
+
 /// Whether the word is one of the names.
 pub fn is_among(names: &[Text], word: &[u8]) -> bool
     ensures { result ≡ is_among names.now word.now }
 {
-    names.iter().any(|name| name.as_str().as_bytes() == word)
+    names
+        .iter()
+        .any(|name| is_same(name.as_str().as_bytes(), word))
 }
 
 fn copied(alloc: Global, word: &[u8]) -> Result<Text, NoMemory>
