@@ -3,6 +3,7 @@ pub mod Taking
 pub mod OneToken
 pub mod TestLaws
 pub mod Compare
+pub mod Among
 pub mod Tables
 pub mod Expressions
 pub mod After

@@ -75,12 +75,24 @@ fn is_mapped(maps: &[Map<'_>], word: &[u8]) -> bool
     maps.iter().any(|map| is_same(map.source(), word))
 }
 
+// Whether the word is one of the names. The name at that place is tried first, since maps mostly name the values in
+// their order.
+#[tactic(auto, using(crate::proofs::Among::among_at))]
+fn is_likely_among(names: &[Text], place: usize, word: &[u8]) -> bool
+    ensures { result ≡ is_among names.now word.now }
+{
+    match names.get(place) {
+        Some(name) if is_same(name.as_str().as_bytes(), word) => true,
+        _ => is_among(names, word),
+    }
+}
+
 // Whether the word may be the source of a map after these.
 #[tactic(auto, using(crate::proofs::Words::among_sources))]
 fn is_source(names: &[Text], maps: &[Map<'_>], word: &[u8]) -> bool
     ensures { result ≡ is_new_source names.now (sources maps.now) word.now }
 {
-    is_among(names, word) && !is_mapped(maps, word)
+    is_likely_among(names, maps.len(), word) && !is_mapped(maps, word)
 }
 
 // Whether the word may be the target of a map.
@@ -111,7 +123,7 @@ pub fn images(alloc: Global, names: &[Text], maps: &[Map<'_>]) -> Result<List<Op
     requires { length names.now ≤ MAX_TABLE_NAMES }
     ensures { IfOk result (λ images. images ≡ map (image_place names.now maps.now) names.now) }
 {
-    let mut images = List::new(alloc);
+    let mut images = List::from_vec(Vec::with_capacity(alloc, names.len())?);
     for name in names {
         images.push(image_place(names, maps, name.as_str().as_bytes()))?;
     }
@@ -191,11 +203,11 @@ pub fn read_maps<'a>(
     ensures ready { OnOk result (IsReady tokens.new) }
     ensures maps { Reads (Maps names.now) tokens.old result tokens.new }
 {
-    let mut maps = List::new(alloc);
     let first = take_word(tokens)?;
     if is_none(first.text) {
-        return Ok((maps, take_after_row(tokens)?));
+        return Ok((List::new(alloc), take_after_row(tokens)?));
     }
+    let mut maps = List::from_vec(Vec::with_capacity(alloc, names.len())?);
     maps.push(read_map(tokens, names, maps.as_slice(), first)?)?;
     loop {
         if let AfterMap::After(after) = take_after_map(tokens)? {

@@ -48,7 +48,8 @@ fn ends_alike(name: &[u8], word: &[u8]) -> bool
     word.is_empty() || name[word.len() - 1] == word[word.len() - 1]
 }
 
-/// Whether both are the same word. Names of a table are mostly alike at their front, so the last byte is compared first.
+/// Whether both are the same word. Names of a table are mostly alike at their front, so the last byte is compared
+/// first.
 #[inline(always)]
 #[tactic(auto, using(crate::proofs::Words::other_words))]
 pub fn is_same(name: &[u8], word: &[u8]) -> bool

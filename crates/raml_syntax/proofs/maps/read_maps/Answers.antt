@@ -25,8 +25,8 @@ returns-in_err-take_after_row-clause-maps c =
 pub returns-then-is_none-clause-maps : goal.returns-then-is_none-clause-maps
 returns-then-is_none-clause-maps c =
     let after = c.in_ok-take_after_row.field-0 in
-    let maps = c.maps-then-is_none.inside.items.items in
-    reads_ok (Maps c.args.names.now) ([], after) (maps, after) c.args.tokens.now c.take_after_row.new.tokens (pair_same ([], after) (maps, after) (sym (c.maps-then-is_none.view_is ∙ c.new-maps.ensures)) refl)
+    let maps = c.new.result in
+    reads_ok (Maps c.args.names.now) ([], after) (maps, after) c.args.tokens.now c.take_after_row.new.tokens (pair_same ([], after) (maps, after) (sym c.new.ensures) refl)
     (maps_none c.args.names.now c.in_ok-first.first.text.now c.args.tokens.now c.take_word.new.tokens c.take_after_row.new.tokens after
     (sym c.if-is_none.ensures) c.in_ok-first.ensures.word.takes c.in_ok-take_after_row.ensures.mark)
 
@@ -35,7 +35,7 @@ returns-in_err-read_map-clause-maps c =
     let first = c.in_ok-first.first in
     let p = err_from_is_err_and c.from_residual-in_err-read_map.result c.from_residual-in_err-read_map.ensures.1 in
     let read = read_following c.args.names.now first.text.now first.place c.take_word.new.tokens c.read_map.new.tokens (Err c.in_err-read_map.field-0.0) c.as_slice.result.now []
-    (c.as_slice.ensures ∙ c.new-maps.ensures) c.in_err-read_map.ensures.map in
+    (c.as_slice.ensures ∙ c.from_vec-maps.ensures ∙ c.in_ok-with_capacity.ensures.items) c.in_err-read_map.ensures.map in
     rw (p.1, p.2)
     (maps_first_bad c.args.names.now first.text.now first.place c.args.tokens.now c.take_word.new.tokens c.read_map.new.tokens c.in_err-read_map.field-0.0
     (sym c.if-is_none.ensures) c.in_ok-first.ensures.word read)
@@ -46,8 +46,8 @@ loop-maps-init c =
     let first = c.in_ok-first.first in
     let m = c.in_ok-read_map.field-0 in
     let read = read_following names first.text.now first.place c.take_word.new.tokens c.read_map.new.tokens (Ok m) c.as_slice.result.now []
-    (c.as_slice.ensures ∙ c.new-maps.ensures) c.in_ok-read_map.ensures.map in
-    let now : c.push.new.self ≡ m ∷ [] = c.in_ok-push.ensures.ok ∙ ap (λ l. l ++ m ∷ []) c.new-maps.ensures in
+    (c.as_slice.ensures ∙ c.from_vec-maps.ensures ∙ c.in_ok-with_capacity.ensures.items) c.in_ok-read_map.ensures.map in
+    let now : c.push.new.self ≡ m ∷ [] = c.in_ok-push.ensures.ok ∙ ap (λ l. l ++ m ∷ []) (c.from_vec-maps.ensures ∙ c.in_ok-with_capacity.ensures.items) in
     record {
       ready = c.in_ok-read_map.ensures.ready;
       maps = λ result new z.
