@@ -63,6 +63,14 @@ pub at_other : (cs : List ℕ) (i : ℕ) → i < length cs → is_space (get_or 
     → (gap_of false (drop i cs) ≡ []) × (after_gap false (drop i cs) ≡ drop i cs)
 at_other cs i h s mark = (at_drop_more (gap_of false) cs i 0 h ∙ rw (mark, s) refl, at_drop_more (after_gap false) cs i 0 h ∙ rw (mark, s) refl ∙ sym (drop_more cs i 0 h))
 
+no_space : (c : ℕ) → 32 < c → is_space c ≡ false
+no_space c h = grind (arith, nat_tests)
+
+-- so it does at a byte above all spaces, but a mark
+pub at_higher : (cs : List ℕ) (i : ℕ) → i < length cs → 32 < get_or cs i 0 → (get_or cs i 0 == 35) ≡ false
+    → (gap_of false (drop i cs) ≡ []) × (after_gap false (drop i cs) ≡ drop i cs)
+at_higher cs i h above mark = at_other cs i h (no_space (get_or cs i 0) above) mark
+
 -- the bytes of a line in a comment
 line_read : (cs : List ℕ) (n : ℕ) → IsLine cs n → (gap_of true cs ≡ take n cs ++ gap_of false (drop n cs)) × (after_gap true cs ≡ after_gap false (drop n cs))
 line_read [] zero l = (refl, refl)

@@ -3,3 +3,4 @@ pub mod Gaps
 pub mod Places
 pub mod Sources
 pub mod Lexing
+pub mod WordBytes

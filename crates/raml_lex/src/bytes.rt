@@ -3,7 +3,28 @@ ghost use Rattle.std.specs.Prelude.{◌≡◌, ◌+◌, ◌-◌, ◌*◌, ◌<�
 ghost use Rattle.meta_base.specs.Bytes.{is_digit, is_word_byte, front, after_front};
 ghost use Rattle.raml_lex.specs.Numbers.{SpellsAtMost, at_most};
 
-use meta_base::bytes::{is_digit, is_word_byte};
+use meta_base::bytes::is_digit;
+
+// Of each byte 1 if it goes on with a word, and else 0.
+const WORD_BYTES: [u8; 256] = [
+    0, 0, 0, 0, 0, 0, 0, 0, 0, 0, 0, 0, 0, 0, 0, 0, 0, 0, 0, 0, 0, 0, 0, 0, 0, 0, 0, 0, 0, 0, 0, 0,
+    0, 0, 0, 0, 0, 0, 0, 0, 0, 0, 0, 0, 0, 0, 0, 0, 1, 1, 1, 1, 1, 1, 1, 1, 1, 1, 0, 0, 0, 0, 0, 0,
+    0, 1, 1, 1, 1, 1, 1, 1, 1, 1, 1, 1, 1, 1, 1, 1, 1, 1, 1, 1, 1, 1, 1, 1, 1, 1, 1, 0, 0, 0, 0, 1,
+    0, 1, 1, 1, 1, 1, 1, 1, 1, 1, 1, 1, 1, 1, 1, 1, 1, 1, 1, 1, 1, 1, 1, 1, 1, 1, 1, 0, 0, 0, 0, 0,
+    0, 0, 0, 0, 0, 0, 0, 0, 0, 0, 0, 0, 0, 0, 0, 0, 0, 0, 0, 0, 0, 0, 0, 0, 0, 0, 0, 0, 0, 0, 0, 0,
+    0, 0, 0, 0, 0, 0, 0, 0, 0, 0, 0, 0, 0, 0, 0, 0, 0, 0, 0, 0, 0, 0, 0, 0, 0, 0, 0, 0, 0, 0, 0, 0,
+    0, 0, 0, 0, 0, 0, 0, 0, 0, 0, 0, 0, 0, 0, 0, 0, 0, 0, 0, 0, 0, 0, 0, 0, 0, 0, 0, 0, 0, 0, 0, 0,
+    0, 0, 0, 0, 0, 0, 0, 0, 0, 0, 0, 0, 0, 0, 0, 0, 0, 0, 0, 0, 0, 0, 0, 0, 0, 0, 0, 0, 0, 0, 0, 0,
+];
+
+// Whether the byte goes on with a word, by one look.
+#[inline]
+#[tactic(auto, using(crate::proofs::WordBytes::table_says))]
+fn is_word_part(byte: u8) -> bool
+    ensures { result ≡ is_word_byte byte }
+{
+    WORD_BYTES[byte as usize] == 1
+}
 
 /// How many bytes of a word stand at the front.
 pub fn word_len(text: &[u8]) -> usize
@@ -13,7 +34,7 @@ pub fn word_len(text: &[u8]) -> usize
 {
     let mut len = 0;
     for byte in text {
-        if !is_word_byte(*byte) {
+        if !is_word_part(*byte) {
             break;
         }
         len += 1;

@@ -101,10 +101,24 @@ fn after_blocks(source: &[u8], from: Cursor) -> Cursor
     here
 }
 
-/// Where the spaces and comments end that stand from here on. It stands in each call that takes a token, since
-/// most gaps are one space or none.
+// After the space that stands there, if one does.
 #[inline(always)]
-pub fn gap_end(source: &[u8], from: Cursor) -> Cursor
+fn after_space(source: &[u8], from: &Cursor) -> Cursor
+    requires { IsCursor source.now from.now }
+    ensures cursor { IsCursor source.now result }
+    ensures gap { passed_at source.now result.at ≡ passed_at source.now from.now.at }
+    ensures after { after_gap false (drop result.at source.now) ≡ after_gap false (drop from.now.at source.now) }
+{
+    if from.at < source.len() && source[from.at] == b' ' {
+        from.after(1)
+    } else {
+        *from
+    }
+}
+
+// Where the spaces and comments end that stand from here on, however many.
+#[inline(never)]
+fn long_gap_end(source: &[u8], from: Cursor) -> Cursor
     requires { IsCursor source.now from }
     ensures cursor { IsCursor source.now result }
     ensures gap { take result.at source.now ≡ take from.at source.now ++ gap_of false (drop from.at source.now) }
@@ -130,4 +144,22 @@ pub fn gap_end(source: &[u8], from: Cursor) -> Cursor
         }
     }
     here
+}
+
+/// Where the spaces and comments end that stand from here on. It is written for most gaps, which are one space or
+/// none: where there are more, the gap is read from its front.
+#[inline(always)]
+pub fn gap_end(source: &[u8], from: &Cursor) -> Cursor
+    requires { IsCursor source.now from.now }
+    ensures cursor { IsCursor source.now result }
+    ensures gap { take result.at source.now
+        ≡ take from.now.at source.now ++ gap_of false (drop from.now.at source.now) }
+    ensures after { drop result.at source.now ≡ after_gap false (drop from.now.at source.now) }
+{
+    let here = after_space(source, from);
+    if here.at < source.len() && source[here.at] > b' ' && source[here.at] != b'#' {
+        here
+    } else {
+        long_gap_end(source, *from)
+    }
 }

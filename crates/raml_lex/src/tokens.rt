@@ -79,7 +79,6 @@ impl<'a> Tokens<'a> {
     /// byte outside comments that begins no token, and `NumberTooLarge` exactly at a run of digits
     /// whose value is above the greatest; the same fault comes again at each later call. The
     /// time of all calls together grows with the bytes of the source alone.
-    #[inline(never)]
     pub fn next(&mut self) -> Option<Result<Token<'a>, LexFault>>
         ensures end { IfNone result (Ended self.old self.new) }
         ensures token { IfSome result (λ r. IfOk r (λ t. Found self.old t self.new)) }
@@ -93,7 +92,7 @@ impl<'a> Tokens<'a> {
         if let Some(fault) = self.fault {
             return Some(Err(fault));
         }
-        let start = gap_end(self.source, self.here);
+        let start = gap_end(self.source, &self.here);
         let (_, text) = self.source.split_at(start.at);
         match token_at_front(text, self.greatest) {
             Front::End => {

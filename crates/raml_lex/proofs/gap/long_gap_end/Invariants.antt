@@ -1,7 +1,7 @@
 use Rattle.std.proofs.Common.{◌-◌, ◌<◌, length}
 use Rattle.raml_lex.specs.Sources.{IsCursor}
 use Rattle.raml_lex.proofs.Gaps.{GapOver}
-use Rattle.raml_lex.proofs.gap.gap_end.Given as goal
+use Rattle.raml_lex.proofs.gap.long_gap_end.Given as goal
 
 -- the gap was read up to here
 abbrev pub invariant-loop-here : goal.invariant-loop-here
