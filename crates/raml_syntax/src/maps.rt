@@ -3,6 +3,7 @@ ghost use Rattle.std.specs.Prelude.{◌≡◌, ◌<◌, ◌≤◌, ◌&&◌, ◌
 ghost use Rattle.std.specs.List.{find, list_any};
 ghost use Rattle.std.specs.Str.{bytes_eq};
 ghost use Rattle.alg_model.specs.declared.alg.TheConstants.{MAX_TABLE_NAMES};
+ghost use Rattle.alg_model.specs.Names.{place_of};
 ghost use Rattle.raml_lex.specs.Lexers.{Lexer};
 ghost use Rattle.raml_lex.specs.Tokens.{word};
 ghost use Rattle.raml_syntax.specs.Leaves.{IsReady};
@@ -15,7 +16,6 @@ ghost use Rattle.raml_syntax.specs.Tested.{ReadsFollowing};
 use crate::expect::{refused, take, take_mark, take_word};
 use crate::values::{is_among, is_none, is_same};
 use crate::{AlgError, ExprKind};
-use alg_model::place_of;
 use meta_base::{List, NoMemory, Text};
 use raml_lex::{Token, TokenKind, Tokens};
 use std::alloc::Global;
@@ -109,13 +109,32 @@ fn map_of<'m, 'a>(maps: &'m [Map<'a>], name: &[u8]) -> Option<&'m Map<'a>>
     maps.iter().find(|map| is_same(map.source(), name))
 }
 
+// Where the first of the names stands that is this word.
+fn position_in(names: &[Text], word: &[u8]) -> Option<usize>
+    ensures place { result ≡ place_of names.now word.now }
+    ensures within { IfSome result (λ place. place < length names.now) }
+{
+    names
+        .iter()
+        .position(|name| is_same(name.as_str().as_bytes(), word))
+}
+
+// The same as a place of a table.
+fn place_in(names: &[Text], word: &[u8]) -> Option<u8>
+    requires { length names.now ≤ MAX_TABLE_NAMES }
+    ensures { result ≡ place_of names.now word.now }
+{
+    let place = position_in(names, word)?;
+    Some(place as u8)
+}
+
 // The place of the image of the value of this name.
 fn image_place(names: &[Text], maps: &[Map<'_>], name: &[u8]) -> Option<u8>
     requires { length names.now ≤ MAX_TABLE_NAMES }
     ensures { result ≡ image_place names.now maps.now name.now }
 {
     let map = map_of(maps, name)?;
-    place_of(names, map.target())
+    place_in(names, map.target())
 }
 
 /// The places of the images of all values.
