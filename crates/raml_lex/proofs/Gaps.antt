@@ -7,7 +7,7 @@ use Rattle.std.specs.List.{list_all}
 use Rattle.std.proofs.lemmas.Bool.{eqb-true}
 use Rattle.std.proofs.lemmas.Bool.Decides.{nat_tests}
 use Rattle.meta_base.specs.Bytes.{is_line_feed, is_space}
-use Rattle.raml_lex.specs.Gaps.{gap_of, after_gap, IsGap, IsLine}
+use Rattle.raml_lex.specs.Gaps.{gap_of, after_gap, is_plain_space, IsGap, IsLine}
 
 -- a text is its gap and what comes after it
 pub gap_split : (b : Bool) (text : List ℕ) → gap_of b text ++ after_gap b text ≡ text
@@ -119,6 +119,19 @@ gap_over cs i j g none left = (sym (append-nil (take j cs)) ∙ ap (λ x. take j
 -- nothing is left at the end
 pub at_end : (cs : List ℕ) (i : ℕ) → length cs ≤ i → (gap_of false (drop i cs) ≡ []) × (after_gap false (drop i cs) ≡ drop i cs)
 at_end cs i h = let e : drop i cs ≡ [] = drop_of_length-le cs h in rw e (refl, refl)
+
+plain_space : (c : ℕ) → is_plain_space c ≡ true → is_space c ≡ true
+plain_space c h = grind (arith, nat_tests)
+
+-- blanks and line feeds are spaces
+pub plain_spaces : (cs : List ℕ) → list_all is_plain_space cs ≡ true → list_all is_space cs ≡ true
+plain_spaces [] h = refl
+plain_spaces (c ∷ cs) h = by (is_plain_space c) refl (plain_spaces cs) h
+  where
+    by : (b : Bool) → is_plain_space c ≡ b → (list_all is_plain_space cs ≡ true → list_all is_space cs ≡ true)
+        → (b && list_all is_plain_space cs) ≡ true → (is_space c && list_all is_space cs) ≡ true
+    by true e rest h = rw (plain_space c e) (rest h)
+    by false e rest h = absurd (cc)
 
 -- over several spaces
 pub over_spaces : (cs : List ℕ) (i n : ℕ) → i + n ≤ length cs → list_all is_space (take n (drop i cs)) ≡ true → GapOver cs i (i + n)

@@ -1,7 +1,7 @@
 -- What stands between two tokens: spaces, and comments. A comment runs from a `#` to the line feed that
 -- ends its line, or to the end of the text, and may hold any bytes. The first argument says whether a
 -- comment is open.
-use Rattle.std.specs.Prelude.{◌≡◌, ◌⊎◌, ◌<◌, ◌≤◌, ℕ, List, [], ◌∷◌, ◌++◌, take, drop, length, slice_index, Bool, true, false, not, ◌==◌, IsTrue, if◌then◌else◌}
+use Rattle.std.specs.Prelude.{◌≡◌, ◌⊎◌, ◌<◌, ◌≤◌, ℕ, List, [], ◌∷◌, ◌++◌, take, drop, length, slice_index, Bool, true, false, not, ◌==◌, ◌||◌, IsTrue, if◌then◌else◌}
 use Rattle.meta_base.specs.Bytes.{is_space, is_line_feed}
 
 -- the spaces and comments at the front
@@ -15,6 +15,10 @@ abbrev pub after_gap : Bool → List ℕ → List ℕ
 after_gap in_comment [] = []
 after_gap true (c ∷ cs) = after_gap (not (is_line_feed c)) cs
 after_gap false (c ∷ cs) = if c == 35 then after_gap true cs else (if is_space c then after_gap false cs else c ∷ cs)
+
+-- the spaces of most long gaps
+abbrev pub is_plain_space : ℕ → Bool
+is_plain_space c = c == 32 || c == 10
 
 -- all that stands before a place, and the gap there
 abbrev pub passed_at : List ℕ → ℕ → List ℕ

@@ -2,7 +2,7 @@
 ghost use Rattle.std.specs.Prelude.{◌≡◌, ◌+◌, ◌<◌, ◌≤◌, ◌^◌, ◌++◌, false, take, drop, length, count_by, slice_index};
 ghost use Rattle.std.specs.List.{list_all};
 ghost use Rattle.meta_base.specs.Bytes.{is_space, is_line_feed};
-ghost use Rattle.raml_lex.specs.Gaps.{passed_at, gap_of, after_gap, IsLine};
+ghost use Rattle.raml_lex.specs.Gaps.{passed_at, gap_of, after_gap, is_plain_space, IsLine};
 ghost use Rattle.raml_lex.specs.Places.{FitsPlace};
 ghost use Rattle.raml_lex.specs.Sources.{IsCursor};
 
@@ -39,8 +39,29 @@ fn after_comment(source: &[u8], here: Cursor) -> Cursor
 // short run, as between most tokens, is passed byte by byte.
 const BLOCK: usize = 240;
 
-// Whether all are spaces. It looks at each and branches at none, so that one instruction looks at several.
+// Whether all are spaces. Tabs and carriage returns are looked for only where there are others than blanks and line
+// feeds.
+#[tactic(auto, using(crate::proofs::Gaps::plain_spaces))]
 fn are_spaces(bytes: &[u8]) -> bool
+    ensures { result ≡ list_all is_space bytes.now }
+{
+    are_plain_spaces(bytes) || are_any_spaces(bytes)
+}
+
+// Whether all are blanks and line feeds. It looks at each and branches at none, so that one instruction looks at
+// several.
+fn are_plain_spaces(bytes: &[u8]) -> bool
+    ensures { result ≡ list_all is_plain_space bytes.now }
+{
+    let mut all = true;
+    for byte in bytes {
+        all &= (*byte == b' ') | (*byte == b'\n');
+    }
+    all
+}
+
+// Whether all are spaces, in the same way.
+fn are_any_spaces(bytes: &[u8]) -> bool
     ensures { result ≡ list_all is_space bytes.now }
 {
     let mut all = true;
