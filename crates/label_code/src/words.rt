@@ -70,8 +70,10 @@ impl Words {
         }
     }
 
-    // Adds a word where the row has no room in place.
+    // Adds a word where the row has no room in place. It stands apart, so that whoever adds a word where there is room
+    // need not clear the place for what is moved here.
     #[cold]
+    #[inline(never)]
     fn push_elsewhere(&mut self, alloc: Global, word: Word) -> Result<(), NoMemory>
         ensures { OnOk result (self.new ≡ self.old ++ word ∷ []) }
     {
@@ -82,6 +84,16 @@ impl Words {
                 self.store = Store::There(more);
             }
             Store::There(words) => words.push(word)?,
+        }
+        Ok(())
+    }
+
+    // Adds the words one after another, which moves those that stand in place once there is no more room for them.
+    fn extend_in_turn(&mut self, alloc: Global, words: &[Word]) -> Result<(), NoMemory>
+        ensures { OnOk result (self.new ≡ self.old ++ words.now) }
+    {
+        for word in words {
+            self.push(alloc, *word)?;
         }
         Ok(())
     }
@@ -109,7 +121,21 @@ impl Output for Words {
                 short.len += 1;
                 Ok(())
             }
-            _ => self.push_elsewhere(alloc, word),
+            Store::Here(_) => self.push_elsewhere(alloc, word),
+            Store::There(words) => {
+                words.push(word)?;
+                Ok(())
+            }
+        }
+    }
+
+    fn extend(&mut self, alloc: Global, words: &[Word]) -> Result<(), NoMemory> {
+        match &mut self.store {
+            Store::Here(_) => self.extend_in_turn(alloc, words),
+            Store::There(there) => {
+                there.extend_from_slice(words)?;
+                Ok(())
+            }
         }
     }
 }
