@@ -1,5 +1,5 @@
 -- What a step of the machine tells of an effect.
-use Rattle.std.specs.Prelude.{◌≡◌, ℕ, List, ◌++◌, Bool, true, false, Option, Some, None, Result, Ok, Err, if◌then◌else◌}
+use Rattle.std.specs.Prelude.{◌≡◌, ℕ, List, [], ◌++◌, Bool, true, false, Option, Some, None, Result, Ok, Err, if◌then◌else◌}
 use Rattle.label_code.specs.declared.operations.Op.{Op}
 use Rattle.label_code.specs.declared.operations.Op.TheVariants as op
 use Rattle.label_code.specs.declared.in_place.InPlace.{InPlace}
@@ -7,6 +7,8 @@ use Rattle.label_code.specs.declared.in_place.InPlace.TheVariants.{Writes, Prohi
 use Rattle.label_code.specs.declared.machine.Next.{Next}
 use Rattle.label_code.specs.declared.machine.Halt.{Halt}
 use Rattle.label_code.specs.declared.machine.Halt.TheVariants.{Prohibited, NoMemory}
+use Rattle.label_code.specs.declared.fixed.Replacing.{Replacing}
+use Rattle.label_code.specs.declared.fixed.Replacing.TheVariants as replaces
 use Rattle.label_code.specs.Effects.{Effect, goes_on, writes, denies, misses, effect}
 
 -- the operation reads a word, and writes one in its place or prohibits
@@ -53,3 +55,9 @@ abbrev pub Does : Result Next Halt → List ℕ → List ℕ → Effect → Type
 Does (Ok next) old new e = Some (new, (next.row.now, next.jump)) ≡ left_by old e
 Does (Err Prohibited) old new e = left_by old e ≡ None
 Does (Err NoMemory) old new e = Unit {0}
+
+-- the operation does what its effect is, where it is one of those that replace words by others
+abbrev pub IsReplacing : Replacing → Effect → Type 0
+IsReplacing (replaces.Writes word rest) e = e ≡ writes word rest.now
+IsReplacing (replaces.Drops rest) e = e ≡ goes_on [] rest.now 0
+IsReplacing replaces.Other e = Unit {0}

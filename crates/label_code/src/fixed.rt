@@ -1,5 +1,7 @@
-ghost use Rattle.std.specs.Prelude.{◌≡◌, ◌≤◌, [], ◌∷◌, ◌++◌, length, take, IfOk, OnOk};
+ghost use Rattle.std.specs.Prelude.{◌≡◌, ◌≢◌, ◌≤◌, [], ◌∷◌, ◌++◌, length, take, IfOk, OnOk};
 ghost use Rattle.label_code.specs.declared.words.TheConstants.{HERE};
+ghost use Rattle.label_code.specs.Effects.{effect, misses};
+ghost use Rattle.label_code.specs.Steps.{IsReplacing};
 ghost use Rattle.label_code.specs.Rows.{has_width, MakesOnly, Reports};
 ghost use Rattle.label_code.specs.Machine.{Fits, RunCode, after_written};
 
@@ -75,9 +77,50 @@ impl<const N: usize> FixedRow<N> {
         self.write_left(alloc, N, code, row)
     }
 
-    // Writes what is left of the code and the row after so many words, which stand.
+    // Writes what is left of the code and the row after so many words, which stand. Codes that replace some words by
+    // others drop the old and write the new, which is done here; what does something else is left to the machine.
     #[inline(never)]
     fn write_left(
+        &mut self,
+        alloc: Global,
+        count: usize,
+        code: &[Op],
+        row: &[Word],
+    ) -> Result<Run, NoMemory>
+        requires count { count ≤ N }
+        requires fits { Fits code.now row.now }
+        requires holds { MakesOnly (λ row. has_width N row)
+            (after_written (take count self.old.words) (RunCode code.now row.now)) }
+        ensures { IfOk result (λ run. Reports run self.new.words
+            (after_written (take count self.old.words) (RunCode code.now row.now))) }
+    {
+        let mut count = count;
+        let mut code = code;
+        let mut row = row;
+        while count < N {
+            let Some((op, others)) = code.split_first() else {
+                break;
+            };
+            match replace_word(op, row) {
+                Replacing::Writes(written, rest) => {
+                    self.words[count] = written;
+                    count += 1;
+                    row = rest;
+                }
+                Replacing::Drops(rest) => row = rest,
+                Replacing::Other => break,
+            }
+            code = others;
+        }
+        if code.is_empty() {
+            return Ok(Run::Made);
+        }
+        self.write_rest(alloc, count, code, row)
+    }
+
+    // The same by the machine.
+    #[inline(never)]
+    fn write_rest(
         &mut self,
         alloc: Global,
         count: usize,
@@ -97,6 +140,34 @@ impl<const N: usize> FixedRow<N> {
             self.words = written.words();
         }
         Ok(run)
+    }
+}
+
+// What an operation does of those that replace words by others.
+#[derive(Clone, Copy)]
+enum Replacing<'a> {
+    // It writes this word, and leaves these to be read.
+    Writes(Word, &'a [Word]),
+    // It writes no word, and leaves these to be read.
+    Drops(&'a [Word]),
+    // It isn't such an operation.
+    Other,
+}
+
+// What the operation does, if it is one of those that replace words by others.
+#[inline(always)]
+fn replace_word<'a>(op: &Op, row: &'a [Word]) -> Replacing<'a>
+    requires { effect op.now row.now ≢ misses }
+    ensures { IsReplacing result (effect op.now row.now) }
+{
+    match (op, row) {
+        (Op::Emit(word), _) => Replacing::Writes(*word, row),
+        (Op::Drop, [_, rest @ ..]) => Replacing::Drops(rest),
+        (_, [word, rest @ ..]) => match in_place(op, *word, rest) {
+            InPlace::Writes(word, rest) => Replacing::Writes(word, rest),
+            _ => Replacing::Other,
+        },
+        _ => Replacing::Other,
     }
 }
 
