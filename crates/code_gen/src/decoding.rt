@@ -33,6 +33,7 @@ pub(crate) fn decode_words(alloc: Global, alg: &Alg, row: &[Word]) -> Result<Val
 
 // Takes the words of a value of the tree's carrier from the front of the row.
 #[cycle(take_value)]
+#[inline(always)]
 fn take_value(alloc: Global, tree: &Tree, row: &mut &[Word]) -> Result<Value, NoMemory>
     requires ranges { MeetsRanges (expression_of tree.now) }
     requires there { Dec (carrier_of (expression_of tree.now)) row.old.now ≢ None }
@@ -46,12 +47,25 @@ fn take_value(alloc: Global, tree: &Tree, row: &mut &[Word]) -> Result<Value, No
         Form::One => Ok(Value::Unit),
         Form::Named(names, _) => Ok(take_name(names, row)),
         Form::Pair(a, b) => {
-            let u = Box::new(alloc, take_value(alloc, a, row)?)?;
-            let v = Box::new(alloc, take_value(alloc, b, row)?)?;
+            let u = take_boxed(alloc, a, row)?;
+            let v = take_boxed(alloc, b, row)?;
             Ok(Value::Pair(u, v))
         }
         Form::Side(a, b) => take_side(alloc, a, b, row),
     }
+}
+
+// The same, into memory of its own. Parts of values are made by this call, which hands back one word, so that no call
+// has to make room for a whole value of each part.
+#[cycle(take_value)]
+#[inline(never)]
+fn take_boxed(alloc: Global, tree: &Tree, row: &mut &[Word]) -> Result<Box<Value>, NoMemory>
+    requires ranges { MeetsRanges (expression_of tree.now) }
+    requires there { Dec (carrier_of (expression_of tree.now)) row.old.now ≢ None }
+    ensures { IfOk result (λ boxed.
+        Some (pure_value boxed.value, row.new.now) ≡ Dec (carrier_of (expression_of tree.now)) row.old.now) }
+{
+    Ok(Box::new(alloc, take_value(alloc, tree, row)?)?)
 }
 
 #[cycle(take_value)]
@@ -65,8 +79,8 @@ fn take_side(alloc: Global, a: &Tree, b: &Tree, row: &mut &[Word]) -> Result<Val
         (λ rest. Dec (carrier_of (expression_of b.now)) rest) row.old.now) }
 {
     match take_word(row) {
-        0 => Ok(Value::First(Box::new(alloc, take_value(alloc, a, row)?)?)),
-        1 => Ok(Value::Second(Box::new(alloc, take_value(alloc, b, row)?)?)),
+        0 => Ok(Value::First(take_boxed(alloc, a, row)?)),
+        1 => Ok(Value::Second(take_boxed(alloc, b, row)?)),
         _ => unreachable!(),
     }
 }
