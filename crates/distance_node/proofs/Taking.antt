@@ -39,7 +39,12 @@ came_on net n i arc place listens at =
     let id = id_at 0 net.arcs arc from.0 n.arc_ids from.1 in
     (from.0, subst (λ z. slice_get (arcs_from net z) place ≡ Some from.0) from.2 there, omega (arith, id))
 
--- what was sent before a clock, once more
+-- what was sent before a clock
+pub told_may : {S : Type 0} (is_sig : S → Type 0) (value : S → PureValue) (stamp clock : ℕ) (told : Option S) → stamp < clock → IsTold is_sig value stamp told → IfSome told (λ s. is_sig s × AtMost (clock * 2 ^ 64) (value s))
+told_may is_sig value stamp clock None l is = tt
+told_may is_sig value stamp clock (Some t) l is = (is.0, at_most_more (greatest_at stamp) (clock * 2 ^ 64) (value t) (later_room stamp clock l) is.1)
+
+-- and the same once more
 pub told_before : {S : Type 0} (is_sig : S → Type 0) (value : S → PureValue) (stamp clock : ℕ) (told copied : Option S) → stamp < clock → IsTold is_sig value stamp told → IfSome copied is_sig → option_map value copied ≡ option_map value told
     → IfSome copied (λ s. is_sig s × AtMost (clock * 2 ^ 64) (value s))
 told_before is_sig value stamp clock told None l is sig e = tt

@@ -126,6 +126,7 @@ fn known_at<'h, S>(
 }
 
 // The node's choice of what it is offered, once it is sent that. Offers are made in the memory of the spare value.
+#[inline(never)]
 pub(crate) fn choose<A: Algebra>(
     alloc: Global,
     site: &Site<'_, A>,

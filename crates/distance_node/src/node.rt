@@ -150,6 +150,7 @@ impl<'a, A: Algebra, M: Mark<A>> DvNode<'a, A, M> {
     }
 
     // Takes a message that fits, and puts into `out`, which is empty, what the node tells then.
+    #[inline(always)]
     fn take(
         &mut self,
         arc: ArcId,
@@ -171,7 +172,8 @@ impl<'a, A: Algebra, M: Mark<A>> DvNode<'a, A, M> {
         let alloc = *self.rows.allocator();
         let dest = message.dest();
         let place = self.net.place_of(arc);
-        let told = copied_value(alloc, self.algebra, message.told(self.algebra))?;
+        let told = message.told(self.algebra);
+        let kept = copied_value(alloc, self.algebra, told)?;
         let site = Site {
             algebra: self.algebra,
             net: self.net,
@@ -183,7 +185,7 @@ impl<'a, A: Algebra, M: Mark<A>> DvNode<'a, A, M> {
             arc,
             place,
             dest,
-            value: &told,
+            value: told,
             clock,
         };
         reply_to(
@@ -195,7 +197,7 @@ impl<'a, A: Algebra, M: Mark<A>> DvNode<'a, A, M> {
             &mut self.spare,
             out,
         )?;
-        self.heard[dest.0 as usize * self.speakers.len() + place] = told;
+        self.heard[dest.0 as usize * self.speakers.len() + place] = kept;
         self.last = clock;
         Ok(())
     }
@@ -267,6 +269,7 @@ impl<'a, A: Algebra, M: Mark<A>> NodeCore for DvNode<'a, A, M> {
         Ok(())
     }
 
+    #[inline(always)]
     fn on_message(
         &mut self,
         arc: ArcId,
