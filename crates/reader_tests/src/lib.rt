@@ -15,4 +15,6 @@ mod outside;
 #[cfg(test)]
 mod refusals;
 #[cfg(test)]
+mod single_bytes;
+#[cfg(test)]
 mod tokens;

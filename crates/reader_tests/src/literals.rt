@@ -10,8 +10,12 @@ use std::test::Fail;
 use testkit_readers::{algebra, algebra_of_file};
 
 // The value that the text spells, printed again, or the fault of the text.
-fn value_again(alloc: Global, alg: &Alg, text: &str) -> Result<Result<Text, LitFault>, Fail> {
-    match read_value(alloc, alg, text.as_bytes()) {
+pub(crate) fn value_again(
+    alloc: Global,
+    alg: &Alg,
+    text: &[u8],
+) -> Result<Result<Text, LitFault>, Fail> {
+    match read_value(alloc, alg, text) {
         Ok(value) => Ok(Ok(print_value(alloc, alg, &value)?)),
         Err(LitError::Bad(fault)) => Ok(Err(fault)),
         Err(LitError::NoMemory) => Err("out of memory".into()),
@@ -19,8 +23,12 @@ fn value_again(alloc: Global, alg: &Alg, text: &str) -> Result<Result<Text, LitF
 }
 
 // The same of a label.
-fn label_again(alloc: Global, alg: &Alg, text: &str) -> Result<Result<Text, LitFault>, Fail> {
-    match read_label(alloc, alg, text.as_bytes()) {
+pub(crate) fn label_again(
+    alloc: Global,
+    alg: &Alg,
+    text: &[u8],
+) -> Result<Result<Text, LitFault>, Fail> {
+    match read_label(alloc, alg, text) {
         Ok(label) => Ok(Ok(print_label(alloc, alg, &label)?)),
         Err(LitError::Bad(fault)) => Ok(Err(fault)),
         Err(LitError::NoMemory) => Err("out of memory".into()),
@@ -43,7 +51,7 @@ fn answers_value(
     expected: Result<&str, LitFault>,
 ) -> Result<bool, Fail> {
     let alg = algebra(alloc, expression)?;
-    let answer = value_again(alloc, &alg, text);
+    let answer = value_again(alloc, &alg, text.as_bytes());
     drop(alg);
     Ok(is_answer(answer?, expected))
 }
@@ -56,7 +64,7 @@ fn answers_label(
     expected: Result<&str, LitFault>,
 ) -> Result<bool, Fail> {
     let alg = algebra(alloc, expression)?;
-    let answer = label_again(alloc, &alg, text);
+    let answer = label_again(alloc, &alg, text.as_bytes());
     drop(alg);
     Ok(is_answer(answer?, expected))
 }
@@ -152,9 +160,9 @@ fn wide_literals(rt: HostRuntime) -> Result<(), Fail> {
     let alloc = rt.alloc();
     let alg = algebra_of_file(alloc, b"raml 2; main add(1..18446744073709551615);")?;
     let greatest = "18446744073709551615";
-    let label = label_again(alloc, &alg, greatest)?;
-    let value = value_again(alloc, &alg, greatest)?;
-    let beyond = value_again(alloc, &alg, "18446744073709551616")?;
+    let label = label_again(alloc, &alg, greatest.as_bytes())?;
+    let value = value_again(alloc, &alg, greatest.as_bytes())?;
+    let beyond = value_again(alloc, &alg, b"18446744073709551616")?;
     drop(alg);
     assert!(rt; is_answer(label, Ok(greatest)));
     assert!(rt; is_answer(value, Ok(greatest)));
