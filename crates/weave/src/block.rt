@@ -29,7 +29,6 @@ pub struct Block<N: NodeCore> {
 
 /// The listener of the arc takes the message in front there, if both are here and one is seen. What it puts out isn't
 /// sent yet.
-#[inline(always)]
 pub(crate) fn hear<N: NodeCore>(
     seats: &mut Vec<Option<Seat<N>>>,
     lanes: &mut Vec<Lane<N::Message>>,
@@ -69,7 +68,6 @@ pub(crate) fn hear<N: NodeCore>(
 /// The listener of the arc takes the message in front there, if both are here and one is seen, and what it puts into the
 /// outbox is sent. The gate gets a report of it, as made by the worker. It answers how many messages were sent, where one
 /// was taken.
-#[inline(always)]
 pub(crate) fn step<N: NodeCore, G: Gate>(
     alloc: Global,
     block: &mut Block<N>,

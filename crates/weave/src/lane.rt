@@ -34,7 +34,6 @@ fn next_clock(clock: u64, stamp: u64) -> Option<u64>
 }
 
 // Takes the message that waits in front, with the clock that it gives.
-#[inline(always)]
 fn take_inside<N: NodeCore>(queue: &mut Local<N::Message>, clock: u64) -> Option<(N::Message, u64)>
     ensures none { IfNone result (lane_of (Lane.Inside queue.new) ≡ lane_of (Lane.Inside queue.old)) }
     ensures some { IfSome result (λ r. (r.1 ≡ max clock (N.kind.stamp (N.note r.0)) + 1) × (r.1 ≤ MAX_CLOCK)
@@ -65,7 +64,6 @@ fn take_coming<N: NodeCore>(into: &mut InEnd<N::Message>, clock: u64) -> Option<
 
 /// Takes the message in front of the arc, if its listener is here and one is seen, with the clock that it gives a
 /// node whose last one is known. What waits inside is seen.
-#[inline(always)]
 pub(crate) fn take_front<N: NodeCore>(
     lane: &mut Lane<N::Message>,
     clock: u64,

@@ -19,7 +19,6 @@ pub struct Seat<N: NodeCore> {
 
 /// Hands the node the message in front of an arc on which it listens, if one is seen, and puts into `out`, which is
 /// empty, what it sends.
-#[inline(always)]
 pub(crate) fn take<N: NodeCore>(
     seat: &mut Seat<N>,
     lane: &mut Lane<N::Message>,
