@@ -55,7 +55,6 @@ fn move_row<A: Algebra, M: Mark<A>>(
 // Lets the row of a destination, which was the node's choice, be its choice again once the node is sent something, and
 // puts into `out`, which is empty, what the node tells of it.
 #[tactic(auto, using(crate::specs::Fitting::same_told_self))]
-#[inline(always)]
 pub(crate) fn reply_to<A: Algebra, M: Mark<A>>(
     alloc: Global,
     site: &Site<'_, A>,

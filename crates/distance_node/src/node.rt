@@ -150,7 +150,6 @@ impl<'a, A: Algebra, M: Mark<A>> DvNode<'a, A, M> {
     }
 
     // Takes a message that fits, and puts into `out`, which is empty, what the node tells then.
-    #[inline(always)]
     fn take(
         &mut self,
         arc: ArcId,
@@ -269,7 +268,6 @@ impl<'a, A: Algebra, M: Mark<A>> NodeCore for DvNode<'a, A, M> {
         Ok(())
     }
 
-    #[inline(always)]
     fn on_message(
         &mut self,
         arc: ArcId,
