@@ -21,7 +21,6 @@ fn line_len(text: &[u8]) -> usize
 }
 
 // The end of the comment that begins there: the line feed of its line, or the end of the source.
-#[inline(never)]
 fn after_comment(source: &[u8], here: Cursor) -> Cursor
     requires cursor { IsCursor source.now here }
     requires within { here.at < length source.now }
@@ -103,7 +102,6 @@ fn after_bytes(source: &[u8], here: Cursor, bytes: &[u8]) -> Cursor
 }
 
 // After all whole blocks of spaces that stand from here on.
-#[inline(never)]
 fn after_blocks(source: &[u8], from: Cursor) -> Cursor
     requires { IsCursor source.now from }
     ensures cursor { IsCursor source.now result }
