@@ -8,12 +8,13 @@ ghost use Rattle.flood_node.specs.Views.{noted, pure_card, pure_flooded};
 use crate::card::{Card, Flooded};
 use crate::own_card::card_of;
 use crate::sets::NumberSet;
-use crate::telling::told;
-use meta_base::{ArcId, NoMemory, NodeId};
+use crate::telling::tell;
+use meta_base::{ArcId, List, NoMemory, NodeId};
 use net_graph::Net;
 use node_core::{NodeCore, Outgoing};
 use std::alloc::Global;
 use std::marker::Model;
+use std::mem::replace;
 use std::sync::Arc;
 
 /// A node that floods, as a router of OSPF does (RFC 2328, section 13): at the start it sends its card to all that listen
@@ -93,29 +94,36 @@ impl<'a> FloodNode<'a> {
         &self.cards
     }
 
-    // Keeps a card that it doesn't hold, and answers what it sends then.
-    fn keep(&mut self, card: &Arc<Card>, clock: u64) -> Result<Outgoing<Flooded>, NoMemory>
-        requires { holds self.old (arc_value card.now).node.0 ≡ false }
+    // Keeps a card that it doesn't hold, and puts into `out`, which is empty, what it sends then. The memory of `out` is
+    // used again.
+    fn keep(
+        &mut self,
+        card: &Arc<Card>,
+        clock: u64,
+        out: &mut Outgoing<Flooded>,
+    ) -> Result<(), NoMemory>
+        requires out { out.old ≡ [] }
+        requires card { holds self.old (arc_value card.now).node.0 ≡ false }
         ensures ok { OnOk result (self.new ≡ record self.old {
           cards = self.old.cards ++ pure_card (arc_value card.now) ∷ [];
           last = clock;
         }) }
-        ensures out { IfOk result (λ out.
-            map noted out ≡ told_by self.old (pure_card (arc_value card.now)) clock) }
-        ensures err { OnErr result (self.new ≡ self.old) }
+        ensures out { OnOk result (map noted out.new ≡ told_by self.old (pure_card (arc_value card.now)) clock) }
+        ensures err { OnErr result ((self.new ≡ self.old) × (out.new ≡ [])) }
     {
-        let alloc = *self.cards.allocator();
         let message = Flooded {
             card: Arc::try_clone(card)?,
             stamp: clock,
         };
         let kept = Arc::try_clone(card)?;
-        let out = told(alloc, self.net, self.number, message)?;
+        let mut told = replace(out, List::new(*self.cards.allocator())).into_vec();
+        tell(self.net, self.number, message, &mut told)?;
         self.cards.reserve(1)?;
         self.held.insert(card.node.0)?;
         self.cards.push(kept).unwrap();
         self.last = clock;
-        Ok(out)
+        *out = List::from_vec(told);
+        Ok(())
     }
 }
 
@@ -147,14 +155,15 @@ impl<'a> NodeCore for FloodNode<'a> {
             card: Arc::try_clone(&card)?,
             stamp: 0,
         };
-        let sent = told(alloc, self.net, self.number, message)?;
+        let mut told = Vec::new(alloc);
+        tell(self.net, self.number, message, &mut told)?;
         let mut held = NumberSet::new(alloc);
         held.insert(self.number.0)?;
         self.cards = vec![in alloc; card]?;
         self.held = held;
         self.is_begun = true;
         self.last = 0;
-        *out = sent;
+        *out = List::from_vec(told);
         Ok(())
     }
 
@@ -169,7 +178,6 @@ impl<'a> NodeCore for FloodNode<'a> {
             self.last = clock;
             return Ok(());
         }
-        *out = self.keep(&message.card, clock)?;
-        Ok(())
+        self.keep(&message.card, clock, out)
     }
 }
