@@ -1,6 +1,5 @@
 // Tests of drawn schedules: the sum falls with each delivery, by the right definition of it alone.
-ghost use Rattle.std.specs.Prelude.{◌≡◌, IfOk, OnOk, map};
-ghost use Rattle.node_core.specs.Machine.{AreUnbegun};
+ghost use Rattle.std.specs.Prelude.{◌≡◌, OnOk};
 ghost use Rattle.node_core.specs.MachineOf.{machine_of, net_of};
 ghost use Rattle.node_core.specs.Running.{AreUpTo, IsRunning};
 ghost use Rattle.path_vector.specs.Node.{path_vector};
@@ -13,15 +12,14 @@ use crate::networks::{changed_net, drawn_lines};
 use crate::tables::{Table, drawn_table, expression_of};
 use crate::tracked::{Tracked, briefs_of};
 use alg_model::{Algebra, TreeAlgebra};
-use meta_base::{ArcId, List, NoMemory};
+use meta_base::ArcId;
 use net_graph::{Net, RouteRow};
 use node_core::{Config, NodeCore};
 use path_vector::PvNode;
 use std::alloc::Global;
 use std::test::Fail;
-use testkit_nodes::{make_delivery, new_nodes, rows_now};
+use testkit_nodes::{carried_from, make_delivery, new_nodes, rows_now};
 use testkit_readers::network;
-use vector_runs::carried_nodes;
 
 const NETWORKS: u32 = 1000;
 
@@ -179,21 +177,6 @@ fn follow<A: Algebra>(
         measured.take(alloc, table, arc, rows.as_slice(), tally)?;
     }
     Err("the run doesn't end".into())
-}
-
-// The nodes of the machine, on a network that differs from theirs in its arcs alone.
-fn carried_from<'a, A: Algebra>(
-    alloc: Global,
-    config: Config<'a, PvNode<'a, A>>,
-    next: &'a Net,
-) -> Result<List<PvNode<'a, A>>, NoMemory>
-    requires running { IsRunning path_vector (net_of config) (machine_of state_of pure_update config) }
-    requires next { next.now ≡ record (net_of config) { arcs = next.now.arcs } }
-    ensures { IfOk result (λ nodes. AreUnbegun path_vector next.now 0 (map state_of nodes)) }
-{
-    let (nodes, _waiting) = config.into_parts();
-    let carried = carried_nodes(alloc, nodes, next)?;
-    Ok(carried)
 }
 
 // Runs the new nodes of the network, and then carries them to the next one, which differs in its arcs alone.
