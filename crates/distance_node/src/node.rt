@@ -16,6 +16,7 @@ use crate::beginning::begun_rows;
 use crate::chosen::Chosen;
 use crate::own::own_sigs;
 use crate::rows::HopRow;
+use crate::settling::{Settled, settle_by};
 use crate::site::{Arrival, Site};
 use crate::telling::copied_value;
 use crate::{Mark, Vector};
@@ -149,8 +150,10 @@ impl<'a, A: Algebra, M: Mark<A>> DvNode<'a, A, M> {
         (message.dest().0 as usize) < self.net.dest_count()
     }
 
-    // Takes a message that fits, and puts into `out`, which is empty, what the node tells then.
-    fn take(
+    // Takes a message that fits, whether it changes the row of its destination or not, and puts into `out`, which is
+    // empty, what the node tells then. It is a call of its own, so that messages that change no row don't pay for it.
+    #[inline(never)]
+    fn change(
         &mut self,
         arc: ArcId,
         message: &Vector<A, M>,
@@ -172,7 +175,7 @@ impl<'a, A: Algebra, M: Mark<A>> DvNode<'a, A, M> {
         let dest = message.dest();
         let place = self.net.place_of(arc);
         let told = message.told(self.algebra);
-        let kept = copied_value(alloc, self.algebra, told)?;
+        let copy = copied_value(alloc, self.algebra, told)?;
         let site = Site {
             algebra: self.algebra,
             net: self.net,
@@ -196,6 +199,55 @@ impl<'a, A: Algebra, M: Mark<A>> DvNode<'a, A, M> {
             &mut self.spare,
             out,
         )?;
+        self.heard[dest.0 as usize * self.speakers.len() + place] = copy;
+        self.last = clock;
+        Ok(())
+    }
+
+    // Takes a message that fits, and puts into `out`, which is empty, what the node tells then. Most messages leave the
+    // row of their destination as it is; the others are taken from the start again.
+    fn take(
+        &mut self,
+        arc: ArcId,
+        message: &Vector<A, M>,
+        clock: u64,
+        out: &mut Outgoing<Vector<A, M>>,
+    ) -> Result<(), NoMemory>
+        requires out { out.old ≡ [] }
+        requires begun { self.old.is_begun ≡ true }
+        requires listens { listener self.old.net arc.0 ≡ Some self.old.number }
+        requires fits { fits_in self.old.net message.now ≡ true }
+        requires stamp { message.now.stamp < clock }
+        requires last { self.old.last < clock }
+        requires early { clock ≤ MAX_CLOCK }
+        ensures node { OnOk result (state_of self.new ≡ (taken (state_of self.old) arc.0 message.now clock).0) }
+        ensures out { OnOk result (map noted out.new ≡ (taken (state_of self.old) arc.0 message.now clock).1) }
+        ensures err { OnErr result ((state_of self.new ≡ state_of self.old) × (out.new ≡ [])) }
+    {
+        let alloc = *self.rows.allocator();
+        let dest = message.dest();
+        let place = self.net.place_of(arc);
+        let told = message.told(self.algebra);
+        let site = Site {
+            algebra: self.algebra,
+            net: self.net,
+            node: self.number,
+            own: &self.own,
+            speakers: self.speakers,
+        };
+        let arrival = Arrival {
+            arc,
+            place,
+            dest,
+            value: told,
+            clock,
+        };
+        let row = &self.rows[dest.0 as usize];
+        match settle_by(alloc, &site, &self.heard, row, &arrival, &mut self.spare)? {
+            Settled::Stays => {}
+            Settled::Moves | Settled::Lost => return self.change(arc, message, clock, out),
+        }
+        let kept = copied_value(alloc, self.algebra, told)?;
         self.heard[dest.0 as usize * self.speakers.len() + place] = kept;
         self.last = clock;
         Ok(())

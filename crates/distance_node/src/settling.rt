@@ -70,6 +70,7 @@ fn settle<A: Algebra>(
 // How the row of a destination, which was the node's choice, is settled once the node is sent something. The new offer
 // is made in the spare's place and compared with the row alone; the others must be asked only where the row's own offer
 // got worse.
+#[inline(always)]
 pub(crate) fn settle_by<A: Algebra>(
     alloc: Global,
     site: &Site<'_, A>,

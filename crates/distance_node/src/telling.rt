@@ -1,5 +1,5 @@
 // What a node tells those that listen to it.
-ghost use Rattle.std.specs.Prelude.{◌≡◌, ◌<◌, ◌++◌, Some, [], cond, length, map, IfOk, IfSome, OnErr, OnOk, option_map};
+ghost use Rattle.std.specs.Prelude.{◌≡◌, ◌<◌, ◌++◌, Some, None, [], cond, length, map, IfOk, IfSome, OnErr, OnOk, option_map};
 ghost use Rattle.alg_model.specs.Bounds.{AtMost};
 ghost use Rattle.net_graph.specs.Nets.{arcs_to};
 ghost use Rattle.distance_node.specs.Node.{greatest_at, same_told, told_on};
@@ -33,24 +33,55 @@ pub(crate) fn copied_value<A: Algebra>(
     }
 }
 
-// The value of the row once more, if it has one.
-fn copied<A: Algebra>(
+// Puts the value on each arc that the node speaks on.
+#[inline(always)]
+fn tell_value<A: Algebra, M: Mark<A>>(
     alloc: Global,
-    algebra: &A,
-    row: &Option<Chosen<A::Sig>>,
-) -> Result<Option<A::Sig>, NoMemory>
-    requires { IfSome row.now (λ r. A.is_sig algebra.now r.sig) }
-    ensures sig { IfOk result (λ copied. IfSome copied (A.is_sig algebra.now)) }
-    ensures value { let value = A.sig_value algebra.now in
-        IfOk result (λ copied. option_map value copied ≡ told_of value row.now) }
+    site: &Site<'_, A>,
+    dest: DestId,
+    sig: &A::Sig,
+    clock: u64,
+    out: &mut Vec<(ArcId, Vector<A, M>)>,
+) -> Result<(), NoMemory>
+    requires mark { M.algebra ≡ Some site.now.algebra.now }
+    requires node { site.now.node.0 < length site.now.net.now.nodes }
+    requires sig { A.is_sig site.now.algebra.now sig.now }
+    requires small { AtMost (greatest_at clock) (A.sig_value site.now.algebra.now sig.now) }
+    ensures { let at = site.now in OnOk result (map noted out.new.items ≡ map noted out.old.items
+        ++ told_on (arcs_to at.net.now at.node.0)
+        (record { dest = dest.0; value = Some (A.sig_value at.algebra.now sig.now); stamp = clock })) }
 {
-    match row {
-        Some(row) => Ok(Some(algebra.copy(alloc, &row.sig)?)),
-        None => Ok(None),
+    let listeners = site.net.listeners(site.node);
+    out.reserve(listeners.len())?;
+    for arc in listeners {
+        let value = Some(site.algebra.copy(alloc, sig)?);
+        out.push_reserved((*arc, Vector::new(site.algebra, dest, value, clock)));
     }
+    Ok(())
+}
+
+// Puts on each arc that the node speaks on that there is no value.
+fn tell_none<A: Algebra, M: Mark<A>>(
+    site: &Site<'_, A>,
+    dest: DestId,
+    clock: u64,
+    out: &mut Vec<(ArcId, Vector<A, M>)>,
+) -> Result<(), NoMemory>
+    requires mark { M.algebra ≡ Some site.now.algebra.now }
+    requires node { site.now.node.0 < length site.now.net.now.nodes }
+    ensures { let at = site.now in OnOk result (map noted out.new.items ≡ map noted out.old.items
+        ++ told_on (arcs_to at.net.now at.node.0) (record { dest = dest.0; value = None; stamp = clock })) }
+{
+    let listeners = site.net.listeners(site.node);
+    out.reserve(listeners.len())?;
+    for arc in listeners {
+        out.push_reserved((*arc, Vector::new(site.algebra, dest, None, clock)));
+    }
+    Ok(())
 }
 
 // Puts the row's value, or that there is none, on each arc that the node speaks on.
+#[inline(always)]
 pub(crate) fn tell<A: Algebra, M: Mark<A>>(
     alloc: Global,
     site: &Site<'_, A>,
@@ -67,13 +98,10 @@ pub(crate) fn tell<A: Algebra, M: Mark<A>>(
         ++ told_on (arcs_to at.net.now at.node.0)
         (record { dest = dest.0; value = told_of (A.sig_value at.algebra.now) row.now; stamp = clock })) }
 {
-    let listeners = site.net.listeners(site.node);
-    out.reserve(listeners.len())?;
-    for arc in listeners {
-        let value = copied(alloc, site.algebra, row)?;
-        out.push_reserved((*arc, Vector::new(site.algebra, dest, value, clock)));
+    match row {
+        Some(row) => tell_value(alloc, site, dest, &row.sig, clock, out),
+        None => tell_none(site, dest, clock, out),
     }
-    Ok(())
 }
 
 // Whether two values are one, by what they stand for.

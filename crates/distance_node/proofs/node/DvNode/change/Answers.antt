@@ -1,0 +1,297 @@
+use Rattle.std.proofs.Common.{◌≡◌, ◌*◌, ◌+◌, ◌<◌, ◌≤◌, [], Some, true, cond, length, map, option_map, sym, ap, subst, ◌∙◌, arith}
+use Rattle.std.proofs.Math.ListN.{set}
+use Rattle.std.proofs.lemmas.List.{set-get_or}
+use Rattle.net_graph.specs.Nets.{arcs_to}
+use Rattle.node_core.specs.Kinds.{listener}
+use Rattle.distance_node.specs.Chosen.{IsBest, entry_of}
+use Rattle.distance_node.specs.Fitting.{fits_dest}
+use Rattle.distance_node.specs.Node.{fits_in, heard_with, offers, same_told, taken, told_on}
+use Rattle.distance_node.specs.Nodes.{state_of}
+use Rattle.distance_node.specs.Places.{heard_by}
+use Rattle.distance_node.specs.Tellings.{told_of}
+use Rattle.distance_node.specs.Vectors.{noted}
+use Rattle.distance_node.proofs.Nodes.{heard_more, node_with, on_refusal, rows_more, taken_is, told_is_taken}
+use Rattle.distance_node.proofs.Pushing.{entry_is, set_length}
+use Rattle.distance_node.proofs.Taking.{came_on, entry_there, heard_put, told_before, told_may}
+use Rattle.distance_node.proofs.node.DvNode.change.Goals as goal
+
+pub reply_to-requires-clause-arrival : goal.reply_to-requires-clause-arrival
+reply_to-requires-clause-arrival g c =
+    let A = g.A.Algebra in
+    let inside = c.self.inside in
+    let s = inside.algebra.now in
+    let value = A.sig_value s in
+    let net = inside.net.now in
+    let i = inside.number.0 in
+    let m = c.args.message.now in
+    let dest = c.dest-dest.result.0 in
+    let place = c.place_of-place.result in
+    let w = length inside.speakers.now in
+    let node = c.self.invariant.1 in
+    let n = node.placed.is_net in
+    let fits : fits_in net m ≡ true = rw (← c.self.view_is) at c.requires.fits in
+    let below : dest < length net.dests = subst (λ z. z < length net.dests) (sym c.dest-dest.ensures) (fits_dest net m fits) in
+    let listens : listener net c.args.arc.0 ≡ Some i = rw (← c.self.view_is) at c.requires.listens in
+    let came = came_on net n i c.args.arc.0 place listens c.place_of-place.ensures in
+    let told = c.told-told.result.now in
+    let may = told_may (A.is_sig s) value m.stamp c.args.clock told c.requires.stamp c.told-told.ensures.told in
+    record {
+      from = came.0;
+      there = came.1;
+      number = came.2;
+      dest_in = below;
+      told = may;
+      early = c.requires.early;
+    }
+
+pub overflow_mul-dest : goal.overflow_mul-dest
+overflow_mul-dest g c =
+    let A = g.A.Algebra in
+    let inside = c.self.inside in
+    let s = inside.algebra.now in
+    let value = A.sig_value s in
+    let net = inside.net.now in
+    let i = inside.number.0 in
+    let m = c.args.message.now in
+    let dest = c.dest-dest.result.0 in
+    let place = c.place_of-place.result in
+    let w = length inside.speakers.now in
+    let node = c.self.invariant.1 in
+    let n = node.placed.is_net in
+    let fits : fits_in net m ≡ true = rw (← c.self.view_is) at c.requires.fits in
+    let below : dest < length net.dests = subst (λ z. z < length net.dests) (sym c.dest-dest.ensures) (fits_dest net m fits) in
+    let listens : listener net c.args.arc.0 ≡ Some i = rw (← c.self.view_is) at c.requires.listens in
+    let came = came_on net n i c.args.arc.0 place listens c.place_of-place.ensures in
+    let is_entry = entry_there net n i place w dest came.0 inside.heard.items came.1 node.placed.near.count node.has_heard.count below in
+    omega (arith, is_entry.row_fits)
+
+pub overflow_add-dest : goal.overflow_add-dest
+overflow_add-dest g c =
+    let A = g.A.Algebra in
+    let inside = c.self.inside in
+    let s = inside.algebra.now in
+    let value = A.sig_value s in
+    let net = inside.net.now in
+    let i = inside.number.0 in
+    let m = c.args.message.now in
+    let dest = c.dest-dest.result.0 in
+    let place = c.place_of-place.result in
+    let w = length inside.speakers.now in
+    let node = c.self.invariant.1 in
+    let n = node.placed.is_net in
+    let fits : fits_in net m ≡ true = rw (← c.self.view_is) at c.requires.fits in
+    let below : dest < length net.dests = subst (λ z. z < length net.dests) (sym c.dest-dest.ensures) (fits_dest net m fits) in
+    let listens : listener net c.args.arc.0 ≡ Some i = rw (← c.self.view_is) at c.requires.listens in
+    let came = came_on net n i c.args.arc.0 place listens c.place_of-place.ensures in
+    let is_entry = entry_there net n i place w dest came.0 inside.heard.items came.1 node.placed.near.count node.has_heard.count below in
+    omega (arith, is_entry.fits)
+
+pub index_mut-requires : goal.index_mut-requires
+index_mut-requires g c =
+    let A = g.A.Algebra in
+    let inside = c.self.inside in
+    let s = inside.algebra.now in
+    let value = A.sig_value s in
+    let net = inside.net.now in
+    let i = inside.number.0 in
+    let m = c.args.message.now in
+    let dest = c.dest-dest.result.0 in
+    let place = c.place_of-place.result in
+    let w = length inside.speakers.now in
+    let node = c.self.invariant.1 in
+    let n = node.placed.is_net in
+    let fits : fits_in net m ≡ true = rw (← c.self.view_is) at c.requires.fits in
+    let below : dest < length net.dests = subst (λ z. z < length net.dests) (sym c.dest-dest.ensures) (fits_dest net m fits) in
+    let listens : listener net c.args.arc.0 ≡ Some i = rw (← c.self.view_is) at c.requires.listens in
+    let came = came_on net n i c.args.arc.0 place listens c.place_of-place.ensures in
+    let is_entry = entry_there net n i place w dest came.0 inside.heard.items came.1 node.placed.near.count node.has_heard.count below in
+    let len = inside.heard.ok.0 in
+    omega (arith, is_entry.inside, len)
+
+pub reply_to-requires-clause-best : goal.reply_to-requires-clause-best
+reply_to-requires-clause-best g c =
+    let A = g.A.Algebra in
+    let inside = c.self.inside in
+    let s = inside.algebra.now in
+    let value = A.sig_value s in
+    let net = inside.net.now in
+    let i = inside.number.0 in
+    let m = c.args.message.now in
+    let dest = c.dest-dest.result.0 in
+    let place = c.place_of-place.result in
+    let w = length inside.speakers.now in
+    let node = c.self.invariant.1 in
+    let n = node.placed.is_net in
+    let fits : fits_in net m ≡ true = rw (← c.self.view_is) at c.requires.fits in
+    let below : dest < length net.dests = subst (λ z. z < length net.dests) (sym c.dest-dest.ensures) (fits_dest net m fits) in
+    let listens : listener net c.args.arc.0 ≡ Some i = rw (← c.self.view_is) at c.requires.listens in
+    let came = came_on net n i c.args.arc.0 place listens c.place_of-place.ensures in
+    let begun : inside.is_begun ≡ true = rw (← c.self.view_is) at c.requires.begun in
+    let rows = inside.rows.items in
+    let row_there : dest < length rows = subst (λ z. dest < z) (sym node.row_count) below in
+    let has = node.has_rows begun in
+    let entry : entry_of rows dest ≡ c.index_mut.result.now = entry_is rows dest c.index_mut.result.now row_there c.index_mut.ensures.value in
+    subst (λ h. IsBest value net i (offers net dest i (λ a. heard_by value net i h a dest)) c.index_mut.result.now) (sym c.deref-2.ensures.value)
+    (subst (IsBest value net i (offers net dest i (λ a. heard_by value net i inside.heard.items a dest))) entry (has.best dest))
+
+pub index_mut-requires-2 : goal.index_mut-requires-2
+index_mut-requires-2 g c =
+    let A = g.A.Algebra in
+    let inside = c.self.inside in
+    let s = inside.algebra.now in
+    let value = A.sig_value s in
+    let net = inside.net.now in
+    let i = inside.number.0 in
+    let m = c.args.message.now in
+    let dest = c.dest-dest.result.0 in
+    let place = c.place_of-place.result in
+    let w = length inside.speakers.now in
+    let node = c.self.invariant.1 in
+    let n = node.placed.is_net in
+    let fits : fits_in net m ≡ true = rw (← c.self.view_is) at c.requires.fits in
+    let below : dest < length net.dests = subst (λ z. z < length net.dests) (sym c.dest-dest.ensures) (fits_dest net m fits) in
+    let listens : listener net c.args.arc.0 ≡ Some i = rw (← c.self.view_is) at c.requires.listens in
+    let came = came_on net n i c.args.arc.0 place listens c.place_of-place.ensures in
+    let is_entry = entry_there net n i place w dest came.0 inside.heard.items came.1 node.placed.near.count node.has_heard.count below in
+    let len = inside.heard.ok.0 in
+    omega (arith, is_entry.inside, len)
+
+pub returns-in_err-reply_to-clause-err : goal.returns-in_err-reply_to-clause-err
+returns-in_err-reply_to-clause-err g c =
+    let A = g.A.Algebra in
+    let inside = c.self.inside in
+    let s = inside.algebra.now in
+    let value = A.sig_value s in
+    let net = inside.net.now in
+    let i = inside.number.0 in
+    let m = c.args.message.now in
+    let dest = c.dest-dest.result.0 in
+    let place = c.place_of-place.result in
+    let w = length inside.speakers.now in
+    let kept = c.in_err-reply_to.ensures.err in
+    let rows = inside.rows.items in
+    let same = ap (set rows dest) (kept.0 ∙ c.index_mut.ensures.value) ∙ set-get_or rows dest c.index_mut.result.now in
+    let unchanged : state_of (node_with value net i inside.is_begun inside.heard.items (set rows dest c.reply_to.new.row) inside.last) ≡ state_of c.args.self.now = ap (λ z. state_of (node_with value net i inside.is_begun inside.heard.items z inside.last)) same ∙ ap state_of c.self.view_is in
+    let both : (state_of (node_with value net i inside.is_begun inside.heard.items (set rows dest c.reply_to.new.row) inside.last) ≡ state_of c.args.self.now) × (c.reply_to.new.out ≡ []) = (unchanged, kept.1) in
+    on_refusal _ _ both
+
+pub invariant_of-self-2 : goal.invariant_of-self-2
+invariant_of-self-2 g c =
+    let A = g.A.Algebra in
+    let inside = c.self.inside in
+    let s = inside.algebra.now in
+    let value = A.sig_value s in
+    let net = inside.net.now in
+    let i = inside.number.0 in
+    let m = c.args.message.now in
+    let dest = c.dest-dest.result.0 in
+    let place = c.place_of-place.result in
+    let w = length inside.speakers.now in
+    let node = c.self.invariant.1 in
+    let n = node.placed.is_net in
+    let fits : fits_in net m ≡ true = rw (← c.self.view_is) at c.requires.fits in
+    let below : dest < length net.dests = subst (λ z. z < length net.dests) (sym c.dest-dest.ensures) (fits_dest net m fits) in
+    let listens : listener net c.args.arc.0 ≡ Some i = rw (← c.self.view_is) at c.requires.listens in
+    let came = came_on net n i c.args.arc.0 place listens c.place_of-place.ensures in
+    let told = c.in_ok-copy.copy in
+    let may = told_before (A.is_sig s) value m.stamp c.args.clock c.told-told.result.now told c.requires.stamp c.told-told.ensures.told c.in_ok-copy.ensures.sig c.in_ok-copy.ensures.value in
+    let begun : inside.is_begun ≡ true = rw (← c.self.view_is) at c.requires.begun in
+    let rows = inside.rows.items in
+    let row_there : dest < length rows = subst (λ z. dest < z) (sym node.row_count) below in
+    let has = node.has_rows begun in
+    let entry : entry_of rows dest ≡ c.index_mut.result.now = entry_is rows dest c.index_mut.result.now row_there c.index_mut.ensures.value in
+    let heard = inside.heard.items in
+    let next = c.reply_to.new.row in
+    let late : inside.last < c.args.clock = rw (← c.self.view_is) at c.requires.last in
+    let later : inside.last ≤ c.args.clock = omega (arith, late) in
+    let is_entry = entry_there net n i place w dest came.0 heard came.1 node.placed.near.count node.has_heard.count below in
+    let heard_is = heard_put value net n i place w c.args.arc.0 dest came.0 heard told came.1 came.2 node.placed.near.count node.has_heard.count below in
+    let best = subst (λ v. IsBest value net i (offers net dest i (λ a. heard_with (heard_by value net i heard) c.args.arc.0 dest v a dest)) next) (sym c.in_ok-copy.ensures.value)
+    (subst (λ h. IsBest value net i (offers net dest i (λ a. heard_with (heard_by value net i h) c.args.arc.0 dest (option_map value c.told-told.result.now) a dest)) next) c.deref-2.ensures.value c.in_ok-reply_to.ensures.best) in
+    let sig = c.in_ok-reply_to.ensures.sig in (
+      c.self.invariant.0,
+      record {
+        algebra = node.algebra;
+        placed = node.placed;
+        has_heard = heard_more value net i (A.is_sig s) heard inside.last c.args.clock (dest * w + place) told node.has_heard later c.requires.early is_entry.inside may;
+        silent = λ e. absurd (let z = sym begun ∙ e in cc);
+        row_count = set_length rows dest next ∙ node.row_count;
+        rowless = λ e. absurd (let z = sym begun ∙ e in cc);
+        has_rows = λ b. rows_more value net i (A.is_sig s) heard (set heard (dest * w + place) told) rows c.args.arc.0 dest (option_map value told) next has heard_is row_there sig best;
+      },
+    )
+
+pub returns-clause-node : goal.returns-clause-node
+returns-clause-node g c =
+    let A = g.A.Algebra in
+    let inside = c.self.inside in
+    let s = inside.algebra.now in
+    let value = A.sig_value s in
+    let net = inside.net.now in
+    let i = inside.number.0 in
+    let m = c.args.message.now in
+    let dest = c.dest-dest.result.0 in
+    let place = c.place_of-place.result in
+    let w = length inside.speakers.now in
+    let node = c.self.invariant.1 in
+    let n = node.placed.is_net in
+    let fits : fits_in net m ≡ true = rw (← c.self.view_is) at c.requires.fits in
+    let below : dest < length net.dests = subst (λ z. z < length net.dests) (sym c.dest-dest.ensures) (fits_dest net m fits) in
+    let listens : listener net c.args.arc.0 ≡ Some i = rw (← c.self.view_is) at c.requires.listens in
+    let came = came_on net n i c.args.arc.0 place listens c.place_of-place.ensures in
+    let told = c.in_ok-copy.copy in
+    let may = told_before (A.is_sig s) value m.stamp c.args.clock c.told-told.result.now told c.requires.stamp c.told-told.ensures.told c.in_ok-copy.ensures.sig c.in_ok-copy.ensures.value in
+    let begun : inside.is_begun ≡ true = rw (← c.self.view_is) at c.requires.begun in
+    let rows = inside.rows.items in
+    let row_there : dest < length rows = subst (λ z. dest < z) (sym node.row_count) below in
+    let has = node.has_rows begun in
+    let entry : entry_of rows dest ≡ c.index_mut.result.now = entry_is rows dest c.index_mut.result.now row_there c.index_mut.ensures.value in
+    let heard = inside.heard.items in
+    let next = c.reply_to.new.row in
+    let late : inside.last < c.args.clock = rw (← c.self.view_is) at c.requires.last in
+    let later : inside.last ≤ c.args.clock = omega (arith, late) in
+    let is_entry = entry_there net n i place w dest came.0 heard came.1 node.placed.near.count node.has_heard.count below in
+    let heard_is = heard_put value net n i place w c.args.arc.0 dest came.0 heard told came.1 came.2 node.placed.near.count node.has_heard.count below in
+    let best = subst (λ v. IsBest value net i (offers net dest i (λ a. heard_with (heard_by value net i heard) c.args.arc.0 dest v a dest)) next) (sym c.in_ok-copy.ensures.value)
+    (subst (λ h. IsBest value net i (offers net dest i (λ a. heard_with (heard_by value net i h) c.args.arc.0 dest (option_map value c.told-told.result.now) a dest)) next) c.deref-2.ensures.value c.in_ok-reply_to.ensures.best) in
+    taken_is value net i heard (set heard (dest * w + place) told) rows inside.last c.args.arc.0 dest c.args.clock told next m c.dest-dest.ensures (c.in_ok-copy.ensures.value ∙ c.told-told.ensures.value) heard_is row_there best inside.is_begun
+    ∙ ap (λ z. (taken (state_of z) c.args.arc.0 m c.args.clock).0) c.self.view_is
+
+pub returns-clause-out : goal.returns-clause-out
+returns-clause-out g c =
+    let A = g.A.Algebra in
+    let inside = c.self.inside in
+    let s = inside.algebra.now in
+    let value = A.sig_value s in
+    let net = inside.net.now in
+    let i = inside.number.0 in
+    let m = c.args.message.now in
+    let dest = c.dest-dest.result.0 in
+    let place = c.place_of-place.result in
+    let w = length inside.speakers.now in
+    let node = c.self.invariant.1 in
+    let n = node.placed.is_net in
+    let fits : fits_in net m ≡ true = rw (← c.self.view_is) at c.requires.fits in
+    let below : dest < length net.dests = subst (λ z. z < length net.dests) (sym c.dest-dest.ensures) (fits_dest net m fits) in
+    let listens : listener net c.args.arc.0 ≡ Some i = rw (← c.self.view_is) at c.requires.listens in
+    let came = came_on net n i c.args.arc.0 place listens c.place_of-place.ensures in
+    let told = c.in_ok-copy.copy in
+    let may = told_before (A.is_sig s) value m.stamp c.args.clock c.told-told.result.now told c.requires.stamp c.told-told.ensures.told c.in_ok-copy.ensures.sig c.in_ok-copy.ensures.value in
+    let begun : inside.is_begun ≡ true = rw (← c.self.view_is) at c.requires.begun in
+    let rows = inside.rows.items in
+    let row_there : dest < length rows = subst (λ z. dest < z) (sym node.row_count) below in
+    let has = node.has_rows begun in
+    let entry : entry_of rows dest ≡ c.index_mut.result.now = entry_is rows dest c.index_mut.result.now row_there c.index_mut.ensures.value in
+    let heard = inside.heard.items in
+    let next = c.reply_to.new.row in
+    let late : inside.last < c.args.clock = rw (← c.self.view_is) at c.requires.last in
+    let later : inside.last ≤ c.args.clock = omega (arith, late) in
+    let is_entry = entry_there net n i place w dest came.0 heard came.1 node.placed.near.count node.has_heard.count below in
+    let heard_is = heard_put value net n i place w c.args.arc.0 dest came.0 heard told came.1 came.2 node.placed.near.count node.has_heard.count below in
+    let best = subst (λ v. IsBest value net i (offers net dest i (λ a. heard_with (heard_by value net i heard) c.args.arc.0 dest v a dest)) next) (sym c.in_ok-copy.ensures.value)
+    (subst (λ h. IsBest value net i (offers net dest i (λ a. heard_with (heard_by value net i h) c.args.arc.0 dest (option_map value c.told-told.result.now) a dest)) next) c.deref-2.ensures.value c.in_ok-reply_to.ensures.best) in
+    let sent = subst (λ r. map noted c.reply_to.new.out ≡ cond (same_told (told_of value next) (told_of value r)) []
+    (told_on (arcs_to net i) (record { dest = dest; value = told_of value next; stamp = c.args.clock }))) (sym entry) c.in_ok-reply_to.ensures.sent in
+    told_is_taken value net i heard (set heard (dest * w + place) told) rows inside.last c.args.arc.0 dest c.args.clock told next m c.dest-dest.ensures (c.in_ok-copy.ensures.value ∙ c.told-told.ensures.value) heard_is row_there best inside.is_begun
+    (map noted c.reply_to.new.out) sent
+    ∙ ap (λ z. (taken (state_of z) c.args.arc.0 m c.args.clock).1) c.self.view_is
