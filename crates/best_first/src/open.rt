@@ -4,7 +4,7 @@ ghost use Rattle.frontier.specs.Tournaments.{IsJudged, IsFirstSlot};
 ghost use Rattle.alg_model.specs.Carriers.{carrier_of};
 ghost use Rattle.best_first.specs.Found.{found_at, AllFound};
 ghost use Rattle.best_first.specs.Keys.{key_of, key_at, best_of, precedes, beats as beats_of};
-ghost use Rattle.best_first.specs.Queue.{IsOffered, IsOfferedOf, AreRanked, is_wanted};
+ghost use Rattle.best_first.specs.Queue.{IsOffered, AreRanked, is_wanted};
 
 use crate::route::{ByRoute, OpenPlace, OpenRoute, comes_first};
 use alg_model::Algebra;
@@ -46,7 +46,8 @@ impl<A: Algebra, L: Ledger> Open<A, L> {
         })
     }
 
-    // Offers the route, which is kept where it is better than its node's best.
+    // Offers the route, which is kept where it is better than its node's best, whose value is the spare one then.
+    #[inline(always)]
     pub(crate) fn offer(&mut self, algebra: &A, route: OpenRoute<A::Sig>)
         requires node { route.place.node.0 < vec_len self.old.best }
         requires sig { A.is_sig algebra.now route.sig }
@@ -61,24 +62,6 @@ impl<A: Algebra, L: Ledger> Open<A, L> {
     {
         let OpenRoute { sig, place } = route;
         self.spare = Some(sig);
-        self.offer_spare(algebra, place);
-    }
-
-    // Offers the route there with the spare value, if there is one. It is kept where it is better than the node's
-    // best, whose value is the spare one then.
-    #[inline(always)]
-    pub(crate) fn offer_spare(&mut self, algebra: &A, place: OpenPlace)
-        requires node { place.node.0 < vec_len self.old.best }
-        requires sig { IfSome self.old.spare (A.is_sig algebra.now) }
-        requires ranked { AreRanked (A.sig_value algebra.now) (A.is_sig algebra.now)
-            (carrier_of (A.expression algebra.now)) self.old.best.items self.old.standing }
-        ensures count { vec_len self.new.best ≡ vec_len self.old.best }
-        ensures ranked { AreRanked (A.sig_value algebra.now) (A.is_sig algebra.now)
-            (carrier_of (A.expression algebra.now)) self.new.best.items self.new.standing }
-        ensures offered { let value = A.sig_value algebra.now in
-            IsOfferedOf (carrier_of (A.expression algebra.now)) place (option_map value self.old.spare)
-            (best_of value self.old.best.items) (best_of value self.new.best.items) }
-    {
         if self.wants_spare(algebra, place) {
             self.keep_spare(algebra, place.size, place.node, place.next);
         }
@@ -103,7 +86,7 @@ impl<A: Algebra, L: Ledger> Open<A, L> {
     // Keeps a route with the spare value as the node's best. Most offers aren't kept, so this stands apart from their
     // loop, and takes the parts of the place, so that the loop need not put one together.
     #[inline(never)]
-    fn keep_spare(&mut self, algebra: &A, size: u32, node: NodeId, next: NodeId)
+    pub(crate) fn keep_spare(&mut self, algebra: &A, size: u32, node: NodeId, next: NodeId)
         requires node { node.0 < vec_len self.old.best }
         requires sig { IfSome self.old.spare (A.is_sig algebra.now) }
         requires ranked { AreRanked (A.sig_value algebra.now) (A.is_sig algebra.now)
@@ -164,7 +147,7 @@ impl<A: Algebra, L: Ledger> Open<A, L> {
 // Whether the route there with the value is better than the best, or there is no best. Routes compare by
 // value and then by place, which is their order by value and path, since what lies after one next is one path.
 #[inline(always)]
-fn beats<A: Algebra>(
+pub(crate) fn beats<A: Algebra>(
     algebra: &A,
     sig: &A::Sig,
     place: OpenPlace,

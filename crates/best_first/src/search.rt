@@ -15,10 +15,10 @@ ghost use Rattle.best_first.specs.Queue.{AreRanked, IsOpen, IsOfferedOf, no_rout
 ghost use Rattle.best_first.specs.State.{relaxed, CanSpeak, spoken};
 
 use crate::fixed::Fixed;
-use crate::open::Open;
+use crate::open::{Open, beats};
 use crate::route::{OpenPlace, OpenRoute};
 use alg_model::Algebra;
-use arc_labels::{NeighbourLabels, image_into};
+use arc_labels::NeighbourLabels;
 use meta_base::{DestId, NoMemory, NodeId};
 use net_graph::Net;
 use std::alloc::Global;
@@ -145,7 +145,9 @@ pub(crate) fn relax<A: Algebra, L: Ledger>(
     Ok(())
 }
 
-// Offers at the place what the label makes of the value, if it is a value.
+// Offers at the place what the label makes of the value, if it is a value. Mostly a value is spare, and the new one is
+// made in its memory.
+#[inline(always)]
 fn offer_image<A: Algebra, L: Ledger>(
     alloc: Global,
     algebra: &A,
@@ -169,8 +171,47 @@ fn offer_image<A: Algebra, L: Ledger>(
         (App (A.expression algebra.now) l (value sig.now))
         (best_of value search.old.best.items) (best_of value search.new.best.items)) }
 {
-    if image_into(alloc, algebra, lab, sig, &mut search.spare)? {
-        search.offer_spare(algebra, place);
+    let OpenPlace { size, node, next } = place;
+    let Some(image) = &mut search.spare else {
+        // A new place, so that it stands in memory on this way alone.
+        let place = OpenPlace { size, node, next };
+        return offer_image_anew(alloc, algebra, lab, sig, place, search);
+    };
+    if algebra.apply_into(alloc, lab, sig, image)?
+        && beats(algebra, image, place, &search.best[node.0 as usize])
+    {
+        search.keep_spare(algebra, size, node, next);
+    }
+    Ok(())
+}
+
+// The same where no value is spare.
+#[inline(never)]
+fn offer_image_anew<A: Algebra, L: Ledger>(
+    alloc: Global,
+    algebra: &A,
+    lab: &A::Lab,
+    sig: &A::Sig,
+    place: OpenPlace,
+    search: &mut Open<A, L>,
+) -> Result<(), NoMemory>
+    requires lab { (l : PureLabel) × A.stands_for algebra.now lab.now l }
+    requires sig { A.is_sig algebra.now sig.now }
+    requires small { AtMost MAX_VALUE_NUMBER (A.sig_value algebra.now sig.now) }
+    requires node { place.node.0 < vec_len search.old.best }
+    requires ranked { AreRanked (A.sig_value algebra.now) (A.is_sig algebra.now)
+        (carrier_of (A.expression algebra.now)) search.old.best.items search.old.standing }
+    ensures count { vec_len search.new.best ≡ vec_len search.old.best }
+    ensures ranked { AreRanked (A.sig_value algebra.now) (A.is_sig algebra.now)
+        (carrier_of (A.expression algebra.now)) search.new.best.items search.new.standing }
+    ensures offered { (l : PureLabel) → A.stands_for algebra.now lab.now l →
+        let value = A.sig_value algebra.now in
+        OnOk result (IsOfferedOf (carrier_of (A.expression algebra.now)) place
+        (App (A.expression algebra.now) l (value sig.now))
+        (best_of value search.old.best.items) (best_of value search.new.best.items)) }
+{
+    if let Some(sig) = algebra.apply(alloc, lab, sig)? {
+        search.offer(algebra, OpenRoute { sig, place });
     }
     Ok(())
 }

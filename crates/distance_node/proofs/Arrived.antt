@@ -18,7 +18,7 @@ use Rattle.net_graph.specs.Tables.{carrier}
 use Rattle.distance_node.specs.declared.chosen.Chosen.{Chosen}
 use Rattle.distance_node.specs.declared.settling.Settled.TheVariants.{Stays, Moves}
 use Rattle.distance_node.specs.declared.site.Arrival.{Arrival}
-use Rattle.distance_node.specs.Arrivals.{heard_told, IsArrival}
+use Rattle.distance_node.specs.Arrivals.{heard_reported, IsArrival}
 use Rattle.distance_node.specs.Chosen.{IsBest, better_of, chosen_at, entry_of, hop_at}
 use Rattle.distance_node.specs.Choosing.{AllIn, not_itself}
 use Rattle.distance_node.specs.Coherent.{IsHeard}
@@ -28,7 +28,7 @@ use Rattle.distance_node.specs.Nodes.{HasHeard}
 use Rattle.distance_node.specs.Offers.{AreHeard, MayTell, entry_map, offers_may}
 use Rattle.distance_node.specs.Places.{heard_by, place_of, width}
 use Rattle.distance_node.specs.Settling.{settled}
-use Rattle.distance_node.specs.Tellings.{told_of}
+use Rattle.distance_node.specs.Tellings.{reported_of}
 use Rattle.distance_node.proofs.Bests.{IsReplaced, better_is_best, settled_moves, settled_stays}
 use Rattle.distance_node.proofs.Places.{heard_value, place_at}
 
@@ -147,15 +147,15 @@ module _ {S : Type 0} (is_sig : S → Type 0) (value : S → PureValue) (net : P
       abbrev pub dest : ℕ
       dest = t.dest.0
 
-      abbrev pub told : ℕ → Option PureValue
-      told = heard_told value net i heard t
+      abbrev pub reported : ℕ → Option PureValue
+      reported = heard_reported value net i heard t
 
       same_test : (k : ℕ) → (k == k) ≡ true
       same_test k = grind (arith, nat_tests)
 
       -- what is known on the arc at a place
-      pub told_at : (k : ℕ) (a : PureArc) → slice_get (arcs_from net i) k ≡ Some a → told a.id ≡ cond (k == t.place) (option_map value t.value.now) (option_map value (entry_of heard (dest * width net i + k)))
-      told_at k a e = rw (same_test dest, heard_value value net n i k a heard dest e) (by (a.id == t.arc.0) refl (k == t.place) refl)
+      pub reported_at : (k : ℕ) (a : PureArc) → slice_get (arcs_from net i) k ≡ Some a → reported a.id ≡ cond (k == t.place) (option_map value t.value.now) (option_map value (entry_of heard (dest * width net i + k)))
+      reported_at k a e = rw (same_test dest, heard_value value net n i k a heard dest e) (by (a.id == t.arc.0) refl (k == t.place) refl)
         where
           by : (x : Bool) → (a.id == t.arc.0) ≡ x → (y : Bool) → (k == t.place) ≡ y
               → cond (x && true) (option_map value t.value.now) (option_map value (entry_of heard (dest * width net i + k))) ≡ cond y (option_map value t.value.now) (option_map value (entry_of heard (dest * width net i + k)))
@@ -174,12 +174,12 @@ module _ {S : Type 0} (is_sig : S → Type 0) (value : S → PureValue) (net : P
               absurd (let test : (a.id == t.arc.0) ≡ true = grind (arith, nat_tests) in let z : true ≡ false = sym test ∙ f in cc)
 
       -- it may have been heard before the clock
-      pub told_are_heard : AreHeard net dest i t.clock told
-      told_are_heard k a v e f = by (k == t.place) (sym (told_at k a e) ∙ f)
+      pub reported_are_heard : AreHeard net dest i t.clock reported
+      reported_are_heard k a v e f = by (k == t.place) (sym (reported_at k a e) ∙ f)
         where
-          value_told : (o : Option S) → IfSome o (λ s. is_sig s × AtMost (t.clock * 2 ^ 64) (value s)) → option_map value o ≡ Some v → IsHeard net dest t.clock v
-          value_told None h g = absurd (cc)
-          value_told (Some s) h g =
+          value_reported : (o : Option S) → IfSome o (λ s. is_sig s × AtMost (t.clock * 2 ^ 64) (value s)) → option_map value o ≡ Some v → IsHeard net dest t.clock v
+          value_reported None h g = absurd (cc)
+          value_reported (Some s) h g =
               let same : value s ≡ v = cc in
               subst (IsHeard net dest t.clock) same (record { dest_in = arrival.dest_in; value_in = sig_in s h.0; small = h.1 })
 
@@ -191,38 +191,38 @@ module _ {S : Type 0} (is_sig : S → Type 0) (value : S → PureValue) (net : P
               subst (IsHeard net dest t.clock) same (record { dest_in = arrival.dest_in; value_in = sig_in s known.0; small = at_most_more (clock * 2 ^ 64) (t.clock * 2 ^ 64) (value s) (clock_room clock t.clock early) known.1 })
 
           by : (b : Bool) → cond b (option_map value t.value.now) (option_map value (entry_of heard (dest * width net i + k))) ≡ Some v → IsHeard net dest t.clock v
-          by true g = value_told t.value.now arrival.told g
+          by true g = value_reported t.value.now arrival.reported g
           by false g = old (entry_of heard (dest * width net i + k)) refl g
 
-      pub all_may : (k : ℕ) (g : Hop) → entry_of (offers net dest i told) k ≡ Some g → MayTell net dest t.clock g.value
-      all_may k g e = offers_may net n dest i t.clock told told_are_heard k g e
+      pub all_may : (k : ℕ) (g : Hop) → entry_of (offers net dest i reported) k ≡ Some g → MayTell net dest t.clock g.value
+      all_may k g e = offers_may net n dest i t.clock reported reported_are_heard k g e
 
-      pub all_told_in : AllIn (carrier net) (offers net dest i told)
-      all_told_in k g e = (all_may k g e).value_in
+      pub all_reported_in : AllIn (carrier net) (offers net dest i reported)
+      all_reported_in k g e = (all_may k g e).value_in
 
       -- the offers change at the arc's place alone
-      pub told_replaced : (made : Option S) → option_map value made ≡ option_and_then (App net.alg.expression arrival.from.label) (option_map value t.value.now)
-          → IsReplaced (offers net dest i (λ a. heard_by value net i heard a dest)) (offers net dest i told) (suc t.place) (option_map (λ s. hop_at value net i (chosen_at (suc t.place) s)) made)
-      told_replaced made e = record { at = at; other = other }
+      pub reported_replaced : (made : Option S) → option_map value made ≡ option_and_then (App net.alg.expression arrival.from.label) (option_map value t.value.now)
+          → IsReplaced (offers net dest i (λ a. heard_by value net i heard a dest)) (offers net dest i reported) (suc t.place) (option_map (λ s. hop_at value net i (chosen_at (suc t.place) s)) made)
+      reported_replaced made e = record { at = at; other = other }
         where
-          known : told arrival.from.id ≡ option_map value t.value.now
-          known = told_at t.place arrival.from arrival.there ∙ ap (λ b. cond b (option_map value t.value.now) (option_map value (entry_of heard (dest * width net i + t.place)))) (same_test t.place)
+          known : reported arrival.from.id ≡ option_map value t.value.now
+          known = reported_at t.place arrival.from arrival.there ∙ ap (λ b. cond b (option_map value t.value.now) (option_map value (entry_of heard (dest * width net i + t.place)))) (same_test t.place)
 
-          at : entry_of (offers net dest i told) (suc t.place) ≡ option_map (λ s. hop_at value net i (chosen_at (suc t.place) s)) made
-          at = offer_at net dest i told t.place arrival.from arrival.there ∙ (ap (hop_by net arrival.from) known ∙ sym (offer_made value net i t.place arrival.from (option_map value t.value.now) made arrival.there e))
+          at : entry_of (offers net dest i reported) (suc t.place) ≡ option_map (λ s. hop_at value net i (chosen_at (suc t.place) s)) made
+          at = offer_at net dest i reported t.place arrival.from arrival.there ∙ (ap (hop_by net arrival.from) known ∙ sym (offer_made value net i t.place arrival.from (option_map value t.value.now) made arrival.there e))
 
-          other : (k : ℕ) → (k == suc t.place) ≡ false → entry_of (offers net dest i told) k ≡ entry_of (offers net dest i (λ a. heard_by value net i heard a dest)) k
+          other : (k : ℕ) → (k == suc t.place) ≡ false → entry_of (offers net dest i reported) k ≡ entry_of (offers net dest i (λ a. heard_by value net i heard a dest)) k
           other zero f = refl
           other (suc k) f =
-              entry_map (λ (b : PureArc). hop_by net b (told b.id)) (arcs_from net i) k
+              entry_map (λ (b : PureArc). hop_by net b (reported b.id)) (arcs_from net i) k
               ∙ (by (slice_get (arcs_from net i) k) refl ∙ sym (entry_map (λ (b : PureArc). hop_by net b (heard_by value net i heard b.id dest)) (arcs_from net i) k))
             where
               apart : (k == t.place) ≡ false
               apart = grind (arith, nat_tests)
 
-              by : (o : Option PureArc) → slice_get (arcs_from net i) k ≡ o → option_and_then (λ (b : PureArc). hop_by net b (told b.id)) o ≡ option_and_then (λ (b : PureArc). hop_by net b (heard_by value net i heard b.id dest)) o
+              by : (o : Option PureArc) → slice_get (arcs_from net i) k ≡ o → option_and_then (λ (b : PureArc). hop_by net b (reported b.id)) o ≡ option_and_then (λ (b : PureArc). hop_by net b (heard_by value net i heard b.id dest)) o
               by None g = refl
-              by (Some a) g = ap (hop_by net a) (told_at k a g ∙ (ap (λ b. cond b (option_map value t.value.now) (option_map value (entry_of heard (dest * width net i + k)))) apart ∙ sym (heard_value value net n i k a heard dest g)))
+              by (Some a) g = ap (hop_by net a) (reported_at k a g ∙ (ap (λ b. cond b (option_map value t.value.now) (option_map value (entry_of heard (dest * width net i + k)))) apart ∙ sym (heard_value value net n i k a heard dest g)))
 
       -- ---- offers one after another
 
@@ -233,9 +233,9 @@ module _ {S : Type 0} (is_sig : S → Type 0) (value : S → PureValue) (net : P
       pub known_may : (b : Bool) (entry : ℕ) (known : Option S) → known ≡ cond b t.value.now (entry_of heard entry) → IfSome known (λ s. is_sig s × AtMost MAX_VALUE_NUMBER (value s))
       known_may b entry known e = subst (λ o. IfSome o (λ s. is_sig s × AtMost MAX_VALUE_NUMBER (value s))) (sym e) (by b)
         where
-          of_told : (o : Option S) → IfSome o (λ s. is_sig s × AtMost (t.clock * 2 ^ 64) (value s)) → IfSome o (λ s. is_sig s × AtMost MAX_VALUE_NUMBER (value s))
-          of_told None h = tt
-          of_told (Some s) h = (h.0, may_apply (value s) h.1)
+          of_reported : (o : Option S) → IfSome o (λ s. is_sig s × AtMost (t.clock * 2 ^ 64) (value s)) → IfSome o (λ s. is_sig s × AtMost MAX_VALUE_NUMBER (value s))
+          of_reported None h = tt
+          of_reported (Some s) h = (h.0, may_apply (value s) h.1)
 
           of_heard : (o : Option S) → entry_of heard entry ≡ o → IfSome o (λ s. is_sig s × AtMost MAX_VALUE_NUMBER (value s))
           of_heard None h = tt
@@ -244,14 +244,14 @@ module _ {S : Type 0} (is_sig : S → Type 0) (value : S → PureValue) (net : P
               (each.0, may_apply (value s) (at_most_more (clock * 2 ^ 64) (t.clock * 2 ^ 64) (value s) (clock_room clock t.clock early) each.1))
 
           by : (b : Bool) → IfSome (cond b t.value.now (entry_of heard entry)) (λ s. is_sig s × AtMost MAX_VALUE_NUMBER (value s))
-          by true = of_told t.value.now arrival.told
+          by true = of_reported t.value.now arrival.reported
           by false = of_heard (entry_of heard entry) refl
 
       -- what is known on the arc at a place, from its entry
-      known_is : (k w : ℕ) (a : PureArc) → slice_get (arcs_from net i) k ≡ Some a → w ≡ width net i → (known : Option S) → known ≡ cond (k == t.place) t.value.now (entry_of heard (dest * w + k)) → option_map value known ≡ told a.id
+      known_is : (k w : ℕ) (a : PureArc) → slice_get (arcs_from net i) k ≡ Some a → w ≡ width net i → (known : Option S) → known ≡ cond (k == t.place) t.value.now (entry_of heard (dest * w + k)) → option_map value known ≡ reported a.id
       known_is k w a e same known f =
           ap (option_map value) f ∙ (ap (λ z. option_map value (cond (k == t.place) t.value.now (entry_of heard (dest * z + k)))) same
-          ∙ (by (k == t.place) ∙ sym (told_at k a e)))
+          ∙ (by (k == t.place) ∙ sym (reported_at k a e)))
         where
           by : (b : Bool) → option_map value (cond b t.value.now (entry_of heard (dest * width net i + k))) ≡ cond b (option_map value t.value.now) (option_map value (entry_of heard (dest * width net i + k)))
           by true = refl
@@ -259,46 +259,46 @@ module _ {S : Type 0} (is_sig : S → Type 0) (value : S → PureValue) (net : P
 
       -- the best of the offers so far, with that of the arc at the next place
       pub best_more : (k w : ℕ) (a : PureArc) → slice_get (arcs_from net i) k ≡ Some a → w ≡ width net i → (known : Option S) → known ≡ cond (k == t.place) t.value.now (entry_of heard (dest * w + k)) → (made : Option S)
-          → option_map value made ≡ option_and_then (App net.alg.expression a.label) (option_map value known) → (best : Option (Chosen S)) → IsBest value net i (take (k + 1) (offers net dest i told)) best
-          → IsBest value net i (take (k + 1 + 1) (offers net dest i told)) (better_of value (carrier net) best (option_map (chosen_at (k + 1)) made))
+          → option_map value made ≡ option_and_then (App net.alg.expression a.label) (option_map value known) → (best : Option (Chosen S)) → IsBest value net i (take (k + 1) (offers net dest i reported)) best
+          → IsBest value net i (take (k + 1 + 1) (offers net dest i reported)) (better_of value (carrier net) best (option_map (chosen_at (k + 1)) made))
       best_more k w a e same known f made image best is =
           let next : suc k ≡ k + 1 = omega arith in
           let last : suc (k + 1) ≡ k + 1 + 1 = omega arith in
-          let hop_is : option_map (λ s. hop_at value net i (chosen_at (suc k) s)) made ≡ hop_by net a (told a.id) =
-          offer_made value net i k a (told a.id) made e (image ∙ ap (option_and_then (App net.alg.expression a.label)) (known_is k w a e same known f)) in
-          let slot : slice_get (offers net dest i told) (suc k) ≡ Some (option_map (λ s. hop_at value net i (chosen_at (suc k) s)) made) =
-          slice_get-map (λ (b : PureArc). hop_by net b (told b.id)) (arcs_from net i) k ∙ (ap (option_map (λ (b : PureArc). hop_by net b (told b.id))) e ∙ ap (λ z. Some z) (sym hop_is)) in
-          let here : slice_get (offers net dest i told) (k + 1) ≡ Some (option_map (λ s. hop_at value net i (chosen_at (k + 1) s)) made) =
-          subst (λ z. slice_get (offers net dest i told) z ≡ Some (option_map (λ s. hop_at value net i (chosen_at z s)) made)) next slot in
-          subst (λ z. IsBest value net i (take z (offers net dest i told)) (better_of value (carrier net) best (option_map (chosen_at (k + 1)) made))) last
-          (best_next value net i (offers net dest i told) (k + 1) made best all_told_in here is)
+          let hop_is : option_map (λ s. hop_at value net i (chosen_at (suc k) s)) made ≡ hop_by net a (reported a.id) =
+          offer_made value net i k a (reported a.id) made e (image ∙ ap (option_and_then (App net.alg.expression a.label)) (known_is k w a e same known f)) in
+          let slot : slice_get (offers net dest i reported) (suc k) ≡ Some (option_map (λ s. hop_at value net i (chosen_at (suc k) s)) made) =
+          slice_get-map (λ (b : PureArc). hop_by net b (reported b.id)) (arcs_from net i) k ∙ (ap (option_map (λ (b : PureArc). hop_by net b (reported b.id))) e ∙ ap (λ z. Some z) (sym hop_is)) in
+          let here : slice_get (offers net dest i reported) (k + 1) ≡ Some (option_map (λ s. hop_at value net i (chosen_at (k + 1) s)) made) =
+          subst (λ z. slice_get (offers net dest i reported) z ≡ Some (option_map (λ s. hop_at value net i (chosen_at z s)) made)) next slot in
+          subst (λ z. IsBest value net i (take z (offers net dest i reported)) (better_of value (carrier net) best (option_map (chosen_at (k + 1)) made))) last
+          (best_next value net i (offers net dest i reported) (k + 1) made best all_reported_in here is)
 
       -- once all arcs are asked
-      pub best_of_all : (k w : ℕ) → w ≡ width net i → w ≤ k → (best : Option (Chosen S)) → IsBest value net i (take (k + 1) (offers net dest i told)) best → IsBest value net i (offers net dest i told) best
+      pub best_of_all : (k w : ℕ) → w ≡ width net i → w ≤ k → (best : Option (Chosen S)) → IsBest value net i (take (k + 1) (offers net dest i reported)) best → IsBest value net i (offers net dest i reported) best
       best_of_all k w same past best is =
-          let count : length (offers net dest i told) ≡ suc (width net i) = ap suc (length-map (arcs_from net i) (λ (b : PureArc). hop_by net b (told b.id))) in
-          subst (λ os. IsBest value net i os best) (take_whole (offers net dest i told) (k + 1) (omega (arith, count, same, past))) is
+          let count : length (offers net dest i reported) ≡ suc (width net i) = ap suc (length-map (arcs_from net i) (λ (b : PureArc). hop_by net b (reported b.id))) in
+          subst (λ os. IsBest value net i os best) (take_whole (offers net dest i reported) (k + 1) (omega (arith, count, same, past))) is
 
       -- ---- rows that are settled by the new offer
 
       -- the row stays
       pub row_stays : (p : ℕ) → p ≡ t.place + 1 → (made : Option S) → option_map value made ≡ option_and_then (App net.alg.expression arrival.from.label) (option_map value t.value.now) → (before : Option (Chosen S))
-          → IsBest value net i (offers net dest i (λ a. heard_by value net i heard a dest)) before → settled value (carrier net) before p made ≡ Stays → IsBest value net i (offers net dest i told) before
+          → IsBest value net i (offers net dest i (λ a. heard_by value net i heard a dest)) before → settled value (carrier net) before p made ≡ Stays → IsBest value net i (offers net dest i reported) before
       row_stays p e made image before best is =
           let next : p ≡ suc t.place = omega (arith, e) in
-          settled_stays value net i (offers net dest i (λ a. heard_by value net i heard a dest)) (offers net dest i told) (suc t.place) made all_told_in (all_in dest arrival.dest_in) (told_replaced made image) before best
+          settled_stays value net i (offers net dest i (λ a. heard_by value net i heard a dest)) (offers net dest i reported) (suc t.place) made all_reported_in (all_in dest arrival.dest_in) (reported_replaced made image) before best
           (subst (λ z. settled value (carrier net) before z made ≡ Stays) next is)
 
       -- it moves
       pub row_moves : (p : ℕ) → p ≡ t.place + 1 → (made : Option S) → option_map value made ≡ option_and_then (App net.alg.expression arrival.from.label) (option_map value t.value.now) → (before : Option (Chosen S))
-          → IsBest value net i (offers net dest i (λ a. heard_by value net i heard a dest)) before → settled value (carrier net) before p made ≡ Moves → IsBest value net i (offers net dest i told) (option_map (chosen_at p) made)
+          → IsBest value net i (offers net dest i (λ a. heard_by value net i heard a dest)) before → settled value (carrier net) before p made ≡ Moves → IsBest value net i (offers net dest i reported) (option_map (chosen_at p) made)
       row_moves p e made image before best is =
           let next : p ≡ suc t.place = omega (arith, e) in
-          subst (λ z. IsBest value net i (offers net dest i told) (option_map (chosen_at z) made)) (sym next)
-          (settled_moves value net i (offers net dest i (λ a. heard_by value net i heard a dest)) (offers net dest i told) (suc t.place) made all_told_in (all_in dest arrival.dest_in) (told_replaced made image) before best
+          subst (λ z. IsBest value net i (offers net dest i reported) (option_map (chosen_at z) made)) (sym next)
+          (settled_moves value net i (offers net dest i (λ a. heard_by value net i heard a dest)) (offers net dest i reported) (suc t.place) made all_reported_in (all_in dest arrival.dest_in) (reported_replaced made image) before best
           (subst (λ z. settled value (carrier net) before z made ≡ Moves) next is))
 
       -- what is sent of a row may be sent
-      pub row_small : (row : Option (Chosen S)) → IsBest value net i (offers net dest i told) row → IfSome (told_of value row) (AtMost (greatest_at t.clock))
+      pub row_small : (row : Option (Chosen S)) → IsBest value net i (offers net dest i reported) row → IfSome (reported_of value row) (AtMost (greatest_at t.clock))
       row_small None best = tt
       row_small (Some r) best = (all_may r.offer (hop_at value net i r) best.there).small

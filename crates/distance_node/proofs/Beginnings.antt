@@ -10,9 +10,9 @@ use Rattle.net_graph.specs.NetLaws.{few_dests}
 use Rattle.distance_node.specs.declared.chosen.Chosen.{Chosen}
 use Rattle.distance_node.specs.Beginning.{AreBegun}
 use Rattle.distance_node.specs.Chosen.{hop_at}
-use Rattle.distance_node.specs.Node.{Hop, PureVector, greatest_at, all_begun, begun_of, own_hop, told_on}
+use Rattle.distance_node.specs.Node.{Hop, PureVector, greatest_at, all_begun, begun_of, own_hop, reported_on}
 use Rattle.distance_node.specs.Offers.{own_is, own_may}
-use Rattle.distance_node.specs.Tellings.{told_of}
+use Rattle.distance_node.specs.Tellings.{reported_of}
 use Rattle.distance_node.proofs.Pushing.{pushed_count, pushed_holds, pushed_images, range_next}
 
 begun_append : (net : PureNet) (i : ℕ) (xs ys : List ℕ) → all_begun net i (xs ++ ys) ≡ all_begun net i xs ++ all_begun net i ys
@@ -20,8 +20,8 @@ begun_append net i [] ys = refl
 begun_append net i (x ∷ xs) ys = ap (λ z. begun_of net i x ++ z) (begun_append net i xs ys) ∙ sym (append_assoc (begun_of net i x) (all_begun net i xs) (all_begun net i ys))
 
 -- one destination more
-pub told_next : (net : PureNet) (i k : ℕ) (out new : List (ℕ × PureVector)) → out ≡ all_begun net i (range_with_len 0 k) → new ≡ out ++ begun_of net i k → new ≡ all_begun net i (range_with_len 0 (k + 1))
-told_next net i k out new so next =
+pub reported_next : (net : PureNet) (i k : ℕ) (out new : List (ℕ × PureVector)) → out ≡ all_begun net i (range_with_len 0 k) → new ≡ out ++ begun_of net i k → new ≡ all_begun net i (range_with_len 0 (k + 1))
+reported_next net i k out new so next =
     let place : 0 + k ≡ k = omega arith in
     let last : suc k ≡ k + 1 = omega arith in
     next ∙ (ap (λ z. z ++ begun_of net i k) so
@@ -41,13 +41,13 @@ module _ {S : Type 0} (is_sig : S → Type 0) (value : S → PureValue) (net : P
       by (Some r) f = rw f refl
 
   -- what is sent of it
-  pub told_one : (dest : ℕ) (row : Option (Chosen S)) (out new : List (ℕ × PureVector)) → option_map (hop_at value net i) row ≡ own_hop net dest i
-      → new ≡ cond (is_some row) (out ++ told_on (arcs_to net i) (record { dest = dest; value = told_of value row; stamp = 0 })) out → new ≡ out ++ begun_of net i dest
-  told_one dest row out new e f = f ∙ subst (λ (o : Option Hop). cond (is_some row) (out ++ told_on (arcs_to net i) (record { dest = dest; value = told_of value row; stamp = 0 })) out
-      ≡ out ++ cond (is_some o) (told_on (arcs_to net i) (record { dest = dest; value = option_map (λ (h : Hop). h.value) o; stamp = 0 })) []) e (by row)
+  pub reported_one : (dest : ℕ) (row : Option (Chosen S)) (out new : List (ℕ × PureVector)) → option_map (hop_at value net i) row ≡ own_hop net dest i
+      → new ≡ cond (is_some row) (out ++ reported_on (arcs_to net i) (record { dest = dest; value = reported_of value row; stamp = 0 })) out → new ≡ out ++ begun_of net i dest
+  reported_one dest row out new e f = f ∙ subst (λ (o : Option Hop). cond (is_some row) (out ++ reported_on (arcs_to net i) (record { dest = dest; value = reported_of value row; stamp = 0 })) out
+      ≡ out ++ cond (is_some o) (reported_on (arcs_to net i) (record { dest = dest; value = option_map (λ (h : Hop). h.value) o; stamp = 0 })) []) e (by row)
     where
-      by : (o : Option (Chosen S)) → cond (is_some o) (out ++ told_on (arcs_to net i) (record { dest = dest; value = told_of value o; stamp = 0 })) out
-          ≡ out ++ cond (is_some (option_map (hop_at value net i) o)) (told_on (arcs_to net i) (record { dest = dest; value = option_map (λ (h : Hop). h.value) (option_map (hop_at value net i) o); stamp = 0 })) []
+      by : (o : Option (Chosen S)) → cond (is_some o) (out ++ reported_on (arcs_to net i) (record { dest = dest; value = reported_of value o; stamp = 0 })) out
+          ≡ out ++ cond (is_some (option_map (hop_at value net i) o)) (reported_on (arcs_to net i) (record { dest = dest; value = option_map (λ (h : Hop). h.value) (option_map (hop_at value net i) o); stamp = 0 })) []
       by None = sym (append-nil out)
       by (Some r) = refl
 
@@ -69,19 +69,19 @@ module _ {S : Type 0} (is_sig : S → Type 0) (value : S → PureValue) (net : P
   no_rows = record { row_count = refl; sigs = λ dest r e. absurd (cc); first = λ dest r e. absurd (cc); hops = λ dest l. absurd (omega (arith, l)) }
 
   -- the own origin's value may be sent at the start
-  pub own_small : IsNet net → (dest : ℕ) (row : Option (Chosen S)) → option_map (hop_at value net i) row ≡ own_hop net dest i → IfSome (told_of value row) (AtMost (greatest_at 0))
+  pub own_small : IsNet net → (dest : ℕ) (row : Option (Chosen S)) → option_map (hop_at value net i) row ≡ own_hop net dest i → IfSome (reported_of value row) (AtMost (greatest_at 0))
   own_small n dest None e = tt
   own_small n dest (Some r) e = (own_may net n dest i 0 (hop_at value net i r) (own_is net dest i (hop_at value net i r) (sym e))).small
 
   -- where there is a row it is sent, and else nothing is
-  pub told_some : (dest : ℕ) (row : Option (Chosen S)) (out new : List (ℕ × PureVector)) → option_map (hop_at value net i) row ≡ own_hop net dest i → is_some row ≡ true
-      → new ≡ out ++ told_on (arcs_to net i) (record { dest = dest; value = told_of value row; stamp = 0 }) → new ≡ out ++ begun_of net i dest
-  told_some dest row out new e some f =
-      told_one dest row out new e (f ∙ ap (λ b. cond b (out ++ told_on (arcs_to net i) (record { dest = dest; value = told_of value row; stamp = 0 })) out) (sym some))
+  pub reported_some : (dest : ℕ) (row : Option (Chosen S)) (out new : List (ℕ × PureVector)) → option_map (hop_at value net i) row ≡ own_hop net dest i → is_some row ≡ true
+      → new ≡ out ++ reported_on (arcs_to net i) (record { dest = dest; value = reported_of value row; stamp = 0 }) → new ≡ out ++ begun_of net i dest
+  reported_some dest row out new e some f =
+      reported_one dest row out new e (f ∙ ap (λ b. cond b (out ++ reported_on (arcs_to net i) (record { dest = dest; value = reported_of value row; stamp = 0 })) out) (sym some))
 
-  pub told_none : (dest : ℕ) (row : Option (Chosen S)) (out new : List (ℕ × PureVector)) → option_map (hop_at value net i) row ≡ own_hop net dest i → is_some row ≡ false → new ≡ out → new ≡ out ++ begun_of net i dest
-  told_none dest row out new e none f =
-      told_one dest row out new e (f ∙ ap (λ b. cond b (out ++ told_on (arcs_to net i) (record { dest = dest; value = told_of value row; stamp = 0 })) out) (sym none))
+  pub reported_none : (dest : ℕ) (row : Option (Chosen S)) (out new : List (ℕ × PureVector)) → option_map (hop_at value net i) row ≡ own_hop net dest i → is_some row ≡ false → new ≡ out → new ≡ out ++ begun_of net i dest
+  reported_none dest row out new e none f =
+      reported_one dest row out new e (f ∙ ap (λ b. cond b (out ++ reported_on (arcs_to net i) (record { dest = dest; value = reported_of value row; stamp = 0 })) out) (sym none))
 
 -- a network has few destinations
 pub dests_few : (net : PureNet) → IsNet net → length net.dests ≤ 64

@@ -19,11 +19,11 @@ use Rattle.distance_node.specs.Beginning.{AreBegun}
 use Rattle.distance_node.specs.Chosen.{IsBest, entry_of, hop_at}
 use Rattle.distance_node.specs.Choosing.{first_is_best, none_is_best, not_itself}
 use Rattle.distance_node.specs.Fitting.{clock_room}
-use Rattle.distance_node.specs.Node.{Hop, DvState, PureVector, Begin, value_of, choice, heard_with, hop_by, new_node, offers, own_hop, same_told, taken, told_on, vector_of}
+use Rattle.distance_node.specs.Node.{Hop, DvState, PureVector, Begin, value_of, choice, heard_with, hop_by, new_node, offers, own_hop, same_reported, taken, reported_on, vector_of}
 use Rattle.distance_node.specs.Nodes.{HasHeard, HasRows, PureNode, row_list, state_of}
 use Rattle.distance_node.specs.Offers.{entry_map, own_is, own_may}
 use Rattle.distance_node.specs.Places.{heard_by, place_of, values_in, width}
-use Rattle.distance_node.specs.Tellings.{told_of}
+use Rattle.distance_node.specs.Tellings.{reported_of}
 use Rattle.distance_node.proofs.Owns.{no_origin_outside}
 use Rattle.distance_node.proofs.Pushing.{entry_mapped, entry_outside, entry_set, set_length}
 
@@ -156,10 +156,10 @@ module _ {S : Type 0} (value : S → PureValue) (net : PureNet) (number : ℕ) w
 
   -- ---- a message more
 
-  module _ (heard new : List (Option S)) (rows : List (Option (Chosen S))) (last arc dest clock : ℕ) (told : Option S) (next : Option (Chosen S)) (m : PureVector)
-      (dest_is : dest ≡ m.dest) (told_is : option_map value told ≡ m.value)
-      (heard_is : heard_by value net number new ≡ heard_with (heard_by value net number heard) arc dest (option_map value told)) (within : dest < length rows)
-      (best : IsBest value net number (offers net dest number (λ a. heard_with (heard_by value net number heard) arc dest (option_map value told) a dest)) next)
+  module _ (heard new : List (Option S)) (rows : List (Option (Chosen S))) (last arc dest clock : ℕ) (reported : Option S) (next : Option (Chosen S)) (m : PureVector)
+      (dest_is : dest ≡ m.dest) (reported_is : option_map value reported ≡ m.value)
+      (heard_is : heard_by value net number new ≡ heard_with (heard_by value net number heard) arc dest (option_map value reported)) (within : dest < length rows)
+      (best : IsBest value net number (offers net dest number (λ a. heard_with (heard_by value net number heard) arc dest (option_map value reported) a dest)) next)
     where
       abbrev row : Option Hop
       row = option_map (hop_at value net number) next
@@ -169,48 +169,48 @@ module _ {S : Type 0} (value : S → PureValue) (net : PureNet) (number : ℕ) w
 
       row_is : row ≡ choice net m.dest number (λ a. heard_with (heard_by value net number heard) arc m.dest m.value a m.dest)
       row_is =
-          best_is_choice value net dest number (λ a. heard_with (heard_by value net number heard) arc dest (option_map value told) a dest) next best
-          ∙ (ap (λ z. choice net dest number (λ a. heard_with (heard_by value net number heard) arc dest z a dest)) told_is
+          best_is_choice value net dest number (λ a. heard_with (heard_by value net number heard) arc dest (option_map value reported) a dest) next best
+          ∙ (ap (λ z. choice net dest number (λ a. heard_with (heard_by value net number heard) arc dest z a dest)) reported_is
           ∙ ap (λ z. choice net z number (λ a. heard_with (heard_by value net number heard) arc z m.value a z)) dest_is)
 
       pub taken_is : (begun : Bool) → state_of (node_with begun new (set rows dest next) clock) ≡ (taken (state_of (node_with begun heard rows last)) arc m clock).0
       taken_is begun =
           state_is begun new (set rows dest next) clock
-          ∙ (ap (λ h. state_with net number begun h (hops_at value net number (set rows dest next)) clock) (heard_is ∙ (ap (heard_with (heard_by value net number heard) arc dest) told_is ∙ ap (λ z. heard_with (heard_by value net number heard) arc z m.value) dest_is))
+          ∙ (ap (λ h. state_with net number begun h (hops_at value net number (set rows dest next)) clock) (heard_is ∙ (ap (heard_with (heard_by value net number heard) arc dest) reported_is ∙ ap (λ z. heard_with (heard_by value net number heard) arc z m.value) dest_is))
           ∙ (ap (λ r. state_with net number begun (heard_with (heard_by value net number heard) arc m.dest m.value) r clock) (rows_changed value net number rows dest next within
           ∙ (ap (changed_at (hops_at value net number rows) dest) row_is ∙ ap (λ z. changed_at (hops_at value net number rows) z (choice net m.dest number (λ a. heard_with (heard_by value net number heard) arc m.dest m.value a m.dest))) dest_is))
           ∙ ap (λ s. (taken s arc m clock).0) (sym (state_is begun heard rows last))))
 
       -- what is sent of the row
-      pub told_is_taken : (begun : Bool) (sent : List (ℕ × PureVector))
-          → sent ≡ cond (same_told (told_of value next) (told_of value (entry_of rows dest))) []
-          (told_on (arcs_to net number) (record { dest = dest; value = told_of value next; stamp = clock }))
+      pub reported_is_taken : (begun : Bool) (sent : List (ℕ × PureVector))
+          → sent ≡ cond (same_reported (reported_of value next) (reported_of value (entry_of rows dest))) []
+          (reported_on (arcs_to net number) (record { dest = dest; value = reported_of value next; stamp = clock }))
           → sent ≡ (taken (state_of (node_with begun heard rows last)) arc m clock).1
-      told_is_taken begun sent e =
-          e ∙ (ap (λ v. cond (same_told v (told_of value (entry_of rows dest))) [] (told_on (arcs_to net number) (record { dest = dest; value = v; stamp = clock }))) (value_is next)
-          ∙ (ap (λ v. cond (same_told (value_of row) v) [] (told_on (arcs_to net number) (vector_of dest row clock))) (value_is (entry_of rows dest))
-          ∙ (ap (λ r. cond (same_told (value_of r) (value_of (hops_at value net number rows dest))) [] (told_on (arcs_to net number) (vector_of dest r clock))) row_is
-          ∙ (ap (λ z. cond (same_told (value_of chosen) (value_of (hops_at value net number rows z))) [] (told_on (arcs_to net number) (vector_of z chosen clock))) dest_is
+      reported_is_taken begun sent e =
+          e ∙ (ap (λ v. cond (same_reported v (reported_of value (entry_of rows dest))) [] (reported_on (arcs_to net number) (record { dest = dest; value = v; stamp = clock }))) (value_is next)
+          ∙ (ap (λ v. cond (same_reported (value_of row) v) [] (reported_on (arcs_to net number) (vector_of dest row clock))) (value_is (entry_of rows dest))
+          ∙ (ap (λ r. cond (same_reported (value_of r) (value_of (hops_at value net number rows dest))) [] (reported_on (arcs_to net number) (vector_of dest r clock))) row_is
+          ∙ (ap (λ z. cond (same_reported (value_of chosen) (value_of (hops_at value net number rows z))) [] (reported_on (arcs_to net number) (vector_of z chosen clock))) dest_is
           ∙ ap (λ s. (taken s arc m clock).1) (sym (state_is begun heard rows last))))))
         where
-          value_is : (r : Option (Chosen S)) → told_of value r ≡ value_of (option_map (hop_at value net number) r)
+          value_is : (r : Option (Chosen S)) → reported_of value r ≡ value_of (option_map (hop_at value net number) r)
           value_is None = refl
           value_is (Some r) = refl
 
   -- what the node keeps then
-  pub heard_more : (is_sig : S → Type 0) (heard : List (Option S)) (last clock at : ℕ) (told : Option S) → HasHeard is_sig value net number last heard → last ≤ clock → clock ≤ MAX_CLOCK → at < length heard
-      → IfSome told (λ s. is_sig s × AtMost (clock * 2 ^ 64) (value s)) → HasHeard is_sig value net number clock (set heard at told)
-  heard_more is_sig heard last clock at told kept later early inside may = record { count = set_length heard at told ∙ kept.count; each = each; early = early }
+  pub heard_more : (is_sig : S → Type 0) (heard : List (Option S)) (last clock at : ℕ) (reported : Option S) → HasHeard is_sig value net number last heard → last ≤ clock → clock ≤ MAX_CLOCK → at < length heard
+      → IfSome reported (λ s. is_sig s × AtMost (clock * 2 ^ 64) (value s)) → HasHeard is_sig value net number clock (set heard at reported)
+  heard_more is_sig heard last clock at reported kept later early inside may = record { count = set_length heard at reported ∙ kept.count; each = each; early = early }
     where
-      each : (k : ℕ) (s : S) → entry_of (set heard at told) k ≡ Some s → is_sig s × AtMost (clock * 2 ^ 64) (value s)
-      each k s e = by (k == at) (sym (entry_set heard at told k inside) ∙ e)
+      each : (k : ℕ) (s : S) → entry_of (set heard at reported) k ≡ Some s → is_sig s × AtMost (clock * 2 ^ 64) (value s)
+      each k s e = by (k == at) (sym (entry_set heard at reported k inside) ∙ e)
         where
           of : (o : Option S) → IfSome o (λ s. is_sig s × AtMost (clock * 2 ^ 64) (value s)) → o ≡ Some s → is_sig s × AtMost (clock * 2 ^ 64) (value s)
           of None h f = absurd (cc)
           of (Some x) h f = let same : x ≡ s = cc in subst (λ z. is_sig z × AtMost (clock * 2 ^ 64) (value z)) same h
 
-          by : (b : Bool) → cond b told (entry_of heard k) ≡ Some s → is_sig s × AtMost (clock * 2 ^ 64) (value s)
-          by true f = of told may f
+          by : (b : Bool) → cond b reported (entry_of heard k) ≡ Some s → is_sig s × AtMost (clock * 2 ^ 64) (value s)
+          by true f = of reported may f
           by false f =
               let known = kept.each k s f in
               (known.0, at_most_more (last * 2 ^ 64) (clock * 2 ^ 64) (value s) (clock_room last clock later) known.1)
@@ -223,12 +223,12 @@ module _ {S : Type 0} (value : S → PureValue) (net : PureNet) (number : ℕ) w
     early = early;
   }
 
-  pub rows_more : (is_sig : S → Type 0) (heard new : List (Option S)) (rows : List (Option (Chosen S))) (arc dest : ℕ) (told : Option PureValue) (next : Option (Chosen S)) → HasRows is_sig value net number heard rows
-      → heard_by value net number new ≡ heard_with (heard_by value net number heard) arc dest told → dest < length rows
+  pub rows_more : (is_sig : S → Type 0) (heard new : List (Option S)) (rows : List (Option (Chosen S))) (arc dest : ℕ) (reported : Option PureValue) (next : Option (Chosen S)) → HasRows is_sig value net number heard rows
+      → heard_by value net number new ≡ heard_with (heard_by value net number heard) arc dest reported → dest < length rows
       → IfSome next (λ r. is_sig r.sig)
-      → IsBest value net number (offers net dest number (λ a. heard_with (heard_by value net number heard) arc dest told a dest)) next
+      → IsBest value net number (offers net dest number (λ a. heard_with (heard_by value net number heard) arc dest reported a dest)) next
       → HasRows is_sig value net number new (set rows dest next)
-  rows_more is_sig heard new rows arc dest told next has heard_is within sig best = record { sigs = sigs; best = bests }
+  rows_more is_sig heard new rows arc dest reported next has heard_is within sig best = record { sigs = sigs; best = bests }
     where
       sigs : (d : ℕ) (r : Chosen S) → entry_of (set rows dest next) d ≡ Some r → is_sig r.sig
       sigs d r e = by (d == dest) (sym (entry_set rows dest next d within) ∙ e)
@@ -244,14 +244,14 @@ module _ {S : Type 0} (value : S → PureValue) (net : PureNet) (number : ℕ) w
       bests : (d : ℕ) → IsBest value net number (offers net d number (λ a. heard_by value net number new a d)) (entry_of (set rows dest next) d)
       bests d =
           subst (λ (h : ℕ → ℕ → Option PureValue). IsBest value net number (offers net d number (λ a. h a d)) (entry_of (set rows dest next) d)) (sym heard_is)
-          (subst (λ r. IsBest value net number (offers net d number (λ a. heard_with (heard_by value net number heard) arc dest told a d)) r) (sym (entry_set rows dest next d within)) (by (d == dest) refl))
+          (subst (λ r. IsBest value net number (offers net d number (λ a. heard_with (heard_by value net number heard) arc dest reported a d)) r) (sym (entry_set rows dest next d within)) (by (d == dest) refl))
         where
           by : (b : Bool) → (d == dest) ≡ b
-              → IsBest value net number (offers net d number (λ a. heard_with (heard_by value net number heard) arc dest told a d)) (cond b next (entry_of rows d))
+              → IsBest value net number (offers net d number (λ a. heard_with (heard_by value net number heard) arc dest reported a d)) (cond b next (entry_of rows d))
           by true e =
               let same : dest ≡ d = sym (eqb-true d dest e) in
-              subst (λ z. IsBest value net number (offers net z number (λ a. heard_with (heard_by value net number heard) arc dest told a z)) next) same best
+              subst (λ z. IsBest value net number (offers net z number (λ a. heard_with (heard_by value net number heard) arc dest reported a z)) next) same best
           by false e =
-              let kept : (λ a. heard_by value net number heard a d) ≡ (λ a. heard_with (heard_by value net number heard) arc dest told a d) =
-              fun_ext (λ a. sym (ap (λ t. cond t told (heard_by value net number heard a d)) (and_right (a == arc) (d == dest) e))) in
+              let kept : (λ a. heard_by value net number heard a d) ≡ (λ a. heard_with (heard_by value net number heard) arc dest reported a d) =
+              fun_ext (λ a. sym (ap (λ t. cond t reported (heard_by value net number heard a d)) (and_right (a == arc) (d == dest) e))) in
               subst (λ h. IsBest value net number (offers net d number h) (entry_of rows d)) kept (has.best d)

@@ -124,10 +124,10 @@ heard_values value net i entries a dest = by (place_of a (arcs_from net i))
     by (Some j) = entry_mapped value entries (dest * width net i + j)
 
 -- what was heard, once an entry was replaced
-pub heard_set : {S : Type 0} (value : S → PureValue) (net : PureNet) → IsNet net → (i k : ℕ) (a : PureArc) (entries : List (Option S)) (dests dest : ℕ) (told : Option S) → slice_get (arcs_from net i) k ≡ Some a
+pub heard_set : {S : Type 0} (value : S → PureValue) (net : PureNet) → IsNet net → (i k : ℕ) (a : PureArc) (entries : List (Option S)) (dests dest : ℕ) (reported : Option S) → slice_get (arcs_from net i) k ≡ Some a
     → length entries ≡ dests * width net i → dest < dests
-    → heard_by value net i (set entries (dest * width net i + k) told) ≡ heard_with (heard_by value net i entries) a.id dest (option_map value told)
-heard_set {S} value net n i k a entries dests dest told e count below = fun_ext (λ b. fun_ext (λ d. at b d))
+    → heard_by value net i (set entries (dest * width net i + k) reported) ≡ heard_with (heard_by value net i entries) a.id dest (option_map value reported)
+heard_set {S} value net n i k a entries dests dest reported e count below = fun_ext (λ b. fun_ext (λ d. at b d))
   where
     here : k < width net i
     here = slice_get_within (arcs_from net i) k a e
@@ -135,25 +135,25 @@ heard_set {S} value net n i k a entries dests dest told e count below = fun_ext 
     inside : dest * width net i + k < length entries
     inside = subst (λ z. dest * width net i + k < z) (sym count) (within dests (width net i) dest k below here)
 
-    at : (b d : ℕ) → heard_by value net i (set entries (dest * width net i + k) told) b d ≡ heard_with (heard_by value net i entries) a.id dest (option_map value told) b d
+    at : (b d : ℕ) → heard_by value net i (set entries (dest * width net i + k) reported) b d ≡ heard_with (heard_by value net i entries) a.id dest (option_map value reported) b d
     at b d = by (place_of b (arcs_from net i)) refl
       where
         by : (o : Option ℕ) → place_of b (arcs_from net i) ≡ o
-            → option_and_then (λ j. entry_of (values_in value (set entries (dest * width net i + k) told)) (d * width net i + j)) o
-            ≡ cond (b == a.id && d == dest) (option_map value told) (option_and_then (λ j. entry_of (values_in value entries) (d * width net i + j)) o)
+            → option_and_then (λ j. entry_of (values_in value (set entries (dest * width net i + k) reported)) (d * width net i + j)) o
+            ≡ cond (b == a.id && d == dest) (option_map value reported) (option_and_then (λ j. entry_of (values_in value entries) (d * width net i + j)) o)
         by None f = either (b == a.id) refl
           where
-            either : (t : Bool) → (b == a.id) ≡ t → None ≡ cond (t && d == dest) (option_map value told) None
+            either : (t : Bool) → (b == a.id) ≡ t → None ≡ cond (t && d == dest) (option_map value reported) None
             either true g = absurd (let h : None ≡ Some k = sym f ∙ (ap (λ z. place_of z (arcs_from net i)) (eqb-true b a.id g) ∙ place_at net n i k a e) in cc)
             either false g = refl
         by (Some j) f =
-            entry_mapped value (set entries (dest * width net i + k) told) (d * width net i + j)
-            ∙ (ap (option_map value) (entry_set entries (dest * width net i + k) told (d * width net i + j) inside)
+            entry_mapped value (set entries (dest * width net i + k) reported) (d * width net i + j)
+            ∙ (ap (option_map value) (entry_set entries (dest * width net i + k) reported (d * width net i + j) inside)
             ∙ (split (d * width net i + j == dest * width net i + k)
-            ∙ (ap (λ z. cond z (option_map value told) (option_map value (entry_of entries (d * width net i + j)))) same_test
-            ∙ ap (λ z. cond (b == a.id && d == dest) (option_map value told) z) (sym (entry_mapped value entries (d * width net i + j))))))
+            ∙ (ap (λ z. cond z (option_map value reported) (option_map value (entry_of entries (d * width net i + j)))) same_test
+            ∙ ap (λ z. cond (b == a.id && d == dest) (option_map value reported) z) (sym (entry_mapped value entries (d * width net i + j))))))
           where
-            split : (t : Bool) → option_map value (cond t told (entry_of entries (d * width net i + j))) ≡ cond t (option_map value told) (option_map value (entry_of entries (d * width net i + j)))
+            split : (t : Bool) → option_map value (cond t reported (entry_of entries (d * width net i + j))) ≡ cond t (option_map value reported) (option_map value (entry_of entries (d * width net i + j)))
             split true = refl
             split false = refl
 

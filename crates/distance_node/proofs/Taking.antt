@@ -12,10 +12,10 @@ use Rattle.net_graph.specs.Nets.{PureArc, PureNet, IsNet, AreNumbered, arcs_from
 use Rattle.net_graph.specs.Tables.{carrier}
 use Rattle.node_core.specs.Kinds.{listener}
 use Rattle.node_core.specs.MachineLaws.{option_from}
-use Rattle.distance_node.specs.Fitting.{later_room, told_from}
-use Rattle.distance_node.specs.Node.{PureVector, fits_in, greatest_at, heard_with, may_be_told}
+use Rattle.distance_node.specs.Fitting.{later_room, reported_from}
+use Rattle.distance_node.specs.Node.{PureVector, fits_in, greatest_at, heard_with, may_be_reported}
 use Rattle.distance_node.specs.Places.{heard_by, width}
-use Rattle.distance_node.specs.Vectors.{IsTold}
+use Rattle.distance_node.specs.Vectors.{IsReported}
 use Rattle.distance_node.proofs.Beginnings.{dests_few}
 use Rattle.distance_node.proofs.Near.{store_fits}
 use Rattle.distance_node.proofs.Places.{heard_set, within}
@@ -40,16 +40,16 @@ came_on net n i arc place listens at =
     (from.0, subst (λ z. slice_get (arcs_from net z) place ≡ Some from.0) from.2 there, omega (arith, id))
 
 -- what was sent before a clock
-pub told_may : {S : Type 0} (is_sig : S → Type 0) (value : S → PureValue) (stamp clock : ℕ) (told : Option S) → stamp < clock → IsTold is_sig value stamp told → IfSome told (λ s. is_sig s × AtMost (clock * 2 ^ 64) (value s))
-told_may is_sig value stamp clock None l is = tt
-told_may is_sig value stamp clock (Some t) l is = (is.0, at_most_more (greatest_at stamp) (clock * 2 ^ 64) (value t) (later_room stamp clock l) is.1)
+pub reported_may : {S : Type 0} (is_sig : S → Type 0) (value : S → PureValue) (stamp clock : ℕ) (reported : Option S) → stamp < clock → IsReported is_sig value stamp reported → IfSome reported (λ s. is_sig s × AtMost (clock * 2 ^ 64) (value s))
+reported_may is_sig value stamp clock None l is = tt
+reported_may is_sig value stamp clock (Some t) l is = (is.0, at_most_more (greatest_at stamp) (clock * 2 ^ 64) (value t) (later_room stamp clock l) is.1)
 
 -- and the same once more
-pub told_before : {S : Type 0} (is_sig : S → Type 0) (value : S → PureValue) (stamp clock : ℕ) (told copied : Option S) → stamp < clock → IsTold is_sig value stamp told → IfSome copied is_sig → option_map value copied ≡ option_map value told
+pub reported_before : {S : Type 0} (is_sig : S → Type 0) (value : S → PureValue) (stamp clock : ℕ) (reported copied : Option S) → stamp < clock → IsReported is_sig value stamp reported → IfSome copied is_sig → option_map value copied ≡ option_map value reported
     → IfSome copied (λ s. is_sig s × AtMost (clock * 2 ^ 64) (value s))
-told_before is_sig value stamp clock told None l is sig e = tt
-told_before is_sig value stamp clock None (Some s) l is sig e = absurd (cc)
-told_before is_sig value stamp clock (Some t) (Some s) l is sig e =
+reported_before is_sig value stamp clock reported None l is sig e = tt
+reported_before is_sig value stamp clock None (Some s) l is sig e = absurd (cc)
+reported_before is_sig value stamp clock (Some t) (Some s) l is sig e =
     let same : value t ≡ value s = sym (cc) in
     (sig, subst (AtMost (clock * 2 ^ 64)) same (at_most_more (greatest_at stamp) (clock * 2 ^ 64) (value t) (later_room stamp clock l) is.1))
 
@@ -59,25 +59,25 @@ some_holds P None h = tt
 some_holds P (Some x) h = h x refl
 
 -- a message of the mark's algebra fits where its destination is the network's
-pub fits_is : {S : Type 0} (is_sig : S → Type 0) (value : S → PureValue) (net : PureNet) → ((s : S) → is_sig s → In (carrier net) (value s)) → (m : PureVector) (told : Option S) (dest count : ℕ) → IsTold is_sig value m.stamp told
-    → option_map value told ≡ m.value → dest ≡ m.dest → count ≡ length net.dests → nat_lt dest count ≡ fits_in net m
-fits_is {S} is_sig value net sig_in m told dest count is e d c = rw (d, c) (both (nat_lt m.dest (length net.dests)) (subst (λ o. option_map_or (may_be_told net m.stamp) o true ≡ true) e (by told is)))
+pub fits_is : {S : Type 0} (is_sig : S → Type 0) (value : S → PureValue) (net : PureNet) → ((s : S) → is_sig s → In (carrier net) (value s)) → (m : PureVector) (reported : Option S) (dest count : ℕ) → IsReported is_sig value m.stamp reported
+    → option_map value reported ≡ m.value → dest ≡ m.dest → count ≡ length net.dests → nat_lt dest count ≡ fits_in net m
+fits_is {S} is_sig value net sig_in m reported dest count is e d c = rw (d, c) (both (nat_lt m.dest (length net.dests)) (subst (λ o. option_map_or (may_be_reported net m.stamp) o true ≡ true) e (by reported is)))
   where
-    by : (o : Option S) → IsTold is_sig value m.stamp o → option_map_or (may_be_told net m.stamp) (option_map value o) true ≡ true
+    by : (o : Option S) → IsReported is_sig value m.stamp o → option_map_or (may_be_reported net m.stamp) (option_map value o) true ≡ true
     by None h = refl
-    by (Some s) h = told_from net m.stamp (value s) (sig_in s h.0) h.1
+    by (Some s) h = reported_from net m.stamp (value s) (sig_in s h.0) h.1
 
-    both : (b : Bool) → option_map_or (may_be_told net m.stamp) m.value true ≡ true → b ≡ (b && option_map_or (may_be_told net m.stamp) m.value true)
+    both : (b : Bool) → option_map_or (may_be_reported net m.stamp) m.value true ≡ true → b ≡ (b && option_map_or (may_be_reported net m.stamp) m.value true)
     both true f = sym f
     both false f = refl
 
 -- what a node heard, once it heard this at the arc's place
-pub heard_put : {S : Type 0} (value : S → PureValue) (net : PureNet) → IsNet net → (i k w arc dest : ℕ) (a : PureArc) (entries : List (Option S)) (told : Option S) → slice_get (arcs_from net i) k ≡ Some a → a.id ≡ arc → w ≡ width net i
+pub heard_put : {S : Type 0} (value : S → PureValue) (net : PureNet) → IsNet net → (i k w arc dest : ℕ) (a : PureArc) (entries : List (Option S)) (reported : Option S) → slice_get (arcs_from net i) k ≡ Some a → a.id ≡ arc → w ≡ width net i
     → length entries ≡ length net.dests * width net i → dest < length net.dests
-    → heard_by value net i (set entries (dest * w + k) told) ≡ heard_with (heard_by value net i entries) arc dest (option_map value told)
-heard_put value net n i k w arc dest a entries told e id same count below =
-    ap (λ z. heard_by value net i (set entries (dest * z + k) told)) same
-    ∙ (heard_set value net n i k a entries (length net.dests) dest told e count below ∙ ap (λ z. heard_with (heard_by value net i entries) z dest (option_map value told)) id)
+    → heard_by value net i (set entries (dest * w + k) reported) ≡ heard_with (heard_by value net i entries) arc dest (option_map value reported)
+heard_put value net n i k w arc dest a entries reported e id same count below =
+    ap (λ z. heard_by value net i (set entries (dest * z + k) reported)) same
+    ∙ (heard_set value net n i k a entries (length net.dests) dest reported e count below ∙ ap (λ z. heard_with (heard_by value net i entries) z dest (option_map value reported)) id)
 
 -- an entry's place is in the list
 pub record IsEntry (len row place : ℕ) : Type 0 where

@@ -15,9 +15,9 @@ pub record IsArrival {S : Type 0} (is_sig : S → Type 0) (value : S → PureVal
   pub there : slice_get (arcs_from net i) t.place ≡ Some from
   pub number : from.id ≡ t.arc.0
   pub dest_in : t.dest.0 < length net.dests
-  pub told : IfSome t.value.now (λ s. is_sig s × AtMost (t.clock * 2 ^ 64) (value s))
+  pub reported : IfSome t.value.now (λ s. is_sig s × AtMost (t.clock * 2 ^ 64) (value s))
   pub early : t.clock ≤ MAX_CLOCK
 
 -- what was heard on each arc of the destination, with what is sent
-abbrev pub heard_told : {S : Type 0} → (S → PureValue) → PureNet → ℕ → List (Option S) → Arrival S → ℕ → Option PureValue
-heard_told value net i heard t a = heard_with (heard_by value net i heard) t.arc.0 t.dest.0 (option_map value t.value.now) a t.dest.0
+abbrev pub heard_reported : {S : Type 0} → (S → PureValue) → PureNet → ℕ → List (Option S) → Arrival S → ℕ → Option PureValue
+heard_reported value net i heard t a = heard_with (heard_by value net i heard) t.arc.0 t.dest.0 (option_map value t.value.now) a t.dest.0

@@ -12,9 +12,9 @@ use Rattle.node_core.specs.Running.{IsRunning}
 use Rattle.distance_node.specs.Node.{DvState, PureVector, value_of, choice, fits_in, distance}
 
 -- the last that messages say of a destination; what was heard before, if they say nothing
-abbrev pub last_told : ℕ → Option PureValue → List PureVector → Option PureValue
-last_told dest heard [] = heard
-last_told dest heard (m ∷ ms) = last_told dest (cond (m.dest == dest) m.value heard) ms
+abbrev pub last_reported : ℕ → Option PureValue → List PureVector → Option PureValue
+last_reported dest heard [] = heard
+last_reported dest heard (m ∷ ms) = last_reported dest (cond (m.dest == dest) m.value heard) ms
 
 -- the value may have been heard by a node before this clock
 pub record IsHeard (net : PureNet) (dest clock : ℕ) (v : PureValue) : Type 0 where
@@ -30,5 +30,5 @@ pub record IsCoherent (net : PureNet) (c : Machine DvState PureVector) : Type 0 
   pub known : (i a dest : ℕ) (s : DvState) (v : PureValue) → c.node i ≡ Some s → s.heard a dest ≡ Some v
       → IsHeard net dest (c.clock i) v
   pub chosen : (i dest : ℕ) (s : DvState) → c.node i ≡ Some s → s.rows dest ≡ choice net dest i (λ a. s.heard a dest)
-  pub told : (a i j dest : ℕ) (s t : DvState) → listener net a ≡ Some i → speaker net a ≡ Some j → c.node i ≡ Some s
-      → c.node j ≡ Some t → last_told dest (s.heard a dest) (c.link a) ≡ value_of (t.rows dest)
+  pub reported : (a i j dest : ℕ) (s t : DvState) → listener net a ≡ Some i → speaker net a ≡ Some j → c.node i ≡ Some s
+      → c.node j ≡ Some t → last_reported dest (s.heard a dest) (c.link a) ≡ value_of (t.rows dest)

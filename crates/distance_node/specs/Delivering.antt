@@ -14,13 +14,13 @@ use Rattle.net_graph.specs.Tables.{carrier}
 use Rattle.node_core.specs.Kinds.{on_arc, listener, speaker}
 use Rattle.node_core.specs.Machine.{Machine, changed_at, clock_after, Start, Deliver, Replay}
 use Rattle.node_core.specs.MachineLaws.{same_test, at_each, all_join, IsDelivery, option_from, delivery_of, deliver_runs, replay_keeps}
-use Rattle.distance_node.specs.Coherent.{IsCoherent, IsHeard, last_told}
-use Rattle.distance_node.specs.Fitting.{fits_from, fits_parts, fits_dest, told_is_heard, heard_later, same_told_is, last_told_append}
+use Rattle.distance_node.specs.Coherent.{IsCoherent, IsHeard, last_reported}
+use Rattle.distance_node.specs.Fitting.{fits_from, fits_parts, fits_dest, reported_is_heard, heard_later, same_reported_is, last_reported_append}
 use Rattle.distance_node.specs.Lawful.{distance_is_lawful}
-use Rattle.distance_node.specs.Node.{Hop, DvState, PureVector, value_of, choice, greatest_at, fits_in, vector_of, told_on, heard_with, same_told, taken, Step, distance, new_nodes}
+use Rattle.distance_node.specs.Node.{Hop, DvState, PureVector, value_of, choice, greatest_at, fits_in, vector_of, reported_on, heard_with, same_reported, taken, Step, distance, new_nodes}
 use Rattle.distance_node.specs.Offers.{MayTell, choice_may}
 use Rattle.distance_node.specs.Starting.{start_is_coherent}
-use Rattle.distance_node.specs.Told.{speaks, told_once}
+use Rattle.distance_node.specs.Reported.{speaks, reported_once}
 
 module _ (net : PureNet) (n : IsNet net) (c : Machine DvState PureVector) (k : IsCoherent net c) (a : ℕ) (d : Machine DvState PureVector) (w : IsDelivery distance net c a d) where
   abbrev i : ℕ
@@ -46,7 +46,7 @@ module _ (net : PureNet) (n : IsNet net) (c : Machine DvState PureVector) (k : I
   news = vector_of m.dest row clock
 
   abbrev is_old : Bool
-  is_old = same_told (value_of row) (value_of (s.rows m.dest))
+  is_old = same_reported (value_of row) (value_of (s.rows m.dest))
 
   fit : fits_in net m ≡ true
   fit = (subst (AllByRecursion (λ v. fits_in net v ≡ true)) w.front (k.fit a)).0
@@ -68,7 +68,7 @@ module _ (net : PureNet) (n : IsNet net) (c : Machine DvState PureVector) (k : I
   row_in z j = choice z m.dest j (λ b. heard b m.dest)
 
   abbrev out_in : PureNet → ℕ → List (ℕ × PureVector)
-  out_in z j = cond (same_told (value_of (row_in z j)) (value_of (s.rows m.dest))) [] (told_on (arcs_to z j) (vector_of m.dest (row_in z j) clock))
+  out_in z j = cond (same_reported (value_of (row_in z j)) (value_of (s.rows m.dest))) [] (reported_on (arcs_to z j) (vector_of m.dest (row_in z j) clock))
 
   row_is : row_in s.net s.number ≡ row
   row_is = ap (λ z. row_in z s.number) net_is ∙ ap (row_in net) number_is
@@ -76,13 +76,13 @@ module _ (net : PureNet) (n : IsNet net) (c : Machine DvState PureVector) (k : I
   out_is : out_in s.net s.number ≡ out_in net i
   out_is = ap (λ z. out_in z s.number) net_is ∙ ap (out_in net) number_is
 
-  put : (b : ℕ) (o : Bool) → on_arc b (cond o [] (told_on (arcs_to net i) news)) ≡ cond (speaks net i b) (cond o [] (news ∷ [])) []
+  put : (b : ℕ) (o : Bool) → on_arc b (cond o [] (reported_on (arcs_to net i) news)) ≡ cond (speaks net i b) (cond o [] (news ∷ [])) []
   put b true = nothing (speaks net i b)
     where
       nothing : (t : Bool) → [] ≡ cond {A = List PureVector} t [] []
       nothing true = refl
       nothing false = refl
-  put b false = told_once net i b news n
+  put b false = reported_once net i b news n
 
   is_taker : IsTaker (taken s a m clock).0 (taken s a m clock).1
   is_taker = record {
@@ -141,7 +141,7 @@ module _ (net : PureNet) (n : IsNet net) (c : Machine DvState PureVector) (k : I
       by : (x y : Bool) → (b == a) ≡ x → (dest == m.dest) ≡ y → cond (x && y) m.value (s.heard b dest) ≡ Some v → IsHeard net dest clock v
       by true true f g h =
           let same : dest ≡ m.dest = eqb-true dest m.dest g in
-          subst (λ z. IsHeard net z clock v) (sym same) (told_is_heard net m.dest m.stamp clock v above (fits_parts net m fit v h))
+          subst (λ z. IsHeard net z clock v) (sym same) (reported_is_heard net m.dest m.stamp clock v above (fits_parts net m fit v h))
       by true false f g h = heard_later net dest (c.clock i) clock v rises (k.known i b dest s v w.there h)
       by false y f g h = heard_later net dest (c.clock i) clock v rises (k.known i b dest s v w.there h)
 
@@ -203,7 +203,7 @@ module _ (net : PureNet) (n : IsNet net) (c : Machine DvState PureVector) (k : I
 
   -- what was heard, with what waits, says as much as before
   same_said : (b j dest : ℕ) (o t : DvState) → listener net b ≡ Some j → c.node j ≡ Some o → d.node j ≡ Some t
-      → last_told dest (t.heard b dest) (changed_at c.link a w.rest b) ≡ last_told dest (o.heard b dest) (c.link b)
+      → last_reported dest (t.heard b dest) (changed_at c.link a w.rest b) ≡ last_reported dest (o.heard b dest) (c.link b)
   same_said b j dest o t li eo et = by (b == a) refl
     where
       -- what another arc said is as it was
@@ -215,14 +215,14 @@ module _ (net : PureNet) (n : IsNet net) (c : Machine DvState PureVector) (k : I
         | inr there ↦ ap (λ (q : DvState). q.heard b dest) (same_Some _ _ (sym there.1 ∙ eo))
       ]
 
-      taken_here : b ≡ a → last_told dest (t.heard b dest) w.rest ≡ last_told dest (o.heard b dest) (c.link b)
+      taken_here : b ≡ a → last_reported dest (t.heard b dest) w.rest ≡ last_reported dest (o.heard b dest) (c.link b)
       taken_here e =
           let node : j ≡ i = same_Some _ _ (sym li ∙ (ap (listener net) e ∙ w.listens)) in
           let old : o ≡ s = same_Some _ _ (sym eo ∙ (ap c.node node ∙ w.there)) in
           let new : t ≡ taker = same_Some _ _ (sym et ∙ (ap d.node node ∙ (node_after i ∙ ap (λ z. cond z (Some taker) (c.node i)) (same_test i)))) in
           rw (e, old, new, w.front, taker_is.heard_is a dest, same_test a) (turned (dest == m.dest) refl)
         where
-          turned : (x : Bool) → (dest == m.dest) ≡ x → last_told dest (cond x m.value (s.heard a dest)) w.rest ≡ last_told dest (s.heard a dest) (m ∷ w.rest)
+          turned : (x : Bool) → (dest == m.dest) ≡ x → last_reported dest (cond x m.value (s.heard a dest)) w.rest ≡ last_reported dest (s.heard a dest) (m ∷ w.rest)
           turned true f =
               let g : (m.dest == dest) ≡ true = grind (arith, nat_tests) in
               rw g refl
@@ -230,13 +230,13 @@ module _ (net : PureNet) (n : IsNet net) (c : Machine DvState PureVector) (k : I
               let g : (m.dest == dest) ≡ false = grind (arith, nat_tests) in
               rw g refl
 
-      by : (x : Bool) → (b == a) ≡ x → last_told dest (t.heard b dest) (cond x w.rest (c.link b)) ≡ last_told dest (o.heard b dest) (c.link b)
+      by : (x : Bool) → (b == a) ≡ x → last_reported dest (t.heard b dest) (cond x w.rest (c.link b)) ≡ last_reported dest (o.heard b dest) (c.link b)
       by true e = taken_here (eqb-true b a e)
-      by false e = ap (λ z. last_told dest z (c.link b)) (kept e)
+      by false e = ap (λ z. last_reported dest z (c.link b)) (kept e)
 
   -- and what is put out says what becomes of the speaker's row
-  new_said : (b j dest : ℕ) (o t : DvState) → speaker net b ≡ Some j → c.node j ≡ Some o → d.node j ≡ Some t → last_told dest (value_of (o.rows dest)) (on_arc b sent) ≡ value_of (t.rows dest)
-  new_said b j dest o t sp eo et = ap (last_told dest (value_of (o.rows dest))) (taker_is.puts b) ∙ elim (was j t et) [
+  new_said : (b j dest : ℕ) (o t : DvState) → speaker net b ≡ Some j → c.node j ≡ Some o → d.node j ≡ Some t → last_reported dest (value_of (o.rows dest)) (on_arc b sent) ≡ value_of (t.rows dest)
+  new_said b j dest o t sp eo et = ap (last_reported dest (value_of (o.rows dest))) (taker_is.puts b) ∙ elim (was j t et) [
     | inl here ↦ taker_says here.0 here.1
     | inr there ↦
         let apart : speaks net i b ≡ false = rw sp there.0 in
@@ -244,16 +244,16 @@ module _ (net : PureNet) (n : IsNet net) (c : Machine DvState PureVector) (k : I
         rw (apart, same) refl
   ]
     where
-      taker_says : j ≡ i → t ≡ taker → last_told dest (value_of (o.rows dest)) (cond (speaks net i b) (cond is_old [] (news ∷ [])) []) ≡ value_of (t.rows dest)
+      taker_says : j ≡ i → t ≡ taker → last_reported dest (value_of (o.rows dest)) (cond (speaks net i b) (cond is_old [] (news ∷ [])) []) ≡ value_of (t.rows dest)
       taker_says node new =
           let old : o ≡ s = same_Some _ _ (sym eo ∙ (ap c.node node ∙ w.there)) in
           let here : speaks net i b ≡ true = rw (sp, node) (same_test i) in
           rw (here, old, new, taker_is.rows_are dest) (by is_old refl (dest == m.dest) refl)
         where
-          by : (x : Bool) → is_old ≡ x → (y : Bool) → (dest == m.dest) ≡ y → last_told dest (value_of (s.rows dest)) (cond x [] (news ∷ [])) ≡ value_of (cond y row (s.rows dest))
+          by : (x : Bool) → is_old ≡ x → (y : Bool) → (dest == m.dest) ≡ y → last_reported dest (value_of (s.rows dest)) (cond x [] (news ∷ [])) ≡ value_of (cond y row (s.rows dest))
           by true e true f =
               let same : dest ≡ m.dest = eqb-true dest m.dest f in
-              ap (λ z. value_of (s.rows z)) same ∙ sym (same_told_is (value_of row) (value_of (s.rows m.dest)) e)
+              ap (λ z. value_of (s.rows z)) same ∙ sym (same_reported_is (value_of row) (value_of (s.rows m.dest)) e)
           by true e false f = refl
           by false e true f =
               let g : (m.dest == dest) ≡ true = grind (arith, nat_tests) in
@@ -262,13 +262,13 @@ module _ (net : PureNet) (n : IsNet net) (c : Machine DvState PureVector) (k : I
               let g : (m.dest == dest) ≡ false = grind (arith, nat_tests) in
               rw g refl
 
-  told_after : (b x y dest : ℕ) (p q : DvState) → listener net b ≡ Some x → speaker net b ≡ Some y → d.node x ≡ Some p → d.node y ≡ Some q → last_told dest (p.heard b dest) (d.link b) ≡ value_of (q.rows dest)
-  told_after b x y dest p q li sp ep eq =
+  reported_after : (b x y dest : ℕ) (p q : DvState) → listener net b ≡ Some x → speaker net b ≡ Some y → d.node x ≡ Some p → d.node y ≡ Some q → last_reported dest (p.heard b dest) (d.link b) ≡ value_of (q.rows dest)
+  reported_after b x y dest p q li sp ep eq =
       let old_p = there x p ep in
       let old_q = there y q eq in
-      ap (last_told dest (p.heard b dest)) (link_after b)
-      ∙ (last_told_append dest (p.heard b dest) (changed_at c.link a w.rest b) (on_arc b sent)
-      ∙ (ap (λ z. last_told dest z (on_arc b sent)) (same_said b x dest old_p.0 p li old_p.1 ep ∙ k.told b x y dest old_p.0 old_q.0 li sp old_p.1 old_q.1)
+      ap (last_reported dest (p.heard b dest)) (link_after b)
+      ∙ (last_reported_append dest (p.heard b dest) (changed_at c.link a w.rest b) (on_arc b sent)
+      ∙ (ap (λ z. last_reported dest z (on_arc b sent)) (same_said b x dest old_p.0 p li old_p.1 ep ∙ k.reported b x y dest old_p.0 old_q.0 li sp old_p.1 old_q.1)
       ∙ new_said b y dest old_q.0 q sp old_q.1 eq))
     where
       there : (j : ℕ) (t : DvState) → d.node j ≡ Some t → (o : DvState) × (c.node j ≡ Some o)
@@ -286,7 +286,7 @@ delivery_keeps net n c d a k e =
       fit = fit_after net n c k a d w;
       known = known_after net n c k a d w;
       chosen = chosen_after net n c k a d w;
-      told = told_after net n c k a d w;
+      reported = reported_after net n c k a d w;
     }
 
 -- whatever deliveries are made from the new nodes of a network, the machine is coherent

@@ -12,20 +12,20 @@ use Rattle.alg_model.specs.Laws.{at_most_more}
 use Rattle.alg_model.specs.Tests.{is_in, is_in-Decides, is_at_most, is_at_most-Decides, same_value-Decides}
 use Rattle.net_graph.specs.Nets.{PureNet}
 use Rattle.net_graph.specs.Tables.{carrier}
-use Rattle.distance_node.specs.Coherent.{IsHeard, last_told}
-use Rattle.distance_node.specs.Node.{PureVector, greatest_at, may_be_told, fits_in, same_told}
+use Rattle.distance_node.specs.Coherent.{IsHeard, last_reported}
+use Rattle.distance_node.specs.Node.{PureVector, greatest_at, may_be_reported, fits_in, same_reported}
 use Rattle.distance_node.specs.Offers.{MayTell}
 
 -- ---- messages
 
-pub told_from : (net : PureNet) (clock : ℕ) (v : PureValue) → In (carrier net) v → AtMost (greatest_at clock) v → may_be_told net clock v ≡ true
-told_from net clock v i b =
+pub reported_from : (net : PureNet) (clock : ℕ) (v : PureValue) → In (carrier net) v → AtMost (greatest_at clock) v → may_be_reported net clock v ≡ true
+reported_from net clock v i b =
     let value = (is_in-Decides (carrier net) v).1 i in
     let small = (is_at_most-Decides (greatest_at clock) v).1 b in
     rw (value, small) refl
 
-pub told_parts : (net : PureNet) (clock : ℕ) (v : PureValue) → may_be_told net clock v ≡ true → In (carrier net) v × AtMost (greatest_at clock) v
-told_parts net clock v e =
+pub reported_parts : (net : PureNet) (clock : ℕ) (v : PureValue) → may_be_reported net clock v ≡ true → In (carrier net) v × AtMost (greatest_at clock) v
+reported_parts net clock v e =
     let both = and_parts (is_in (carrier net) v) (is_at_most (greatest_at clock) v) e in
     ((is_in-Decides (carrier net) v).0 both.0, (is_at_most-Decides (greatest_at clock) v).0 both.1)
 
@@ -34,20 +34,20 @@ fits_from net m below f =
     let test : nat_lt m.dest (length net.dests) ≡ true = grind (arith, nat_tests) in
     rw test (by m.value refl)
   where
-    by : (o : Option PureValue) → m.value ≡ o → option_map_or (may_be_told net m.stamp) o true ≡ true
+    by : (o : Option PureValue) → m.value ≡ o → option_map_or (may_be_reported net m.stamp) o true ≡ true
     by None e = refl
-    by (Some v) e = let both = f v e in told_from net m.stamp v both.0 both.1
+    by (Some v) e = let both = f v e in reported_from net m.stamp v both.0 both.1
 
 pub fits_parts : (net : PureNet) (m : PureVector) → fits_in net m ≡ true → (v : PureValue) → m.value ≡ Some v → MayTell net m.dest m.stamp v
 fits_parts net m e v f =
-    let both = and_parts (nat_lt m.dest (length net.dests)) (option_map_or (may_be_told net m.stamp) m.value true) e in
+    let both = and_parts (nat_lt m.dest (length net.dests)) (option_map_or (may_be_reported net m.stamp) m.value true) e in
     let test : nat_lt m.dest (length net.dests) ≡ true = both.0 in
-    let parts = told_parts net m.stamp v (rw f at both.1) in
+    let parts = reported_parts net m.stamp v (rw f at both.1) in
     record { dest_in = grind (arith, nat_tests); value_in = parts.0; small = parts.1 }
 
 pub fits_dest : (net : PureNet) (m : PureVector) → fits_in net m ≡ true → m.dest < length net.dests
 fits_dest net m e =
-    let test : nat_lt m.dest (length net.dests) ≡ true = (and_parts (nat_lt m.dest (length net.dests)) (option_map_or (may_be_told net m.stamp) m.value true) e).0 in
+    let test : nat_lt m.dest (length net.dests) ≡ true = (and_parts (nat_lt m.dest (length net.dests)) (option_map_or (may_be_reported net m.stamp) m.value true) e).0 in
     grind (arith, nat_tests)
 
 -- ---- clocks
@@ -61,24 +61,24 @@ pub clock_room : (s t : ℕ) → s ≤ t → s * 2 ^ 64 ≤ t * 2 ^ 64
 clock_room s t l = mul-le s (2 ^ 64) t (2 ^ 64) l (omega arith)
 
 -- what may be sent at a clock may have been heard at a later one
-pub told_is_heard : (net : PureNet) (dest s t : ℕ) (v : PureValue) → s < t → MayTell net dest s v → IsHeard net dest t v
-told_is_heard net dest s t v l m = record { dest_in = m.dest_in; value_in = m.value_in; small = at_most_more (greatest_at s) (t * 2 ^ 64) v (later_room s t l) m.small }
+pub reported_is_heard : (net : PureNet) (dest s t : ℕ) (v : PureValue) → s < t → MayTell net dest s v → IsHeard net dest t v
+reported_is_heard net dest s t v l m = record { dest_in = m.dest_in; value_in = m.value_in; small = at_most_more (greatest_at s) (t * 2 ^ 64) v (later_room s t l) m.small }
 
 pub heard_later : (net : PureNet) (dest s t : ℕ) (v : PureValue) → s ≤ t → IsHeard net dest s v → IsHeard net dest t v
 heard_later net dest s t v l h = record { dest_in = h.dest_in; value_in = h.value_in; small = at_most_more (s * 2 ^ 64) (t * 2 ^ 64) v (clock_room s t l) h.small }
 
 -- ---- what is sent
 
-pub same_told_is : (u v : Option PureValue) → same_told u v ≡ true → u ≡ v
-same_told_is None None e = refl
-same_told_is (Some u) (Some v) e = let same : u ≡ v = (same_value-Decides u v).0 e in rw same refl
-same_told_is (Some u) None e = absurd (cc)
-same_told_is None (Some v) e = absurd (cc)
+pub same_reported_is : (u v : Option PureValue) → same_reported u v ≡ true → u ≡ v
+same_reported_is None None e = refl
+same_reported_is (Some u) (Some v) e = let same : u ≡ v = (same_value-Decides u v).0 e in rw same refl
+same_reported_is (Some u) None e = absurd (cc)
+same_reported_is None (Some v) e = absurd (cc)
 
-pub same_told_self : (u : Option PureValue) → same_told u u ≡ true
-same_told_self None = refl
-same_told_self (Some u) = (same_value-Decides u u).1 refl
+pub same_reported_self : (u : Option PureValue) → same_reported u u ≡ true
+same_reported_self None = refl
+same_reported_self (Some u) = (same_value-Decides u u).1 refl
 
-pub last_told_append : (dest : ℕ) (h : Option PureValue) (us vs : List PureVector) → last_told dest h (us ++ vs) ≡ last_told dest (last_told dest h us) vs
-last_told_append dest h [] vs = refl
-last_told_append dest h (u ∷ us) vs = last_told_append dest (cond (u.dest == dest) u.value h) us vs
+pub last_reported_append : (dest : ℕ) (h : Option PureValue) (us vs : List PureVector) → last_reported dest h (us ++ vs) ≡ last_reported dest (last_reported dest h us) vs
+last_reported_append dest h [] vs = refl
+last_reported_append dest h (u ∷ us) vs = last_reported_append dest (cond (u.dest == dest) u.value h) us vs

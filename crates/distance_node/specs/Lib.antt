@@ -11,7 +11,7 @@ pub mod Arrivals
 pub mod Settling
 pub mod Tellings
 pub mod Beginning
-pub mod Told
+pub mod Reported
 pub mod Lawful
 pub mod Entries
 pub mod Choosing

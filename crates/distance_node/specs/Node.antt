@@ -79,26 +79,26 @@ abbrev pub greatest_at : ℕ → ℕ
 greatest_at clock = (clock + 1) * 2 ^ 64
 
 -- the value may be sent at a clock in the network
-abbrev pub may_be_told : PureNet → ℕ → PureValue → Bool
-may_be_told net clock v = is_in (carrier net) v && is_at_most (greatest_at clock) v
+abbrev pub may_be_reported : PureNet → ℕ → PureValue → Bool
+may_be_reported net clock v = is_in (carrier net) v && is_at_most (greatest_at clock) v
 
 -- the destination is the network's, and the value, if there is one, may be sent at the message's clock
 abbrev pub fits_in : PureNet → PureVector → Bool
-fits_in net m = nat_lt m.dest (length net.dests) && option_map_or (may_be_told net m.stamp) m.value true
+fits_in net m = nat_lt m.dest (length net.dests) && option_map_or (may_be_reported net m.stamp) m.value true
 
 -- what is sent of a row
 abbrev pub vector_of : ℕ → Option Hop → ℕ → PureVector
 vector_of dest row stamp = record { dest = dest; value = value_of row; stamp = stamp }
 
 -- a message on each of these arcs
-abbrev pub told_on : List PureArc → PureVector → List (ℕ × PureVector)
-told_on arcs m = map (λ (a : PureArc). (a.id, m)) arcs
+abbrev pub reported_on : List PureArc → PureVector → List (ℕ × PureVector)
+reported_on arcs m = map (λ (a : PureArc). (a.id, m)) arcs
 
 -- ---- begin and step
 
 -- at the start a row with a value is sent to all that listen to the node
 abbrev pub begun_of : PureNet → ℕ → ℕ → List (ℕ × PureVector)
-begun_of net i dest = cond (is_some (own_hop net dest i)) (told_on (arcs_to net i) (vector_of dest (own_hop net dest i) 0)) []
+begun_of net i dest = cond (is_some (own_hop net dest i)) (reported_on (arcs_to net i) (vector_of dest (own_hop net dest i) 0)) []
 
 abbrev pub all_begun : PureNet → ℕ → List ℕ → List (ℕ × PureVector)
 all_begun net i [] = []
@@ -116,11 +116,11 @@ abbrev pub heard_with : (ℕ → ℕ → Option PureValue) → ℕ → ℕ → O
 heard_with heard a dest value b d = cond (b == a && d == dest) value (heard b d)
 
 -- the values are one, or there is none of both
-abbrev pub same_told : Option PureValue → Option PureValue → Bool
-same_told None None = true
-same_told (Some u) (Some v) = same_value u v
-same_told (Some u) None = false
-same_told None (Some v) = false
+abbrev pub same_reported : Option PureValue → Option PureValue → Bool
+same_reported None None = true
+same_reported (Some u) (Some v) = same_value u v
+same_reported (Some u) None = false
+same_reported None (Some v) = false
 
 -- what a node makes of a message that fits: it chooses its row again, and tells its value to all that listen to it if
 -- that has changed
@@ -129,7 +129,7 @@ taken s a m clock =
     let heard = heard_with s.heard a m.dest m.value in
     let row = choice s.net m.dest s.number (λ b. heard b m.dest) in (
       record s { heard = heard; rows = changed_at s.rows m.dest row; last = clock },
-      cond (same_told (value_of row) (value_of (s.rows m.dest))) [] (told_on (arcs_to s.net s.number) (vector_of m.dest row clock)),
+      cond (same_reported (value_of row) (value_of (s.rows m.dest))) [] (reported_on (arcs_to s.net s.number) (vector_of m.dest row clock)),
     )
 
 abbrev pub Step : DvState → ℕ → PureVector → ℕ → DvState × List (ℕ × PureVector)

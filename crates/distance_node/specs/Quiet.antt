@@ -8,7 +8,7 @@ use Rattle.net_graph.specs.Nets.{PureArc, PureNet, IsNet, arcs_from}
 use Rattle.net_graph.specs.Tables.{carrier}
 use Rattle.node_core.specs.Machine.{Machine, Replay, Drained}
 use Rattle.node_core.specs.MachineLaws.{option_then}
-use Rattle.distance_node.specs.Coherent.{IsCoherent, last_told}
+use Rattle.distance_node.specs.Coherent.{IsCoherent, last_reported}
 use Rattle.distance_node.specs.Delivering.{runs_are_coherent}
 use Rattle.distance_node.specs.Node.{Hop, DvState, PureVector, choice, distance, new_nodes}
 use Rattle.distance_node.specs.Offers.{arc_from, listens_on, speaks_on, choice_alike, choice_may}
@@ -28,8 +28,8 @@ module _ (net : PureNet) (n : IsNet net) (c : Machine DvState PureVector) (k : I
     heard_is i q s a e at =
         let from = arc_from net n i q a at in
         let t = k.running.there a.head from.is_arc.head_in in
-        ap (last_told dest (s.heard a.id dest)) (sym (drained a.id))
-        ∙ (k.told a.id i a.head dest s t.0 (listens_on net i a from) (speaks_on net i a from) e t.1
+        ap (last_reported dest (s.heard a.id dest)) (sym (drained a.id))
+        ∙ (k.reported a.id i a.head dest s t.0 (listens_on net i a from) (speaks_on net i a from) e t.1
         ∙ rw (speaks_on net i a from, t.1) refl)
 
     pub quiet_rows_are_chosen : IsChosen net dest (table_of c dest)

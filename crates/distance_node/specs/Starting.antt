@@ -13,12 +13,12 @@ use Rattle.node_core.specs.Kinds.{on_arc, speaker}
 use Rattle.node_core.specs.Machine.{Machine, AreUnbegun, begun_messages, Start}
 use Rattle.node_core.specs.Running.{IsRunning}
 use Rattle.node_core.specs.MachineLaws.{same_test, all_join, on_arc_all, on_arc_join, option_from, start_runs}
-use Rattle.distance_node.specs.Coherent.{IsCoherent, last_told}
-use Rattle.distance_node.specs.Fitting.{fits_from, last_told_append}
+use Rattle.distance_node.specs.Coherent.{IsCoherent, last_reported}
+use Rattle.distance_node.specs.Fitting.{fits_from, last_reported_append}
 use Rattle.distance_node.specs.Lawful.{distance_is_lawful}
-use Rattle.distance_node.specs.Node.{Hop, DvState, PureVector, value_of, own_hop, choice, greatest_at, fits_in, vector_of, told_on, begun_of, all_begun, Begin, distance, new_node, new_nodes}
+use Rattle.distance_node.specs.Node.{Hop, DvState, PureVector, value_of, own_hop, choice, greatest_at, fits_in, vector_of, reported_on, begun_of, all_begun, Begin, distance, new_node, new_nodes}
 use Rattle.distance_node.specs.Offers.{own_is, own_may, silent_choice}
-use Rattle.distance_node.specs.Told.{speaks, told_once, told_all}
+use Rattle.distance_node.specs.Reported.{speaks, reported_once, reported_all}
 
 -- a node of a machine that runs is one of the network
 pub inside_of : (net : PureNet) (c : Machine DvState PureVector) → IsRunning distance net c → (i : ℕ) (s : DvState) → c.node i ≡ Some s → i < length net.nodes
@@ -74,8 +74,8 @@ module _ (net : PureNet) (n : IsNet net) (a : ℕ) where
   one_silent : (i d : ℕ) → speaks net i a ≡ false → on_arc a (begun_of net i d) ≡ []
   one_silent i d e = by (is_some (own_hop net d i))
     where
-      by : (b : Bool) → on_arc a (cond b (told_on (arcs_to net i) (vector_of d (own_hop net d i) 0)) []) ≡ []
-      by true = told_once net i a (vector_of d (own_hop net d i) 0) n ∙ ap (λ b. cond b (vector_of d (own_hop net d i) 0 ∷ []) []) e
+      by : (b : Bool) → on_arc a (cond b (reported_on (arcs_to net i) (vector_of d (own_hop net d i) 0)) []) ≡ []
+      by true = reported_once net i a (vector_of d (own_hop net d i) 0) n ∙ ap (λ b. cond b (vector_of d (own_hop net d i) 0 ∷ []) []) e
       by false = refl
 
   silent : (i : ℕ) (dests : List ℕ) → speaks net i a ≡ false → on_arc a (all_begun net i dests) ≡ []
@@ -86,37 +86,37 @@ module _ (net : PureNet) (n : IsNet net) (a : ℕ) where
 
   module _ (j : ℕ) (speaks_here : speaks net j a ≡ true) where
     -- what it says of one row on an arc on which it speaks
-    one_said : (d dest : ℕ) (h : Option PureValue) → last_told dest h (on_arc a (begun_of net j d)) ≡ cond (d == dest) (or_this (value_of (own_hop net d j)) h) h
+    one_said : (d dest : ℕ) (h : Option PureValue) → last_reported dest h (on_arc a (begun_of net j d)) ≡ cond (d == dest) (or_this (value_of (own_hop net d j)) h) h
     one_said d dest h = by (own_hop net d j)
       where
-        told : (m : PureVector) → on_arc a (told_on (arcs_to net j) m) ≡ m ∷ []
-        told m = told_once net j a m n ∙ ap (λ b. cond b (m ∷ []) []) speaks_here
+        reported : (m : PureVector) → on_arc a (reported_on (arcs_to net j) m) ≡ m ∷ []
+        reported m = reported_once net j a m n ∙ ap (λ b. cond b (m ∷ []) []) speaks_here
 
         nothing : (b : Bool) → h ≡ cond b h h
         nothing true = refl
         nothing false = refl
 
-        by : (o : Option Hop) → last_told dest h (on_arc a (cond (is_some o) (told_on (arcs_to net j) (vector_of d o 0)) [])) ≡ cond (d == dest) (or_this (value_of o) h) h
+        by : (o : Option Hop) → last_reported dest h (on_arc a (cond (is_some o) (reported_on (arcs_to net j) (vector_of d o 0)) [])) ≡ cond (d == dest) (or_this (value_of o) h) h
         by None = nothing (d == dest)
-        by (Some x) = ap (last_told dest h) (told (vector_of d (Some x) 0))
+        by (Some x) = ap (last_reported dest h) (reported (vector_of d (Some x) 0))
 
-    all_said : (dest : ℕ) (dests : List ℕ) (h : Option PureValue) → last_told dest h (on_arc a (all_begun net j dests)) ≡ cond (list_any (λ d. d == dest) dests) (or_this (value_of (own_hop net dest j)) h) h
+    all_said : (dest : ℕ) (dests : List ℕ) (h : Option PureValue) → last_reported dest h (on_arc a (all_begun net j dests)) ≡ cond (list_any (λ d. d == dest) dests) (or_this (value_of (own_hop net dest j)) h) h
     all_said dest [] h = refl
     all_said dest (d ∷ dests) h =
-        ap (last_told dest h) (on_arc_join a (begun_of net j d) (all_begun net j dests))
-        ∙ (last_told_append dest h (on_arc a (begun_of net j d)) (on_arc a (all_begun net j dests))
-        ∙ (ap (λ z. last_told dest z (on_arc a (all_begun net j dests))) (one_said d dest h) ∙ by (λ z. all_said dest dests z) (d == dest) refl))
+        ap (last_reported dest h) (on_arc_join a (begun_of net j d) (all_begun net j dests))
+        ∙ (last_reported_append dest h (on_arc a (begun_of net j d)) (on_arc a (all_begun net j dests))
+        ∙ (ap (λ z. last_reported dest z (on_arc a (all_begun net j dests))) (one_said d dest h) ∙ by (λ z. all_said dest dests z) (d == dest) refl))
       where
         twice : (b : Bool) (u : Option PureValue) → cond b (or_this u (or_this u h)) (or_this u h) ≡ or_this u h
         twice true u = or_twice u h
         twice false u = refl
 
-        by : ((z : Option PureValue) → last_told dest z (on_arc a (all_begun net j dests)) ≡ cond (list_any (λ d. d == dest) dests) (or_this (value_of (own_hop net dest j)) z) z)
-            → (b : Bool) → (d == dest) ≡ b → last_told dest (cond b (or_this (value_of (own_hop net d j)) h) h) (on_arc a (all_begun net j dests))
+        by : ((z : Option PureValue) → last_reported dest z (on_arc a (all_begun net j dests)) ≡ cond (list_any (λ d. d == dest) dests) (or_this (value_of (own_hop net dest j)) z) z)
+            → (b : Bool) → (d == dest) ≡ b → last_reported dest (cond b (or_this (value_of (own_hop net d j)) h) h) (on_arc a (all_begun net j dests))
             ≡ cond (b || list_any (λ d. d == dest) dests) (or_this (value_of (own_hop net dest j)) h) h
         by rest true e =
             let same : d ≡ dest = eqb-true d dest e in
-            ap (λ z. last_told dest (or_this (value_of (own_hop net z j)) h) (on_arc a (all_begun net j dests))) same
+            ap (λ z. last_reported dest (or_this (value_of (own_hop net z j)) h) (on_arc a (all_begun net j dests))) same
             ∙ (rest (or_this (value_of (own_hop net dest j)) h) ∙ twice (list_any (λ d. d == dest) dests) (value_of (own_hop net dest j)))
         by rest false e = rest h
 
@@ -133,7 +133,7 @@ module _ (net : PureNet) (n : IsNet net) where
   all_dests = range_with_len 0 (length net.dests)
 
   -- after a node has begun, its listeners know its rows
-  said_row : (a j dest : ℕ) → speaks net j a ≡ true → last_told dest None (on_arc a (all_begun net j all_dests)) ≡ value_of (own_hop net dest j)
+  said_row : (a j dest : ℕ) → speaks net j a ≡ true → last_reported dest None (on_arc a (all_begun net j all_dests)) ≡ value_of (own_hop net dest j)
   said_row a j dest e = all_said net n a j e dest all_dests None ∙ by (list_any (λ d. d == dest) all_dests) refl (own_hop net dest j) refl
     where
       by : (b : Bool) → list_any (λ d. d == dest) all_dests ≡ b → (o : Option Hop) → own_hop net dest j ≡ o → cond b (or_this (value_of o) None) None ≡ value_of o
@@ -186,11 +186,11 @@ module _ (net : PureNet) (n : IsNet net) where
   begun_fits i [] = tt
   begun_fits i (d ∷ dests) = all_join (λ (p : ℕ × PureVector). fits_in net p.1 ≡ true) (begun_of net i d) (all_begun net i dests) (by (own_hop net d i) refl) (begun_fits i dests)
     where
-      by : (o : Option Hop) → own_hop net d i ≡ o → AllByRecursion (λ (p : ℕ × PureVector). fits_in net p.1 ≡ true) (cond (is_some o) (told_on (arcs_to net i) (vector_of d o 0)) [])
+      by : (o : Option Hop) → own_hop net d i ≡ o → AllByRecursion (λ (p : ℕ × PureVector). fits_in net p.1 ≡ true) (cond (is_some o) (reported_on (arcs_to net i) (vector_of d o 0)) [])
       by None e = tt
       by (Some h) e =
           let may = own_may net n d i 0 h (own_is net d i h e) in
-          told_all (λ m. fits_in net m ≡ true) (arcs_to net i) (vector_of d (Some h) 0) (fits_from net (vector_of d (Some h) 0) may.dest_in (λ v f. fit v f may.value_in may.small))
+          reported_all (λ m. fits_in net m ≡ true) (arcs_to net i) (vector_of d (Some h) 0) (fits_from net (vector_of d (Some h) 0) may.dest_in (λ v f. fit v f may.value_in may.small))
         where
           fit : (v : PureValue) → Some h.value ≡ Some v → In (carrier net) h.value → AtMost (greatest_at 0) h.value → In (carrier net) v × AtMost (greatest_at 0) v
           fit v f i b =
@@ -208,15 +208,15 @@ module _ (net : PureNet) (n : IsNet net) where
     fit = λ a. on_arc_all (λ m. fits_in net m ≡ true) a (begun_messages distance (new_nodes net)) (all_begun_fit 0 (length net.nodes));
     known = λ i a dest s v e h. absurd (let z : None ≡ Some v = ap (λ (q : DvState). q.heard a dest) (sym (begun_is net i s e)) ∙ h in cc);
     chosen = λ i dest s e. subst (λ (q : DvState). q.rows dest ≡ choice net dest i (λ a. q.heard a dest)) (sym (begun_is net i s e)) (sym (silent_choice net n dest i));
-    told = λ a i j dest s t li sp es et.
-        subst (λ (q : DvState). last_told dest (q.heard a dest) (on_arc a (begun_messages distance (new_nodes net))) ≡ value_of (t.rows dest)) (sym (begun_is net i s es))
-        (subst (λ (q : DvState). last_told dest None (on_arc a (begun_messages distance (new_nodes net))) ≡ value_of (q.rows dest)) (sym (begun_is net j t et)) (said a j dest t sp et));
+    reported = λ a i j dest s t li sp es et.
+        subst (λ (q : DvState). last_reported dest (q.heard a dest) (on_arc a (begun_messages distance (new_nodes net))) ≡ value_of (t.rows dest)) (sym (begun_is net i s es))
+        (subst (λ (q : DvState). last_reported dest None (on_arc a (begun_messages distance (new_nodes net))) ≡ value_of (q.rows dest)) (sym (begun_is net j t et)) (said a j dest t sp et));
   }
     where
       running : IsRunning distance net (Start distance (new_nodes net))
       running = start_runs distance distance_is_lawful net n (new_nodes net) (new_unbegun net)
 
-      said : (a j dest : ℕ) (t : DvState) → speaker net a ≡ Some j → (Start distance (new_nodes net)).node j ≡ Some t → last_told dest None (on_arc a (begun_messages distance (new_nodes net))) ≡ value_of (own_hop net dest j)
+      said : (a j dest : ℕ) (t : DvState) → speaker net a ≡ Some j → (Start distance (new_nodes net)).node j ≡ Some t → last_reported dest None (on_arc a (begun_messages distance (new_nodes net))) ≡ value_of (own_hop net dest j)
       said a j dest t sp et =
           let within : j < length net.nodes = inside_of net (Start distance (new_nodes net)) running j t et in
-          ap (last_told dest None) (speaker_puts a j sp 0 (length net.nodes) (omega arith) (omega (arith, within))) ∙ said_row a j dest (here a j sp)
+          ap (last_reported dest None) (speaker_puts a j sp 0 (length net.nodes) (omega arith) (omega (arith, within))) ∙ said_row a j dest (here a j sp)

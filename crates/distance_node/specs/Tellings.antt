@@ -4,5 +4,5 @@ use Rattle.alg_model.specs.Expressions.{PureValue}
 use Rattle.distance_node.specs.declared.chosen.Chosen.{Chosen}
 
 -- the value of a row, or none
-abbrev pub told_of : {S : Type 0} → (S → PureValue) → Option (Chosen S) → Option PureValue
-told_of value row = option_map (λ (r : Chosen _). value r.sig) row
+abbrev pub reported_of : {S : Type 0} → (S → PureValue) → Option (Chosen S) → Option PureValue
+reported_of value row = option_map (λ (r : Chosen _). value r.sig) row

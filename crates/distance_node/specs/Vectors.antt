@@ -8,8 +8,8 @@ use Rattle.alg_model.specs.Expressions.{PureValue}
 use Rattle.distance_node.specs.Node.{PureVector, greatest_at}
 
 -- what is sent at a clock stands for a value of the algebra with small numbers, if it is there
-abbrev pub IsTold : {S : Type 0} → (S → Type 0) → (S → PureValue) → ℕ → Option S → Type 0
-IsTold is_sig value clock told = IfSome told (λ s. is_sig s × AtMost (greatest_at clock) (value s))
+abbrev pub IsReported : {S : Type 0} → (S → Type 0) → (S → PureValue) → ℕ → Option S → Type 0
+IsReported is_sig value clock reported = IfSome reported (λ s. is_sig s × AtMost (greatest_at clock) (value s))
 
 -- a message that is put on an arc
 abbrev pub noted : ArcId × PureVector → ℕ × PureVector

@@ -1,12 +1,12 @@
 ghost use Rattle.std.specs.Prelude.{◌≡◌, ◌<◌, ◌≤◌, [], List, Option, ℕ, Some, OnErr, OnOk, IfSome, cond, length, map, option_map};
 ghost use Rattle.alg_model.specs.Bounds.{AtMost};
 ghost use Rattle.net_graph.specs.Nets.{arcs_to};
-ghost use Rattle.distance_node.specs.Arrivals.{heard_told, IsArrival};
+ghost use Rattle.distance_node.specs.Arrivals.{heard_reported, IsArrival};
 ghost use Rattle.distance_node.specs.Chosen.{IsBest};
-ghost use Rattle.distance_node.specs.Node.{greatest_at, offers, same_told, told_on};
+ghost use Rattle.distance_node.specs.Node.{greatest_at, offers, same_reported, reported_on};
 ghost use Rattle.distance_node.specs.Nodes.{HasHeard, IsPlaced};
 ghost use Rattle.distance_node.specs.Places.{heard_by};
-ghost use Rattle.distance_node.specs.Tellings.{told_of};
+ghost use Rattle.distance_node.specs.Tellings.{reported_of};
 ghost use Rattle.distance_node.specs.Vectors.{noted};
 
 use crate::choosing::{choose, taken};
@@ -38,11 +38,12 @@ fn move_row<A: Algebra, M: Mark<A>>(
     requires node { site.now.node.0 < length site.now.net.now.nodes }
     requires before { IfSome row.old (λ r. A.is_sig site.now.algebra.now r.sig) }
     requires sig { IfSome next (λ r. A.is_sig site.now.algebra.now r.sig) }
-    requires small { IfSome (told_of (A.sig_value site.now.algebra.now) next) (AtMost (greatest_at arrival.now.clock)) }
+    requires small { let value = A.sig_value site.now.algebra.now in
+        IfSome (reported_of value next) (AtMost (greatest_at arrival.now.clock)) }
     ensures moved { OnOk result (row.new ≡ next) }
     ensures sent { let at = site.now in let value = A.sig_value at.algebra.now in OnOk result (map noted out.new ≡
-        cond (same_told (told_of value next) (told_of value row.old)) [] (told_on (arcs_to at.net.now at.node.0)
-        (record { dest = arrival.now.dest.0; value = told_of value next; stamp = arrival.now.clock }))) }
+        cond (same_reported (reported_of value next) (reported_of value row.old)) [] (reported_on (arcs_to at.net.now at.node.0)
+        (record { dest = arrival.now.dest.0; value = reported_of value next; stamp = arrival.now.clock }))) }
     ensures err { OnErr result ((row.new ≡ row.old) × (out.new ≡ [])) }
 {
     news(alloc, site, arrival.dest, row, &next, arrival.clock, out)?;
@@ -54,7 +55,7 @@ fn move_row<A: Algebra, M: Mark<A>>(
 
 // Lets the row of a destination, which was the node's choice, be its choice again once the node is sent something, and
 // puts into `out`, which is empty, what the node tells of it.
-#[tactic(auto, using(crate::specs::Fitting::same_told_self))]
+#[tactic(auto, using(crate::specs::Fitting::same_reported_self))]
 pub(crate) fn reply_to<A: Algebra, M: Mark<A>>(
     alloc: Global,
     site: &Site<'_, A>,
@@ -80,10 +81,10 @@ pub(crate) fn reply_to<A: Algebra, M: Mark<A>>(
     ensures sig { OnOk result (IfSome row.new (λ r. A.is_sig site.now.algebra.now r.sig)) }
     ensures best { let at = site.now in let value = A.sig_value at.algebra.now in
         OnOk result (IsBest value at.net.now at.node.0 (offers at.net.now arrival.now.dest.0 at.node.0
-        (heard_told value at.net.now at.node.0 heard.now arrival.now)) row.new) }
+        (heard_reported value at.net.now at.node.0 heard.now arrival.now)) row.new) }
     ensures sent { let at = site.now in let value = A.sig_value at.algebra.now in OnOk result (map noted out.new ≡
-        cond (same_told (told_of value row.new) (told_of value row.old)) [] (told_on (arcs_to at.net.now at.node.0)
-        (record { dest = arrival.now.dest.0; value = told_of value row.new; stamp = arrival.now.clock }))) }
+        cond (same_reported (reported_of value row.new) (reported_of value row.old)) [] (reported_on (arcs_to at.net.now at.node.0)
+        (record { dest = arrival.now.dest.0; value = reported_of value row.new; stamp = arrival.now.clock }))) }
     ensures err { OnErr result ((row.new ≡ row.old) × (out.new ≡ [])) }
 {
     match settle_by(alloc, site, heard, row, arrival, spare)? {

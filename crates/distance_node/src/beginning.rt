@@ -27,7 +27,7 @@ pub(crate) fn begun_rows<A: Algebra, M: Mark<A>>(
         (A.is_sig at.algebra.now) (A.sig_value at.algebra.now) at.net.now at.node.0 at.own.now at.speakers.now }
     ensures rows { let at = site.now in IfOk result (λ r. AreBegun (A.is_sig at.algebra.now)
         (A.sig_value at.algebra.now) at.net.now at.node.0 (length at.own.now) r.0.items) }
-    ensures told { let at = site.now in IfOk result (λ r.
+    ensures reported { let at = site.now in IfOk result (λ r.
         map noted r.1 ≡ all_begun at.net.now at.node.0 (range_with_len 0 (length at.own.now))) }
 {
     let mut rows = Vec::with_capacity(alloc, site.own.len())?;

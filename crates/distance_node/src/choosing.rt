@@ -6,7 +6,7 @@ ghost use Rattle.alg_model.specs.Bounds.{AtMost};
 ghost use Rattle.alg_model.specs.Carriers.{carrier_of};
 ghost use Rattle.alg_model.specs.Expressions.{PureLabel};
 ghost use Rattle.arc_labels.specs.Images.{made_in};
-ghost use Rattle.distance_node.specs.Arrivals.{heard_told, IsArrival};
+ghost use Rattle.distance_node.specs.Arrivals.{heard_reported, IsArrival};
 ghost use Rattle.distance_node.specs.Chosen.{IsBest, better_of, chosen_at, entry_of};
 ghost use Rattle.distance_node.specs.Node.{offers};
 ghost use Rattle.distance_node.specs.Nodes.{HasHeard, IsPlaced};
@@ -113,14 +113,14 @@ fn keep_better<A: Algebra>(
 fn known_at<'h, S>(
     heard: &'h [Option<S>],
     entry: usize,
-    told: &'h Option<S>,
-    is_told: bool,
+    reported: &'h Option<S>,
+    is_reported: bool,
 ) -> &'h Option<S>
     requires { entry < length heard.now }
-    ensures { result.now ≡ cond is_told told.now (entry_of heard.now entry) }
+    ensures { result.now ≡ cond is_reported reported.now (entry_of heard.now entry) }
 {
-    if is_told {
-        return told;
+    if is_reported {
+        return reported;
     }
     &heard[entry]
 }
@@ -144,14 +144,14 @@ pub(crate) fn choose<A: Algebra>(
     ensures sig { IfOk result (λ row. IfSome row (λ r. A.is_sig site.now.algebra.now r.sig)) }
     ensures best { let at = site.now in let value = A.sig_value at.algebra.now in
         IfOk result (IsBest value at.net.now at.node.0 (offers at.net.now arrival.now.dest.0 at.node.0
-        (heard_told value at.net.now at.node.0 heard.now arrival.now))) }
+        (heard_reported value at.net.now at.node.0 heard.now arrival.now))) }
 {
     let dest = arrival.dest.0 as usize;
     let base = dest * site.speakers.len();
     let mut best = own_offer(alloc, site.algebra, &site.own[dest])?;
     for place in 0..site.speakers.len() {
-        let is_told = place == arrival.place;
-        let known = known_at(&*heard, base + place, &*arrival.value, is_told);
+        let is_reported = place == arrival.place;
+        let known = known_at(&*heard, base + place, &*arrival.value, is_reported);
         let label = site.speakers[place].label;
         let made = offer_into(alloc, site.algebra, label, known, spare)?;
         keep_better(site.algebra, &mut best, place + 1, made, spare);

@@ -146,7 +146,7 @@ impl<'a, A: Algebra, M: Mark<A>> DvNode<'a, A, M> {
     fn fits(&self, message: &Vector<A, M>) -> bool
         ensures { result ≡ fits_in self.now.net message.now }
     {
-        let _told = message.told(self.algebra);
+        let _reported = message.reported(self.algebra);
         (message.dest().0 as usize) < self.net.dest_count()
     }
 
@@ -174,8 +174,8 @@ impl<'a, A: Algebra, M: Mark<A>> DvNode<'a, A, M> {
         let alloc = *self.rows.allocator();
         let dest = message.dest();
         let place = self.net.place_of(arc);
-        let told = message.told(self.algebra);
-        let copy = copied_value(alloc, self.algebra, told)?;
+        let reported = message.reported(self.algebra);
+        let copy = copied_value(alloc, self.algebra, reported)?;
         let site = Site {
             algebra: self.algebra,
             net: self.net,
@@ -187,7 +187,7 @@ impl<'a, A: Algebra, M: Mark<A>> DvNode<'a, A, M> {
             arc,
             place,
             dest,
-            value: told,
+            value: reported,
             clock,
         };
         reply_to(
@@ -227,7 +227,7 @@ impl<'a, A: Algebra, M: Mark<A>> DvNode<'a, A, M> {
         let alloc = *self.rows.allocator();
         let dest = message.dest();
         let place = self.net.place_of(arc);
-        let told = message.told(self.algebra);
+        let reported = message.reported(self.algebra);
         let site = Site {
             algebra: self.algebra,
             net: self.net,
@@ -239,7 +239,7 @@ impl<'a, A: Algebra, M: Mark<A>> DvNode<'a, A, M> {
             arc,
             place,
             dest,
-            value: told,
+            value: reported,
             clock,
         };
         let row = &self.rows[dest.0 as usize];
@@ -247,7 +247,7 @@ impl<'a, A: Algebra, M: Mark<A>> DvNode<'a, A, M> {
             Settled::Stays => {}
             Settled::Moves | Settled::Lost => return self.change(arc, message, clock, out),
         }
-        let kept = copied_value(alloc, self.algebra, told)?;
+        let kept = copied_value(alloc, self.algebra, reported)?;
         self.heard[dest.0 as usize * self.speakers.len() + place] = kept;
         self.last = clock;
         Ok(())
@@ -312,11 +312,11 @@ impl<'a, A: Algebra, M: Mark<A>> NodeCore for DvNode<'a, A, M> {
             own: &self.own,
             speakers: self.speakers,
         };
-        let (rows, told) = begun_rows(*self.rows.allocator(), &site)?;
+        let (rows, reported) = begun_rows(*self.rows.allocator(), &site)?;
         self.rows = rows;
         self.is_begun = true;
         self.last = 0;
-        *out = told;
+        *out = reported;
         Ok(())
     }
 

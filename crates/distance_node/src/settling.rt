@@ -3,7 +3,7 @@ ghost use Rattle.std.specs.Prelude.{◌≡◌, ◌≤◌, ◌+◌, List, None, O
 ghost use Rattle.alg_model.specs.Carriers.{carrier_of};
 ghost use Rattle.alg_model.specs.Expressions.{PureCarrier, PureValue};
 ghost use Rattle.arc_labels.specs.Images.{made_in};
-ghost use Rattle.distance_node.specs.Arrivals.{heard_told, IsArrival};
+ghost use Rattle.distance_node.specs.Arrivals.{heard_reported, IsArrival};
 ghost use Rattle.distance_node.specs.Chosen.{IsBest, chosen_at};
 ghost use Rattle.distance_node.specs.Node.{offers};
 ghost use Rattle.distance_node.specs.Nodes.{HasHeard, IsPlaced};
@@ -93,11 +93,11 @@ pub(crate) fn settle_by<A: Algebra>(
     ensures stays { let at = site.now in let value = A.sig_value at.algebra.now in
         IfOk result (λ how. how ≡ Settled.Stays → IsBest value at.net.now at.node.0
         (offers at.net.now arrival.now.dest.0 at.node.0
-        (heard_told value at.net.now at.node.0 _heard.now arrival.now)) before.now) }
+        (heard_reported value at.net.now at.node.0 _heard.now arrival.now)) before.now) }
     ensures moves { let at = site.now in let value = A.sig_value at.algebra.now in
         IfOk result (λ how. how ≡ Settled.Moves → IsBest value at.net.now at.node.0
         (offers at.net.now arrival.now.dest.0 at.node.0
-        (heard_told value at.net.now at.node.0 _heard.now arrival.now))
+        (heard_reported value at.net.now at.node.0 _heard.now arrival.now))
         (option_map (chosen_at (arrival.now.place + 1)) spare.new)) }
     ensures sig { IfOk result (λ how. how ≡ Settled.Moves → IfSome spare.new (A.is_sig site.now.algebra.now)) }
 {

@@ -2,8 +2,8 @@
 ghost use Rattle.std.specs.Prelude.{◌≡◌, ◌<◌, ◌++◌, Some, None, [], cond, length, map, IfOk, IfSome, OnErr, OnOk, option_map};
 ghost use Rattle.alg_model.specs.Bounds.{AtMost};
 ghost use Rattle.net_graph.specs.Nets.{arcs_to};
-ghost use Rattle.distance_node.specs.Node.{greatest_at, same_told, told_on};
-ghost use Rattle.distance_node.specs.Tellings.{told_of};
+ghost use Rattle.distance_node.specs.Node.{greatest_at, same_reported, reported_on};
+ghost use Rattle.distance_node.specs.Tellings.{reported_of};
 ghost use Rattle.distance_node.specs.Vectors.{noted};
 
 use crate::chosen::Chosen;
@@ -48,7 +48,7 @@ fn tell_value<A: Algebra, M: Mark<A>>(
     requires sig { A.is_sig site.now.algebra.now sig.now }
     requires small { AtMost (greatest_at clock) (A.sig_value site.now.algebra.now sig.now) }
     ensures { let at = site.now in OnOk result (map noted out.new.items ≡ map noted out.old.items
-        ++ told_on (arcs_to at.net.now at.node.0)
+        ++ reported_on (arcs_to at.net.now at.node.0)
         (record { dest = dest.0; value = Some (A.sig_value at.algebra.now sig.now); stamp = clock })) }
 {
     let listeners = site.net.listeners(site.node);
@@ -70,7 +70,7 @@ fn tell_none<A: Algebra, M: Mark<A>>(
     requires mark { M.algebra ≡ Some site.now.algebra.now }
     requires node { site.now.node.0 < length site.now.net.now.nodes }
     ensures { let at = site.now in OnOk result (map noted out.new.items ≡ map noted out.old.items
-        ++ told_on (arcs_to at.net.now at.node.0) (record { dest = dest.0; value = None; stamp = clock })) }
+        ++ reported_on (arcs_to at.net.now at.node.0) (record { dest = dest.0; value = None; stamp = clock })) }
 {
     let listeners = site.net.listeners(site.node);
     out.reserve(listeners.len())?;
@@ -93,10 +93,10 @@ pub(crate) fn tell<A: Algebra, M: Mark<A>>(
     requires mark { M.algebra ≡ Some site.now.algebra.now }
     requires node { site.now.node.0 < length site.now.net.now.nodes }
     requires sig { IfSome row.now (λ r. A.is_sig site.now.algebra.now r.sig) }
-    requires small { IfSome (told_of (A.sig_value site.now.algebra.now) row.now) (AtMost (greatest_at clock)) }
+    requires small { IfSome (reported_of (A.sig_value site.now.algebra.now) row.now) (AtMost (greatest_at clock)) }
     ensures { let at = site.now in OnOk result (map noted out.new.items ≡ map noted out.old.items
-        ++ told_on (arcs_to at.net.now at.node.0)
-        (record { dest = dest.0; value = told_of (A.sig_value at.algebra.now) row.now; stamp = clock })) }
+        ++ reported_on (arcs_to at.net.now at.node.0)
+        (record { dest = dest.0; value = reported_of (A.sig_value at.algebra.now) row.now; stamp = clock })) }
 {
     match row {
         Some(row) => tell_value(alloc, site, dest, &row.sig, clock, out),
@@ -114,7 +114,7 @@ fn are_one<A: Algebra>(
     requires first { A.is_sig algebra.now first.now }
     requires second { A.is_sig algebra.now second.now }
     ensures { let value = A.sig_value algebra.now in IfOk result (λ same.
-        same ≡ same_told (Some (value first.now)) (Some (value second.now))) }
+        same ≡ same_reported (Some (value first.now)) (Some (value second.now))) }
 {
     let one = algebra.value_of(alloc, first)?;
     let other = algebra.value_of(alloc, second)?;
@@ -131,7 +131,7 @@ fn are_same<A: Algebra>(
     requires first { A.is_sig algebra.now first.now }
     requires second { A.is_sig algebra.now second.now }
     ensures { let value = A.sig_value algebra.now in IfOk result (λ same.
-        same ≡ same_told (Some (value first.now)) (Some (value second.now))) }
+        same ≡ same_reported (Some (value first.now)) (Some (value second.now))) }
 {
     match algebra.order(first, second) {
         Ordering::Equal => are_one(alloc, algebra, first, second),
@@ -149,7 +149,7 @@ fn tells_same<A: Algebra>(
     requires row { IfSome row.now (λ r. A.is_sig algebra.now r.sig) }
     requires before { IfSome before.now (λ r. A.is_sig algebra.now r.sig) }
     ensures { let value = A.sig_value algebra.now in IfOk result (λ same.
-        same ≡ same_told (told_of value row.now) (told_of value before.now)) }
+        same ≡ same_reported (reported_of value row.now) (reported_of value before.now)) }
 {
     match (row, before) {
         (Some(row), Some(before)) => are_same(alloc, algebra, &row.sig, &before.sig),
@@ -174,17 +174,17 @@ pub(crate) fn news<A: Algebra, M: Mark<A>>(
     requires node { site.now.node.0 < length site.now.net.now.nodes }
     requires before { IfSome before.now (λ r. A.is_sig site.now.algebra.now r.sig) }
     requires sig { IfSome row.now (λ r. A.is_sig site.now.algebra.now r.sig) }
-    requires small { IfSome (told_of (A.sig_value site.now.algebra.now) row.now) (AtMost (greatest_at clock)) }
+    requires small { IfSome (reported_of (A.sig_value site.now.algebra.now) row.now) (AtMost (greatest_at clock)) }
     ensures ok { let at = site.now in let value = A.sig_value at.algebra.now in OnOk result (map noted out.new ≡
-        cond (same_told (told_of value row.now) (told_of value before.now)) [] (told_on (arcs_to at.net.now at.node.0)
-        (record { dest = dest.0; value = told_of value row.now; stamp = clock }))) }
+        cond (same_reported (reported_of value row.now) (reported_of value before.now)) [] (reported_on (arcs_to at.net.now at.node.0)
+        (record { dest = dest.0; value = reported_of value row.now; stamp = clock }))) }
     ensures err { OnErr result (out.new ≡ []) }
 {
     if tells_same(alloc, site.algebra, row, before)? {
         return Ok(());
     }
-    let mut told = replace(out, List::new(alloc)).into_vec();
-    tell(alloc, site, dest, row, clock, &mut told)?;
-    *out = List::from_vec(told);
+    let mut reported = replace(out, List::new(alloc)).into_vec();
+    tell(alloc, site, dest, row, clock, &mut reported)?;
+    *out = List::from_vec(reported);
     Ok(())
 }

@@ -1,6 +1,6 @@
 ghost use Rattle.std.specs.Prelude.{◌≡◌, Some, option_map};
 ghost use Rattle.distance_node.specs.Node.{PureVector};
-ghost use Rattle.distance_node.specs.Vectors.{IsTold};
+ghost use Rattle.distance_node.specs.Vectors.{IsReported};
 
 use crate::Mark;
 use alg_model::Algebra;
@@ -21,7 +21,7 @@ impl<A: Algebra, M: Mark<A>> Model for Vector<A, M> {
     ghost use Rattle.std.specs.Prelude.{option_map};
     ghost use Rattle.distance_node.specs.Marks.{meant, is_meant};
     ghost use Rattle.distance_node.specs.Node.{PureVector};
-    ghost use Rattle.distance_node.specs.Vectors.{coded_vector, IsTold};
+    ghost use Rattle.distance_node.specs.Vectors.{coded_vector, IsReported};
 
     ghost Value = { PureVector };
 
@@ -34,14 +34,14 @@ impl<A: Algebra, M: Mark<A>> Model for Vector<A, M> {
     } };
 
     // A value is one of the algebra, whose numbers it may have by the clock.
-    ghost invariant = { λ m. IsTold (is_meant A.is_sig M.algebra) (meant A.sig_value M.algebra) m.stamp m.value };
+    ghost invariant = { λ m. IsReported (is_meant A.is_sig M.algebra) (meant A.sig_value M.algebra) m.stamp m.value };
 }
 
 impl<A: Algebra, M: Mark<A>> Vector<A, M> {
     // The message of this value, or of none, at a clock.
     pub(crate) fn new(_algebra: &A, dest: DestId, value: Option<A::Sig>, stamp: u64) -> Vector<A, M>
         requires mark { M.algebra ≡ Some _algebra.now }
-        requires told { IsTold (A.is_sig _algebra.now) (A.sig_value _algebra.now) stamp value }
+        requires reported { IsReported (A.is_sig _algebra.now) (A.sig_value _algebra.now) stamp value }
         ensures { result ≡
             record { dest = dest.0; value = option_map (A.sig_value _algebra.now) value; stamp = stamp } }
     {
@@ -68,9 +68,9 @@ impl<A: Algebra, M: Mark<A>> Vector<A, M> {
     }
 
     // Lends the value in the form of the mark's algebra.
-    pub(crate) fn told(&self, _algebra: &A) -> &Option<A::Sig>
+    pub(crate) fn reported(&self, _algebra: &A) -> &Option<A::Sig>
         requires mark { M.algebra ≡ Some _algebra.now }
-        ensures told { IsTold (A.is_sig _algebra.now) (A.sig_value _algebra.now) self.now.stamp result.now }
+        ensures reported { IsReported (A.is_sig _algebra.now) (A.sig_value _algebra.now) self.now.stamp result.now }
         ensures value { option_map (A.sig_value _algebra.now) result.now ≡ self.now.value }
     {
         &self.value

@@ -8,9 +8,9 @@ use Rattle.std.proofs.lemmas.Option.{same_Some, slice_get_within}
 use Rattle.net_graph.specs.Nets.{PureNet}
 use Rattle.net_graph.specs.Tables.{PureRow, BestFirst}
 use Rattle.flood_node.specs.Node.{FloodState, holds}
-use Rattle.flood_node.specs.Rows.{AreAllFound, AreFound, AreLeaders, IsAsTold, placed_at}
-use Rattle.flood_node.specs.Told.{AreBegun, IsToldRow}
-use Rattle.flood_node.proofs.AsTold.{best_as_told, told_alike}
+use Rattle.flood_node.specs.Rows.{AreAllFound, AreFound, AreLeaders, IsAsReported, placed_at}
+use Rattle.flood_node.specs.Reported.{AreBegun, IsReportedRow}
+use Rattle.flood_node.proofs.AsReported.{best_as_reported, reported_alike}
 use Rattle.flood_node.proofs.Placed.{placed_set, placed_there}
 
 -- a place within a list has its item
@@ -131,15 +131,15 @@ pub begun_all : (net : PureNet) (nodes : List FloodState) → AreBegun net 0 nod
 begun_all net nodes b = let count = begun_count net 0 nodes b in omega (arith, count)
 
 module _ (net : PureNet) (nodes : List FloodState) (leaders : List ℕ) (leading : AreLeaders nodes leaders) where
-  module _ (leader : ℕ) (is_leader : slice_get leaders leader ≡ Some leader) (begun : AreBegun net 0 nodes) (t : FloodState) (there : slice_get nodes leader ≡ Some t) (told : PureNet) (is_told : IsAsTold net (holds t) told) where
+  module _ (leader : ℕ) (is_leader : slice_get leaders leader ≡ Some leader) (begun : AreBegun net 0 nodes) (t : FloodState) (there : slice_get nodes leader ≡ Some t) (reported : PureNet) (is_reported : IsAsReported net (holds t) reported) where
     -- a table has a row for each node
-    pub table_count : (dest : ℕ) (table : List PureRow) → BestFirst told dest table → length table ≡ length leaders
+    pub table_count : (dest : ℕ) (table : List PureRow) → BestFirst reported dest table → length table ≡ length leaders
     table_count dest table best =
         let all = begun_all net nodes begun in
-        best.table_of.count ∙ (ap (λ (n : PureNet). length n.nodes) is_told.but_origins ∙ (sym all ∙ sym leading.count))
+        best.table_of.count ∙ (ap (λ (n : PureNet). length n.nodes) is_reported.but_origins ∙ (sym all ∙ sym leading.count))
 
     -- the rows of a leader more for a destination
-    pub found_more : (dest : ℕ) (table : List PureRow) (old new : List (Option PureRow)) → BestFirst told dest table → length new ≡ length old
+    pub found_more : (dest : ℕ) (table : List PureRow) (old new : List (Option PureRow)) → BestFirst reported dest table → length new ≡ length old
         → ((i l : ℕ) → slice_get leaders i ≡ Some l → placed_at new i ≡ cond (l == leader) (slice_get table i) (placed_at old i))
         → AreFound net nodes leaders leader dest old → AreFound net nodes leaders (leader + 1) dest new
     found_more dest table old new best count so had =
@@ -149,20 +149,20 @@ module _ (net : PureNet) (nodes : List FloodState) (leaders : List ℕ) (leading
           there = λ i l e below. by_leader i l e below (l == leader) refl;
         }
       where
-        rows : (i : ℕ) (s : FloodState) (row : PureRow) → slice_get nodes i ≡ Some s → slice_get new i ≡ Some (Some row) → IsToldRow net dest s row
+        rows : (i : ℕ) (s : FloodState) (row : PureRow) → slice_get nodes i ≡ Some s → slice_get new i ≡ Some (Some row) → IsReportedRow net dest s row
         rows i s row e f =
             let within = slice_get_within nodes i s e in
             let count = leading.count in
             let l = within_or_past leaders i (omega (arith, within, count)) in
             by l.0 l.1 (l.0 == leader) refl (sym (so i l.0 l.1) ∙ ap (option_and_then (λ o. o)) f)
           where
-            by : (l : ℕ) → slice_get leaders i ≡ Some l → (b : Bool) → (l == leader) ≡ b → cond (l == leader) (slice_get table i) (placed_at old i) ≡ Some row → IsToldRow net dest s row
+            by : (l : ℕ) → slice_get leaders i ≡ Some l → (b : Bool) → (l == leader) ≡ b → cond (l == leader) (slice_get table i) (placed_at old i) ≡ Some row → IsReportedRow net dest s row
             by l at true h g =
                 let mine : l ≡ leader = eqb-true l leader h in
                 let alike = leading.same i leader s t (subst (λ z. slice_get leaders i ≡ Some z) mine at) e there in
                 record {
                   table = table;
-                  best_first = subst (λ n. BestFirst n dest table) (sym (told_alike net (holds s) (holds t) alike)) (best_as_told net told (holds t) dest table is_told best);
+                  best_first = subst (λ n. BestFirst n dest table) (sym (reported_alike net (holds s) (holds t) alike)) (best_as_reported net reported (holds t) dest table is_reported best);
                   is_row = subst (λ z. slice_get table z ≡ Some row) (sym (begun_number net 0 i nodes s begun e ∙ zero_more i)) (rw h at g);
                 }
               where

@@ -12,23 +12,23 @@ use Rattle.net_graph.specs.declared.route.RouteRow.{RouteRow}
 use Rattle.flood_node.specs.FoundRows.{found_rows}
 use Rattle.flood_node.specs.Node.{FloodState}
 use Rattle.flood_node.specs.Rows.{AreAllFound, AreFound, AreLeaders, is_placed}
-use Rattle.flood_node.specs.Told.{AreFloodRows, AreToldRows, IsToldRow}
+use Rattle.flood_node.specs.Reported.{AreFloodRows, AreReportedRows, IsReportedRow}
 
 -- what was found of all nodes are the rows that they compute
 module _ (net : PureNet) (dest : ℕ) where
-  told_rows : (nodes : List FloodState) (rows : List PureRow) → length rows ≡ length nodes → ((i : ℕ) (s : FloodState) (row : PureRow) → slice_get nodes i ≡ Some s → slice_get rows i ≡ Some row → IsToldRow net dest s row) → AreToldRows net nodes dest rows
-  told_rows [] [] c h = tt
-  told_rows [] (row ∷ rows) c h = absurd (omega (arith, c))
-  told_rows (s ∷ nodes) [] c h = absurd (omega (arith, c))
-  told_rows (s ∷ nodes) (row ∷ rows) c h = (h 0 s row refl refl, told_rows nodes rows (omega (arith, c)) (λ i t r e f. h (suc i) t r e f))
+  reported_rows : (nodes : List FloodState) (rows : List PureRow) → length rows ≡ length nodes → ((i : ℕ) (s : FloodState) (row : PureRow) → slice_get nodes i ≡ Some s → slice_get rows i ≡ Some row → IsReportedRow net dest s row) → AreReportedRows net nodes dest rows
+  reported_rows [] [] c h = tt
+  reported_rows [] (row ∷ rows) c h = absurd (omega (arith, c))
+  reported_rows (s ∷ nodes) [] c h = absurd (omega (arith, c))
+  reported_rows (s ∷ nodes) (row ∷ rows) c h = (h 0 s row refl refl, reported_rows nodes rows (omega (arith, c)) (λ i t r e f. h (suc i) t r e f))
 
   count_some : (rows : List PureRow) → length (map {B = Option PureRow} Some rows) ≡ length rows
   count_some [] = refl
   count_some (row ∷ rows) = let rest = count_some rows in omega (arith, rest)
 
-  pub found_rows_told : (nodes : List FloodState) (leaders : List ℕ) (bound : ℕ) (rows : List PureRow) (found : List (Option PureRow)) → map Some rows ≡ found → AreFound net nodes leaders bound dest found → AreToldRows net nodes dest rows
-  found_rows_told nodes leaders bound rows found is so =
-      told_rows nodes rows (sym (count_some rows) ∙ (ap length is ∙ so.count))
+  pub found_rows_reported : (nodes : List FloodState) (leaders : List ℕ) (bound : ℕ) (rows : List PureRow) (found : List (Option PureRow)) → map Some rows ≡ found → AreFound net nodes leaders bound dest found → AreReportedRows net nodes dest rows
+  found_rows_reported nodes leaders bound rows found is so =
+      reported_rows nodes rows (sym (count_some rows) ∙ (ap length is ∙ so.count))
       (λ i s row e f. so.rows i s row e (ap (λ l. slice_get l i) (sym is) ∙ (slice_get-map Some rows i ∙ ap (option_map Some) f)))
 
 -- the rows that were added
@@ -55,7 +55,7 @@ joined_push (table ∷ tables) rows = ap (λ l. table ++ l) (joined_push tables 
 -- the rows of the tables of the destinations below one
 pub record AreJoined (net : PureNet) (nodes : List FloodState) (count : ℕ) (rows : List PureRow) : Type 0 where
   pub tables : List (List PureRow)
-  pub hold : OnTablesFrom (AreToldRows net nodes) 0 tables
+  pub hold : OnTablesFrom (AreReportedRows net nodes) 0 tables
   pub so_many : length tables ≡ count
   pub joined : rows ≡ joined_rows tables
 
@@ -70,7 +70,7 @@ joined_next net nodes leaders bound dest old new found so are e =
     let at : 0 + length so.tables ≡ dest = let many = so.so_many in omega (arith, many) in
     record {
       tables = so.tables ++ added.0 ∷ [];
-      hold = on_push (AreToldRows net nodes) 0 so.tables added.0 so.hold (subst (λ z. AreToldRows net nodes z added.0) (sym at) (found_rows_told net dest nodes leaders bound added.0 found added.2 are));
+      hold = on_push (AreReportedRows net nodes) 0 so.tables added.0 so.hold (subst (λ z. AreReportedRows net nodes z added.0) (sym at) (found_rows_reported net dest nodes leaders bound added.0 found added.2 are));
       so_many = length_push so.tables added.0 ∙ ap (λ n. n + 1) so.so_many;
       joined = added.1 ∙ (ap (λ l. l ++ added.0) so.joined ∙ sym (joined_push so.tables added.0));
     }

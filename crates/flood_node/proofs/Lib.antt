@@ -4,10 +4,10 @@ mod OwnCards
 mod Nodes
 mod Names
 mod Placed
-mod ToldNets
-mod ToldOrigins
-mod ToldValues
-mod AsTold
+mod ReportedNets
+mod ReportedOrigins
+mod ReportedValues
+mod AsReported
 mod Leading
 mod Finding
 mod Joining

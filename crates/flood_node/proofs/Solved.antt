@@ -14,8 +14,8 @@ use Rattle.net_graph.specs.Tables.{PureRow, BestFirst}
 use Rattle.net_graph.specs.declared.route.RouteRow.{RouteRow}
 use Rattle.flood_node.specs.FoundRows.{found_rows}
 use Rattle.flood_node.specs.Node.{FloodState, holds}
-use Rattle.flood_node.specs.Rows.{AreAllFound, AreAllPlaced, AreFound, AreLeaders, ArePlacedOn, IsAsTold, placed_at}
-use Rattle.flood_node.specs.Told.{AreBegun}
+use Rattle.flood_node.specs.Rows.{AreAllFound, AreAllPlaced, AreFound, AreLeaders, ArePlacedOn, IsAsReported, placed_at}
+use Rattle.flood_node.specs.Reported.{AreBegun}
 use Rattle.flood_node.proofs.Finding.{found_more, within_or_past}
 use Rattle.flood_node.proofs.Joining.{seen_rows}
 use Rattle.flood_node.proofs.Placed.{set_at}
@@ -25,21 +25,21 @@ set_count [] n x = refl
 set_count (y ∷ xs) zero x = refl
 set_count (y ∷ xs) (suc n) x = let rest = set_count xs n x in omega (arith, rest)
 
-module _ (told : PureNet) (leaders : List ℕ) (leader : ℕ) where
-  pub none_solved : (old : List (List (Option PureRow))) → AreAllPlaced told leaders leader 0 old old
+module _ (reported : PureNet) (leaders : List ℕ) (leader : ℕ) where
+  pub none_solved : (old : List (List (Option PureRow))) → AreAllPlaced reported leaders leader 0 old old
   none_solved old = record { count = refl; done = λ d before after below e f. absurd (omega (arith, below)); left = λ d l. refl }
 
   -- the rows of a destination that isn't solved yet are as they were
-  pub still_there : (dest : ℕ) (old found : List (Vec (Option RouteRow) Global)) (rows : Vec (Option RouteRow) Global) → AreAllPlaced told leaders leader dest (found_rows old) (found_rows found) → slice_get found dest ≡ Some rows → slice_get (found_rows old) dest ≡ Some (seen_rows rows)
+  pub still_there : (dest : ℕ) (old found : List (Vec (Option RouteRow) Global)) (rows : Vec (Option RouteRow) Global) → AreAllPlaced reported leaders leader dest (found_rows old) (found_rows found) → slice_get found dest ≡ Some rows → slice_get (found_rows old) dest ≡ Some (seen_rows rows)
   still_there dest old found rows so at = sym (so.left dest (omega arith)) ∙ (slice_get-map seen_rows found dest ∙ ap (option_map seen_rows) at)
 
-  pub still_many : (dest : ℕ) (old found : List (Vec (Option RouteRow) Global)) (rows : Vec (Option RouteRow) Global) → AllByRecursion (λ (r : List (Option PureRow)). length r ≡ length leaders) (found_rows old) → AreAllPlaced told leaders leader dest (found_rows old) (found_rows found)
+  pub still_many : (dest : ℕ) (old found : List (Vec (Option RouteRow) Global)) (rows : Vec (Option RouteRow) Global) → AllByRecursion (λ (r : List (Option PureRow)). length r ≡ length leaders) (found_rows old) → AreAllPlaced reported leaders leader dest (found_rows old) (found_rows found)
       → slice_get found dest ≡ Some rows → length rows.items ≡ length leaders
   still_many dest old found rows all so at =
       sym (length-map rows.items _) ∙ all_at (λ (r : List (Option PureRow)). length r ≡ length leaders) (found_rows old) dest (seen_rows rows) all (still_there dest old found rows so at)
 
-  placed_next : (dest : ℕ) (old found : List (List (Option PureRow))) (rows new : List (Option PureRow)) → slice_get found dest ≡ Some rows → ArePlacedOn told leaders leader dest rows new → AreAllPlaced told leaders leader dest old found
-      → AreAllPlaced told leaders leader (dest + 1) old (set found dest new)
+  placed_next : (dest : ℕ) (old found : List (List (Option PureRow))) (rows new : List (Option PureRow)) → slice_get found dest ≡ Some rows → ArePlacedOn reported leaders leader dest rows new → AreAllPlaced reported leaders leader dest old found
+      → AreAllPlaced reported leaders leader (dest + 1) old (set found dest new)
   placed_next dest old found rows new at here so =
       record {
         count = set_count found dest new ∙ so.count;
@@ -50,23 +50,23 @@ module _ (told : PureNet) (leaders : List ℕ) (leader : ℕ) where
       within : dest < length found
       within = slice_get_within found dest rows at
 
-      done : (d : ℕ) (before after : List (Option PureRow)) → d < dest + 1 → slice_get old d ≡ Some before → (b : Bool) → (dest == d) ≡ b → cond (dest == d) (Some new) (slice_get found d) ≡ Some after → ArePlacedOn told leaders leader d before after
+      done : (d : ℕ) (before after : List (Option PureRow)) → d < dest + 1 → slice_get old d ≡ Some before → (b : Bool) → (dest == d) ≡ b → cond (dest == d) (Some new) (slice_get found d) ≡ Some after → ArePlacedOn reported leaders leader d before after
       done d before after below e true h f =
           let here_is : dest ≡ d = eqb-true dest d h in
           let last : new ≡ after = same_Some new after (rw h at f) in
           let first : rows ≡ before = same_Some rows before (sym at ∙ (so.left dest (omega arith) ∙ (ap (slice_get old) here_is ∙ e))) in
-          subst (λ z. ArePlacedOn told leaders leader z before after) here_is (subst (λ z. ArePlacedOn told leaders leader dest z after) first (subst (ArePlacedOn told leaders leader dest rows) last here))
+          subst (λ z. ArePlacedOn reported leaders leader z before after) here_is (subst (λ z. ArePlacedOn reported leaders leader dest z after) first (subst (ArePlacedOn reported leaders leader dest rows) last here))
       done d before after below e false h f =
           let apart : ¬ (dest ≡ d) = grind (arith, nat_tests) in
           so.done d before after (omega (arith, below, apart)) e (rw h at f)
 
   -- the rows of a destination more
-  pub solved_next : (dest : ℕ) (table : List PureRow) (old found : List (Vec (Option RouteRow) Global)) (rows new : Vec (Option RouteRow) Global) → slice_get found dest ≡ Some rows → BestFirst told dest table → length new.items ≡ length rows.items
-      → ((i l : ℕ) → slice_get leaders i ≡ Some l → placed_at (seen_rows new) i ≡ cond (l == leader) (slice_get table i) (placed_at (seen_rows rows) i)) → AreAllPlaced told leaders leader dest (found_rows old) (found_rows found)
-      → AreAllPlaced told leaders leader (dest + 1) (found_rows old) (found_rows (set found dest new))
+  pub solved_next : (dest : ℕ) (table : List PureRow) (old found : List (Vec (Option RouteRow) Global)) (rows new : Vec (Option RouteRow) Global) → slice_get found dest ≡ Some rows → BestFirst reported dest table → length new.items ≡ length rows.items
+      → ((i l : ℕ) → slice_get leaders i ≡ Some l → placed_at (seen_rows new) i ≡ cond (l == leader) (slice_get table i) (placed_at (seen_rows rows) i)) → AreAllPlaced reported leaders leader dest (found_rows old) (found_rows found)
+      → AreAllPlaced reported leaders leader (dest + 1) (found_rows old) (found_rows (set found dest new))
   solved_next dest table old found rows new at best count placed so =
       let same : length (seen_rows new) ≡ length (seen_rows rows) = length-map new.items _ ∙ (count ∙ sym (length-map rows.items _)) in
-      subst (AreAllPlaced told leaders leader (dest + 1) (found_rows old)) (sym (map-set seen_rows found dest new))
+      subst (AreAllPlaced reported leaders leader (dest + 1) (found_rows old)) (sym (map-set seen_rows found dest new))
       (placed_next dest (found_rows old) (found_rows found) (seen_rows rows) (seen_rows new) (slice_get-map seen_rows found dest ∙ ap (option_map seen_rows) at) (record { table = table; best_first = best; count = same; placed = placed }) so)
 
 -- all that is found has a place for each node
@@ -79,9 +79,9 @@ found_wide net nodes leaders done bound dest found leading so = all found (λ d 
     all (x ∷ xs) h = (h 0 x refl, all xs (λ d r e. h (suc d) r e))
 
 module _ (net : PureNet) (nodes : List FloodState) (leaders : List ℕ) (leading : AreLeaders nodes leaders) (leader : ℕ) (is_leader : slice_get leaders leader ≡ Some leader) (begun : AreBegun net 0 nodes)
-    (t : FloodState) (there : slice_get nodes leader ≡ Some t) (told : PureNet) (is_told : IsAsTold net (holds t) told) where
+    (t : FloodState) (there : slice_get nodes leader ≡ Some t) (reported : PureNet) (is_reported : IsAsReported net (holds t) reported) where
   -- all destinations are solved for a leader
-  pub leader_solved : (old new : List (List (Option PureRow))) → AreAllPlaced told leaders leader (length told.dests) old new → AreAllFound net nodes leaders leader leader 0 old → AreAllFound net nodes leaders (leader + 1) (leader + 1) 0 new
+  pub leader_solved : (old new : List (List (Option PureRow))) → AreAllPlaced reported leaders leader (length reported.dests) old new → AreAllFound net nodes leaders leader leader 0 old → AreAllFound net nodes leaders (leader + 1) (leader + 1) 0 new
   leader_solved old new so had =
       record {
         count = so.count ∙ had.count;
@@ -93,8 +93,8 @@ module _ (net : PureNet) (nodes : List FloodState) (leaders : List ℕ) (leading
       after d r e =
           let within = slice_get_within new d r e in
           let same = so.count in
-          let dests : length told.dests ≡ length net.dests = ap (λ (n : PureNet). length n.dests) is_told.but_origins in
+          let dests : length reported.dests ≡ length net.dests = ap (λ (n : PureNet). length n.dests) is_reported.but_origins in
           let all = had.count in
           let was = within_or_past old d (omega (arith, within, same)) in
           let here = so.done d was.0 r (omega (arith, within, same, dests, all)) was.1 e in
-          found_more net nodes leaders leading leader is_leader begun t there told is_told d here.table was.0 r here.best_first here.count here.placed (had.after d was.0 was.1)
+          found_more net nodes leaders leading leader is_leader begun t there reported is_reported d here.table was.0 r here.best_first here.count here.placed (had.after d was.0 was.1)

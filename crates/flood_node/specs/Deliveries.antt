@@ -10,8 +10,8 @@ use Rattle.node_core.specs.Machine.{Machine, changed_at, clock_after}
 use Rattle.node_core.specs.Running.{IsRunning, IsNodeAt}
 use Rattle.node_core.specs.MachineLaws.{same_test, at_each, IsDelivery}
 use Rattle.flood_node.specs.Cards.{PureFlooded}
-use Rattle.flood_node.specs.Node.{FloodState, holds, told_by, Step, flooding}
-use Rattle.flood_node.specs.Telling.{speaks, told_once}
+use Rattle.flood_node.specs.Node.{FloodState, holds, reported_by, Step, flooding}
+use Rattle.flood_node.specs.Telling.{speaks, reported_once}
 use Rattle.flood_node.specs.Steps.{step_new, step_old, still_holds, speaks_itself, speaks_is}
 
 module _ (net : PureNet) (n : IsNet net) (c : Machine FloodState PureFlooded) (run : IsRunning flooding net c) (a : ℕ) (d : Machine FloodState PureFlooded) (w : IsDelivery flooding net c a d) where
@@ -49,30 +49,30 @@ module _ (net : PureNet) (n : IsNet net) (c : Machine FloodState PureFlooded) (r
       by true h g = inl (eqb-true j w.number h, sym (same_Some _ _ g))
       by false h g = inr (h, g)
 
-  told : (b : ℕ) → on_arc b (told_by w.node w.message.card clock) ≡ cond (speaks net w.number b) (passed ∷ []) []
-  told b =
-      subst (λ z. on_arc b (told_by w.node w.message.card clock) ≡ cond (speaks z w.number b) (passed ∷ []) []) at_node.net_is
-      (subst (λ z. on_arc b (told_by w.node w.message.card clock) ≡ cond (speaks w.node.net z b) (passed ∷ []) []) at_node.number_is
-      (told_once w.node.net w.node.number b passed (subst (λ z. IsNet z) (sym at_node.net_is) n)))
+  reported : (b : ℕ) → on_arc b (reported_by w.node w.message.card clock) ≡ cond (speaks net w.number b) (passed ∷ []) []
+  reported b =
+      subst (λ z. on_arc b (reported_by w.node w.message.card clock) ≡ cond (speaks z w.number b) (passed ∷ []) []) at_node.net_is
+      (subst (λ z. on_arc b (reported_by w.node w.message.card clock) ≡ cond (speaks w.node.net z b) (passed ∷ []) []) at_node.number_is
+      (reported_once w.node.net w.node.number b passed (subst (λ z. IsNet z) (sym at_node.net_is) n)))
 
   -- a node that held the card sends nothing
   pub sent_old : holds w.node w.message.card.node ≡ true → (b : ℕ) → on_arc b sent ≡ []
   sent_old h b = ap (λ x. on_arc b x.1) (step_old w.node a w.message clock h)
 
-  sent_told : holds w.node w.message.card.node ≡ false → (b : ℕ) → on_arc b sent ≡ cond (speaks net w.number b) (passed ∷ []) []
-  sent_told h b = ap (λ x. on_arc b x.1) (step_new w.node a w.message clock h) ∙ told b
+  sent_reported : holds w.node w.message.card.node ≡ false → (b : ℕ) → on_arc b sent ≡ cond (speaks net w.number b) (passed ∷ []) []
+  sent_reported h b = ap (λ x. on_arc b x.1) (step_new w.node a w.message clock h) ∙ reported b
 
   -- one that didn't sends it on, once on each arc that it speaks on
   pub sent_new : holds w.node w.message.card.node ≡ false → (b : ℕ) → speaker net b ≡ Some w.number → on_arc b sent ≡ passed ∷ []
-  sent_new h b e = sent_told h b ∙ ap (λ t. cond t (passed ∷ []) []) (speaks_itself net w.number b e)
+  sent_new h b e = sent_reported h b ∙ ap (λ t. cond t (passed ∷ []) []) (speaks_itself net w.number b e)
 
   -- what is put on an arc
   pub sent_on : (b : ℕ) → (on_arc b sent ≡ []) ⊎ ((holds w.node w.message.card.node ≡ false) × (speaker net b ≡ Some w.number) × (on_arc b sent ≡ passed ∷ []))
   sent_on b = by (holds w.node w.message.card.node) refl
     where
       spoken : holds w.node w.message.card.node ≡ false → (t : Bool) → speaks net w.number b ≡ t → (on_arc b sent ≡ []) ⊎ ((holds w.node w.message.card.node ≡ false) × (speaker net b ≡ Some w.number) × (on_arc b sent ≡ passed ∷ []))
-      spoken h true e = inr (h, speaks_is net w.number b e, sent_told h b ∙ ap (λ t. cond t (passed ∷ []) []) e)
-      spoken h false e = inl (sent_told h b ∙ ap (λ t. cond t (passed ∷ []) []) e)
+      spoken h true e = inr (h, speaks_is net w.number b e, sent_reported h b ∙ ap (λ t. cond t (passed ∷ []) []) e)
+      spoken h false e = inl (sent_reported h b ∙ ap (λ t. cond t (passed ∷ []) []) e)
 
       by : (t : Bool) → holds w.node w.message.card.node ≡ t → (on_arc b sent ≡ []) ⊎ ((holds w.node w.message.card.node ≡ false) × (speaker net b ≡ Some w.number) × (on_arc b sent ≡ passed ∷ []))
       by true h = inl (sent_old h b)

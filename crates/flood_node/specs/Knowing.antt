@@ -8,7 +8,7 @@ use Rattle.node_core.specs.Running.{IsRunning}
 use Rattle.flood_node.specs.Cards.{PureCard, PureFlooded}
 use Rattle.flood_node.specs.Node.{FloodState, flooding, holds}
 use Rattle.flood_node.specs.Reach.{Reach}
-use Rattle.flood_node.specs.Told.{IsTrueCard}
+use Rattle.flood_node.specs.Reported.{IsTrueCard}
 
 -- the card is the true one of a node that this node reaches
 pub record IsReachedCard (net : PureNet) (i : ℕ) (card : PureCard) : Type 0 where
@@ -31,5 +31,5 @@ pub record IsFlood (net : PureNet) (c : Machine FloodState PureFlooded) : Type 0
   pub held : (i : ℕ) (s : FloodState) → c.node i ≡ Some s → AllByRecursion (IsReachedCard net i) s.cards
   pub apart : (i : ℕ) (s : FloodState) → c.node i ≡ Some s → AreDistinct same_node s.cards
   pub waiting : (a j : ℕ) → speaker net a ≡ Some j → AllByRecursion (λ m. IsReachedCard net j m.card) (c.link a)
-  pub told : (a i j k : ℕ) (s t : FloodState) → listener net a ≡ Some i → speaker net a ≡ Some j → c.node i ≡ Some s → c.node j ≡ Some t
+  pub reported : (a i j k : ℕ) (s t : FloodState) → listener net a ≡ Some i → speaker net a ≡ Some j → c.node i ≡ Some s → c.node j ≡ Some t
       → holds t k ≡ true → (holds s k ≡ true) ⊎ (is_waiting (c.link a) k ≡ true)

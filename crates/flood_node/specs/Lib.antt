@@ -4,7 +4,7 @@ pub mod Codes
 pub mod Views
 pub mod Sets
 pub mod Reach
-pub mod Told
+pub mod Reported
 pub mod Rows
 pub mod FoundRows
 pub mod Telling
@@ -20,7 +20,7 @@ pub mod Counting
 pub mod Totals
 pub mod Partial
 pub mod Parts
-pub mod ToldLaws
+pub mod ReportedLaws
 pub mod QuietRows
 pub mod Ready
 pub mod Runs

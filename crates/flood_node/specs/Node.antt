@@ -21,22 +21,22 @@ abbrev pub holds : FloodState → ℕ → Bool
 holds s j = has_card s.cards j
 
 -- a message on each of these arcs
-abbrev pub told_on : List PureArc → PureFlooded → List (ℕ × PureFlooded)
-told_on arcs m = map (λ (a : PureArc). (a.id, m)) arcs
+abbrev pub reported_on : List PureArc → PureFlooded → List (ℕ × PureFlooded)
+reported_on arcs m = map (λ (a : PureArc). (a.id, m)) arcs
 
 -- the node tells the card to all that listen to it
-abbrev pub told_by : FloodState → PureCard → ℕ → List (ℕ × PureFlooded)
-told_by s card clock = told_on (arcs_to s.net s.number) (record { card = card; stamp = clock })
+abbrev pub reported_by : FloodState → PureCard → ℕ → List (ℕ × PureFlooded)
+reported_by s card clock = reported_on (arcs_to s.net s.number) (record { card = card; stamp = clock })
 
 -- it holds its own card, and tells it
 abbrev pub Begin : FloodState → FloodState × List (ℕ × PureFlooded)
-Begin s = (record s { is_begun = true; cards = card_of s.net s.number ∷ []; last = 0 }, told_by s (card_of s.net s.number) 0)
+Begin s = (record s { is_begun = true; cards = card_of s.net s.number ∷ []; last = 0 }, reported_by s (card_of s.net s.number) 0)
 
 -- it keeps a card that it didn't hold, and tells it
 abbrev pub Step : FloodState → ℕ → PureFlooded → ℕ → FloodState × List (ℕ × PureFlooded)
 Step s a m clock =
     cond (holds s m.card.node) (record s { last = clock }, [])
-    (record s { cards = s.cards ++ m.card ∷ []; last = clock }, told_by s m.card clock)
+    (record s { cards = s.cards ++ m.card ∷ []; last = clock }, reported_by s m.card clock)
 
 -- the flooding kind of node
 abbrev pub flooding : Kind FloodState PureFlooded

@@ -115,17 +115,17 @@ module _ (whole part : PureNet) (known : ℕ → Bool) (is : IsPart whole part k
       by false more = (a.0, a.1, tt, more)
 
   module _ (dest : ℕ) (table : List PureRow) where
-    abbrev told : List PureRow
-    told = rows_known known 0 table
+    abbrev reported : List PureRow
+    reported = rows_known known 0 table
 
     -- a node that isn't known has no offer
-    none_unknown : (before : List ℕ) (i : ℕ) (r : PureRoute) → known i ≡ false → ¬ IsOfferFrom part dest (route_at told) before i r
+    none_unknown : (before : List ℕ) (i : ℕ) (r : PureRoute) → known i ≡ false → ¬ IsOfferFrom part dest (route_at reported) before i r
     none_unknown before i r k (inl own) = absurd (let clash : None ≡ Some r.value = sym (is.no_origins dest i k) ∙ own.0 in cc)
     none_unknown before i r k (inr by) = absurd (let o = by.2 in let clash : None ≡ Some r.value = sym (along_unknown i by.0 (Some o.next.value) k) ∙ o.weighs in cc)
 
     module _ (n : IsNet whole) (closed : IsClosed whole known) where
       -- an offer in the part is one in the whole
-      in_whole : (before : List ℕ) (i : ℕ) (r : PureRoute) → known i ≡ true → IsOfferFrom part dest (route_at told) (filter known before) i r → IsOfferFrom whole dest (route_at table) before i r
+      in_whole : (before : List ℕ) (i : ℕ) (r : PureRoute) → known i ≡ true → IsOfferFrom part dest (route_at reported) (filter known before) i r → IsOfferFrom whole dest (route_at table) before i r
       in_whole before i r k (inl own) = inl (sym (is.origins dest i k) ∙ own.0, own.1)
       in_whole before i r k (inr by) =
           let o = by.2 in
@@ -144,7 +144,7 @@ module _ (whole part : PureNet) (known : ℕ → Bool) (is : IsPart whole part k
           )
 
       -- and the other way round
-      in_part : (before : List ℕ) (i : ℕ) (r : PureRoute) → known i ≡ true → IsOfferFrom whole dest (route_at table) before i r → IsOfferFrom part dest (route_at told) (filter known before) i r
+      in_part : (before : List ℕ) (i : ℕ) (r : PureRoute) → known i ≡ true → IsOfferFrom whole dest (route_at table) before i r → IsOfferFrom part dest (route_at reported) (filter known before) i r
       in_part before i r k (inl own) = inl (is.origins dest i k ∙ own.0, own.1)
       in_part before i r k (inr by) =
           let o = by.2 in
@@ -161,23 +161,23 @@ module _ (whole part : PureNet) (known : ℕ → Bool) (is : IsPart whole part k
             },
           )
 
-      fixed_part : (before order : List ℕ) → AreFixed whole dest table before order → AreFixed part dest told (filter known before) (filter known order)
+      fixed_part : (before order : List ℕ) → AreFixed whole dest table before order → AreFixed part dest reported (filter known before) (filter known order)
       fixed_part before [] f = λ i l e. by i l e (known i) refl
         where
           by : (i : ℕ) → i < length part.nodes → is_among (filter known before) i ≡ false → (b : Bool) → known i ≡ b
-              → (route_at told i ≡ None) × ((r : PureRoute) → ¬ IsOfferFrom part dest (route_at told) (filter known before) i r)
+              → (route_at reported i ≡ None) × ((r : PureRoute) → ¬ IsOfferFrom part dest (route_at reported) (filter known before) i r)
           by i l e true k =
               let left = f i (subst (λ z. i < z) is.count l) (not_among known before i k e) in
               (route_known known table i k ∙ left.0, λ r o. left.1 r (in_whole before i r k o))
           by i l e false k = (route_unknown known table i k, λ r. none_unknown (filter known before) i r k)
       fixed_part before (i ∷ order) f = by (known i) refl (fixed_part (i ∷ before) order f.3)
         where
-          unbeaten : (j : ℕ) (s : PureRoute) → j < length part.nodes → is_among (filter known before) j ≡ false → IsOfferFrom part dest (route_at told) (filter known before) j s → (b : Bool) → known j ≡ b → ¬ Better (carrier part) s f.2.0
+          unbeaten : (j : ℕ) (s : PureRoute) → j < length part.nodes → is_among (filter known before) j ≡ false → IsOfferFrom part dest (route_at reported) (filter known before) j s → (b : Bool) → known j ≡ b → ¬ Better (carrier part) s f.2.0
           unbeaten j s l e o true k = λ better. f.2.3 j s (subst (λ z. j < z) is.count l) (not_among known before j k e) (in_whole before j s k o) (rw same_carrier at better)
           unbeaten j s l e o false k = λ better. none_unknown (filter known before) j s k o
 
-          by : (b : Bool) → known i ≡ b → AreFixed part dest told (cond b (i ∷ filter known before) (filter known before)) (filter known order)
-              → AreFixed part dest told (filter known before) (cond b (i ∷ filter known order) (filter known order))
+          by : (b : Bool) → known i ≡ b → AreFixed part dest reported (cond b (i ∷ filter known before) (filter known before)) (filter known order)
+              → AreFixed part dest reported (filter known before) (cond b (i ∷ filter known order) (filter known order))
           by true k more = (
             subst (λ z. i < z) (sym is.count) f.0,
             still_not known before i f.1,
@@ -187,7 +187,7 @@ module _ (whole part : PureNet) (known : ℕ → Bool) (is : IsPart whole part k
           by false k more = more
 
       -- the rows of known nodes in a table that is made best first are made best first in the part
-      pub best_in_part : BestFirst whole dest table → BestFirst part dest told
+      pub best_in_part : BestFirst whole dest table → BestFirst part dest reported
       best_in_part b =
           record {
             table_of = record { rows = rows_of_part dest 0 table b.table_of.rows; count = length_known known 0 table ∙ (b.table_of.count ∙ sym is.count) };

@@ -11,8 +11,8 @@ use Rattle.flood_node.specs.Reach.{IsChain}
 use Rattle.flood_node.specs.Knowing.{IsFlood}
 use Rattle.flood_node.specs.Partial.{IsClosed, rows_known}
 use Rattle.flood_node.specs.Parts.{row_known}
-use Rattle.flood_node.specs.Told.{Told, IsToldRow, AreToldRows, AreFloodRows}
-use Rattle.flood_node.specs.ToldLaws.{told_is_net, told_table}
+use Rattle.flood_node.specs.Reported.{Reported, IsReportedRow, AreReportedRows, AreFloodRows}
+use Rattle.flood_node.specs.ReportedLaws.{reported_is_net, reported_table}
 use Rattle.flood_node.specs.Totals.{held_reached}
 use Rattle.flood_node.specs.Truth.{drained_holds}
 
@@ -41,32 +41,32 @@ module _ (net : PureNet) (n : IsNet net) (c : Machine FloodState PureFlooded) (f
       drained_holds net n c f drained (r.0 ++ k ∷ []) i k s e (chain_push net r.0 i j k r.1 arc)
 
   -- so its row is the whole network's
-  quiet_row : (dest i : ℕ) (table : List PureRow) (s : FloodState) (row : PureRow) → dest < length net.dests → BestFirst net dest table → c.node i ≡ Some s → IsToldRow net dest s row → slice_get table i ≡ Some row
-  quiet_row dest i table s row l best e told =
+  quiet_row : (dest i : ℕ) (table : List PureRow) (s : FloodState) (row : PureRow) → dest < length net.dests → BestFirst net dest table → c.node i ≡ Some s → IsReportedRow net dest s row → slice_get table i ≡ Some row
+  quiet_row dest i table s row l best e reported =
       let number : s.number ≡ i = (f.running.each i s e).number_is in
-      let same : told.table ≡ rows_known (holds s) 0 table =
-      unique (Told net (holds s)) dest told.table (rows_known (holds s) 0 table) (told_is_net net (holds s) n) l told.best_first (told_table net (holds s) n (holds_closed i s e) dest table best) in
-      let there : slice_get told.table i ≡ Some row = subst (λ z. slice_get told.table z ≡ Some row) number told.is_row in
+      let same : reported.table ≡ rows_known (holds s) 0 table =
+      unique (Reported net (holds s)) dest reported.table (rows_known (holds s) 0 table) (reported_is_net net (holds s) n) l reported.best_first (reported_table net (holds s) n (holds_closed i s e) dest table best) in
+      let there : slice_get reported.table i ≡ Some row = subst (λ z. slice_get reported.table z ≡ Some row) number reported.is_row in
       sym (row_known (holds s) table i (f.own i s e)) ∙ (ap (λ t. slice_get t i) (sym same) ∙ there)
 
   -- the nodes from one on
   quiet_from : (dest from : ℕ) (table : List PureRow) (states : List FloodState) (rows : List PureRow) → dest < length net.dests → BestFirst net dest table
-      → ((k : ℕ) (s : FloodState) → slice_get states k ≡ Some s → c.node (from + k) ≡ Some s) → AreToldRows net states dest rows → (k : ℕ) (row : PureRow) → slice_get rows k ≡ Some row → slice_get table (from + k) ≡ Some row
-  quiet_from dest from table [] [] l best at told k row e = absurd (cc)
-  quiet_from dest from table [] (r ∷ rows) l best at told k row e = absurd told
-  quiet_from dest from table (s ∷ states) [] l best at told k row e = absurd told
-  quiet_from dest from table (s ∷ states) (r ∷ rows) l best at told zero row e =
-      quiet_row dest (from + 0) table s row l best (at 0 s refl) (subst (λ z. IsToldRow net dest s z) (same_Some _ _ e) told.0)
-  quiet_from dest from table (s ∷ states) (r ∷ rows) l best at told (suc k) row e =
+      → ((k : ℕ) (s : FloodState) → slice_get states k ≡ Some s → c.node (from + k) ≡ Some s) → AreReportedRows net states dest rows → (k : ℕ) (row : PureRow) → slice_get rows k ≡ Some row → slice_get table (from + k) ≡ Some row
+  quiet_from dest from table [] [] l best at reported k row e = absurd (cc)
+  quiet_from dest from table [] (r ∷ rows) l best at reported k row e = absurd reported
+  quiet_from dest from table (s ∷ states) [] l best at reported k row e = absurd reported
+  quiet_from dest from table (s ∷ states) (r ∷ rows) l best at reported zero row e =
+      quiet_row dest (from + 0) table s row l best (at 0 s refl) (subst (λ z. IsReportedRow net dest s z) (same_Some _ _ e) reported.0)
+  quiet_from dest from table (s ∷ states) (r ∷ rows) l best at reported (suc k) row e =
       let place : from + 1 + k ≡ from + suc k = omega arith in
       subst (λ z. slice_get table z ≡ Some row) place
-      (quiet_from dest (from + 1) table states rows l best (λ m x h. let next : from + suc m ≡ from + 1 + m = omega arith in subst (λ z. c.node z ≡ Some x) next (at (suc m) x h)) told.1 k row e)
+      (quiet_from dest (from + 1) table states rows l best (λ m x h. let next : from + suc m ≡ from + 1 + m = omega arith in subst (λ z. c.node z ≡ Some x) next (at (suc m) x h)) reported.1 k row e)
 
-  told_count : (dest : ℕ) (states : List FloodState) (rows : List PureRow) → AreToldRows net states dest rows → length rows ≡ length states
-  told_count dest [] [] told = refl
-  told_count dest [] (r ∷ rows) told = absurd told
-  told_count dest (s ∷ states) [] told = absurd told
-  told_count dest (s ∷ states) (r ∷ rows) told = let rest = told_count dest states rows told.1 in omega (arith, rest)
+  reported_count : (dest : ℕ) (states : List FloodState) (rows : List PureRow) → AreReportedRows net states dest rows → length rows ≡ length states
+  reported_count dest [] [] reported = refl
+  reported_count dest [] (r ∷ rows) reported = absurd reported
+  reported_count dest (s ∷ states) [] reported = absurd reported
+  reported_count dest (s ∷ states) (r ∷ rows) reported = let rest = reported_count dest states rows reported.1 in omega (arith, rest)
 
   there_or_past : (rows : List PureRow) (k : ℕ) → slice_get rows k ≡ None → length rows ≤ k
   there_or_past [] k e = omega arith
@@ -79,21 +79,21 @@ module _ (net : PureNet) (n : IsNet net) (c : Machine FloodState PureFlooded) (f
   past (r ∷ rows) (suc k) l = past rows k (omega (arith, l))
 
   module _ (states : List FloodState) (are : (k : ℕ) → c.node k ≡ slice_get states k) (count : length states ≡ length net.nodes) where
-    quiet_table : (dest : ℕ) (table rows : List PureRow) → dest < length net.dests → BestFirst net dest table → AreToldRows net states dest rows → rows ≡ table
-    quiet_table dest table rows l best told = same_places rows table (λ k. at k (slice_get rows k) refl)
+    quiet_table : (dest : ℕ) (table rows : List PureRow) → dest < length net.dests → BestFirst net dest table → AreReportedRows net states dest rows → rows ≡ table
+    quiet_table dest table rows l best reported = same_places rows table (λ k. at k (slice_get rows k) refl)
       where
         at : (k : ℕ) (o : Option PureRow) → slice_get rows k ≡ o → slice_get rows k ≡ slice_get table k
         at k (Some row) e =
             let place : 0 + k ≡ k = omega arith in
             e ∙ sym (subst (λ z. slice_get table z ≡ Some row) place
-            (quiet_from dest 0 table states rows l best (λ m s h. let same : 0 + m ≡ m = omega arith in subst (λ z. c.node z ≡ Some s) (sym same) (are m ∙ h)) told k row e))
+            (quiet_from dest 0 table states rows l best (λ m s h. let same : 0 + m ≡ m = omega arith in subst (λ z. c.node z ≡ Some s) (sym same) (are m ∙ h)) reported k row e))
         at k None e =
             let few = there_or_past rows k e in
-            let rows_are = told_count dest states rows told in
+            let rows_are = reported_count dest states rows reported in
             let table_is = best.table_of.count in
             e ∙ sym (past table k (omega (arith, few, rows_are, table_is, count)))
 
-    quiet_tables : (dest : ℕ) (tables others : List (List PureRow)) → OnTablesFrom (AreToldRows net states) dest tables → OnTablesFrom (BestFirst net) dest others → dest + length tables ≡ length net.dests → length tables ≡ length others → tables ≡ others
+    quiet_tables : (dest : ℕ) (tables others : List (List PureRow)) → OnTablesFrom (AreReportedRows net states) dest tables → OnTablesFrom (BestFirst net) dest others → dest + length tables ≡ length net.dests → length tables ≡ length others → tables ≡ others
     quiet_tables dest [] [] t o l m = refl
     quiet_tables dest [] (x ∷ others) t o l m = absurd (omega (arith, m))
     quiet_tables dest (y ∷ tables) [] t o l m = absurd (omega (arith, m))
@@ -105,7 +105,7 @@ module _ (net : PureNet) (n : IsNet net) (c : Machine FloodState PureFlooded) (f
     -- the rows of all destinations are those that link state finds on the whole network
     pub quiet_rows : (rows routed : List PureRow) → AreFloodRows net states rows → AreRowsOfTables net (BestFirst net) routed → rows ≡ routed
     quiet_rows rows routed r o =
-        let told = r.count in
+        let reported = r.count in
         let whole = o.count in
-        let same : r.tables ≡ o.tables = quiet_tables 0 r.tables o.tables r.hold o.hold (omega (arith, told)) (omega (arith, told, whole)) in
+        let same : r.tables ≡ o.tables = quiet_tables 0 r.tables o.tables r.hold o.hold (omega (arith, reported)) (omega (arith, reported, whole)) in
         r.joined ∙ (ap joined_rows same ∙ sym o.joined)

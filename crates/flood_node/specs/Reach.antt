@@ -27,5 +27,5 @@ abbrev pub count_nodes : PureNet → (ℕ → Bool) → ℕ
 count_nodes net p = total (length net.nodes) (λ j. cond (p j) 1 0)
 
 -- over all nodes, how many nodes each reaches, once for each arc that it speaks on
-abbrev pub cards_told : PureNet → ℕ
-cards_told net = total (length net.nodes) (λ i. count_nodes net (reaches net i) * length (arcs_to net i))
+abbrev pub cards_sent : PureNet → ℕ
+cards_sent net = total (length net.nodes) (λ i. count_nodes net (reaches net i) * length (arcs_to net i))

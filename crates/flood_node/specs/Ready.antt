@@ -11,7 +11,7 @@ use Rattle.node_core.specs.Machine.{AreUnbegun, Machine}
 use Rattle.flood_node.specs.Cards.{PureFlooded}
 use Rattle.flood_node.specs.Knowing.{IsFlood, IsReachedCard}
 use Rattle.flood_node.specs.Node.{FloodState, flooding, new_node}
-use Rattle.flood_node.specs.Told.{AreBegun, AreTrueCards, IsTrueCard}
+use Rattle.flood_node.specs.Reported.{AreBegun, AreTrueCards, IsTrueCard}
 
 unbegun_from : (net : PureNet) (i n : ℕ) → length net.nodes ≡ i + n → AreUnbegun flooding net i (map (new_node net) (range_with_len i n))
 unbegun_from net i zero e = omega (arith, e)

@@ -4,7 +4,7 @@ use Rattle.net_graph.specs.Nets.{PureOrigin, PureNet, origin_value}
 use Rattle.net_graph.specs.Tables.{PureRow, BestFirst}
 use Rattle.flood_node.specs.Cards.{PureCard, PureCardOrigin, card_of}
 use Rattle.flood_node.specs.Node.{FloodState, has_card, holds}
-use Rattle.flood_node.specs.Told.{Told, IsToldRow}
+use Rattle.flood_node.specs.Reported.{Reported, IsReportedRow}
 
 -- what stands at a place, if anything does
 abbrev pub placed_at : {X : Type 0} → List (Option X) → ℕ → Option X
@@ -26,14 +26,14 @@ abbrev pub origins_on : ℕ → List PureCardOrigin → List PureOrigin
 origins_on i origins = map (λ (o : PureCardOrigin). record { node = i; dest = o.dest; value = o.value }) origins
 
 -- those of the nodes below this one that pass the test, by node
-abbrev pub told_origins : PureNet → (ℕ → Bool) → ℕ → List PureOrigin
-told_origins net known zero = []
-told_origins net known (suc i) = told_origins net known i ++ cond (known i) (origins_on i (card_of net i).origins) []
+abbrev pub reported_origins : PureNet → (ℕ → Bool) → ℕ → List PureOrigin
+reported_origins net known zero = []
+reported_origins net known (suc i) = reported_origins net known i ++ cond (known i) (origins_on i (card_of net i).origins) []
 
 -- the network of what is known, but for the order of its origins
-pub record IsAsTold (net : PureNet) (known : ℕ → Bool) (told : PureNet) : Type 0 where
-  pub but_origins : told ≡ record (Told net known) { origins = told.origins }
-  pub origins : (dest i : ℕ) → origin_value told dest i ≡ origin_value (Told net known) dest i
+pub record IsAsReported (net : PureNet) (known : ℕ → Bool) (reported : PureNet) : Type 0 where
+  pub but_origins : reported ≡ record (Reported net known) { origins = reported.origins }
+  pub origins : (dest i : ℕ) → origin_value reported dest i ≡ origin_value (Reported net known) dest i
 
 -- each node's leader holds the same cards, and is its own leader
 pub record AreLeaders (nodes : List FloodState) (leaders : List ℕ) : Type 0 where
@@ -45,7 +45,7 @@ pub record AreLeaders (nodes : List FloodState) (leaders : List ℕ) : Type 0 wh
 -- the rows for a destination that were found so far: those of the nodes whose leaders are below the bound, at least
 pub record AreFound (net : PureNet) (nodes : List FloodState) (leaders : List ℕ) (bound dest : ℕ) (found : List (Option PureRow)) : Type 0 where
   pub count : length found ≡ length nodes
-  pub rows : (i : ℕ) (s : FloodState) (row : PureRow) → slice_get nodes i ≡ Some s → slice_get found i ≡ Some (Some row) → IsToldRow net dest s row
+  pub rows : (i : ℕ) (s : FloodState) (row : PureRow) → slice_get nodes i ≡ Some s → slice_get found i ≡ Some (Some row) → IsReportedRow net dest s row
   pub there : (i l : ℕ) → slice_get leaders i ≡ Some l → l < bound → (row : PureRow) × (slice_get found i ≡ Some (Some row))
 
 -- the same for each destination: the bound is the first one for those below the destination, and the second for others
@@ -56,14 +56,14 @@ pub record AreAllFound (net : PureNet) (nodes : List FloodState) (leaders : List
 
 -- the rows of the nodes with that leader are those of a table that is made best first on the network, and the other rows
 -- are as they were
-pub record ArePlacedOn (told : PureNet) (leaders : List ℕ) (leader dest : ℕ) (old new : List (Option PureRow)) : Type 0 where
+pub record ArePlacedOn (reported : PureNet) (leaders : List ℕ) (leader dest : ℕ) (old new : List (Option PureRow)) : Type 0 where
   pub table : List PureRow
-  pub best_first : BestFirst told dest table
+  pub best_first : BestFirst reported dest table
   pub count : length new ≡ length old
   pub placed : (i l : ℕ) → slice_get leaders i ≡ Some l → placed_at new i ≡ cond (l == leader) (slice_get table i) (placed_at old i)
 
 -- the same for each destination below one; those of the others are as they were
-pub record AreAllPlaced (told : PureNet) (leaders : List ℕ) (leader dest : ℕ) (old new : List (List (Option PureRow))) : Type 0 where
+pub record AreAllPlaced (reported : PureNet) (leaders : List ℕ) (leader dest : ℕ) (old new : List (List (Option PureRow))) : Type 0 where
   pub count : length new ≡ length old
-  pub done : (d : ℕ) (before after : List (Option PureRow)) → d < dest → slice_get old d ≡ Some before → slice_get new d ≡ Some after → ArePlacedOn told leaders leader d before after
+  pub done : (d : ℕ) (before after : List (Option PureRow)) → d < dest → slice_get old d ≡ Some before → slice_get new d ≡ Some after → ArePlacedOn reported leaders leader d before after
   pub left : (d : ℕ) → dest ≤ d → slice_get new d ≡ slice_get old d

@@ -13,7 +13,7 @@ use Rattle.flood_node.specs.Reach.{Reach}
 use Rattle.flood_node.specs.Knowing.{IsReachedCard}
 use Rattle.flood_node.specs.Missing.{card_budgets}
 use Rattle.flood_node.specs.Lawful.{flooding_is_lawful}
-use Rattle.flood_node.specs.Told.{AreFloodRows}
+use Rattle.flood_node.specs.Reported.{AreFloodRows}
 use Rattle.flood_node.specs.Truth.{replays_flood, drained_holds}
 use Rattle.flood_node.specs.Totals.{held_reached}
 use Rattle.flood_node.specs.Budgets.{floods_end}

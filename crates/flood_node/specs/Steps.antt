@@ -11,8 +11,8 @@ use Rattle.node_core.specs.Kinds.{on_arc, speaker}
 use Rattle.node_core.specs.Machine.{AreUnbegun, begun_messages}
 use Rattle.node_core.specs.MachineLaws.{same_test, on_arc_join}
 use Rattle.flood_node.specs.Cards.{PureCard, PureFlooded, card_of}
-use Rattle.flood_node.specs.Node.{FloodState, holds, told_by, Step, flooding}
-use Rattle.flood_node.specs.Telling.{speaks, told_once}
+use Rattle.flood_node.specs.Node.{FloodState, holds, reported_by, Step, flooding}
+use Rattle.flood_node.specs.Telling.{speaks, reported_once}
 
 -- some item of the one list or of the other passes
 pub any_left : {X : Type 0} (p : X → Bool) (xs ys : List X) → list_any p xs ≡ true → list_any p (xs ++ ys) ≡ true
@@ -56,7 +56,7 @@ module _ (s : FloodState) (a : ℕ) (m : PureFlooded) (t : ℕ) where
   after = (Step s a m t).0
 
   -- a node that doesn't hold the card keeps it and tells it
-  pub step_new : holds s m.card.node ≡ false → Step s a m t ≡ (record s { cards = s.cards ++ m.card ∷ []; last = t }, told_by s m.card t)
+  pub step_new : holds s m.card.node ≡ false → Step s a m t ≡ (record s { cards = s.cards ++ m.card ∷ []; last = t }, reported_by s m.card t)
   step_new e = rw e refl
 
   -- and one that does changes its clock alone
@@ -109,17 +109,17 @@ module _ (net : PureNet) (n : IsNet net) where
   abbrev pub own_message : ℕ → PureFlooded
   own_message j = record { card = card_of net j; stamp = 0 }
 
-  put_by : (s : FloodState) (i b : ℕ) → s.net ≡ net → s.number ≡ i → on_arc b (told_by s (card_of s.net s.number) 0) ≡ cond (speaks net i b) (own_message i ∷ []) []
+  put_by : (s : FloodState) (i b : ℕ) → s.net ≡ net → s.number ≡ i → on_arc b (reported_by s (card_of s.net s.number) 0) ≡ cond (speaks net i b) (own_message i ∷ []) []
   put_by s i b e f =
-      subst (λ z. on_arc b (told_by s (card_of s.net s.number) 0) ≡ cond (speaks z i b) (record { card = card_of z i; stamp = 0 } ∷ []) []) e
-      (subst (λ z. on_arc b (told_by s (card_of s.net s.number) 0) ≡ cond (speaks s.net z b) (record { card = card_of s.net z; stamp = 0 } ∷ []) []) f
-      (told_once s.net s.number b (record { card = card_of s.net s.number; stamp = 0 }) (subst (λ z. IsNet z) (sym e) n)))
+      subst (λ z. on_arc b (reported_by s (card_of s.net s.number) 0) ≡ cond (speaks z i b) (record { card = card_of z i; stamp = 0 } ∷ []) []) e
+      (subst (λ z. on_arc b (reported_by s (card_of s.net s.number) 0) ≡ cond (speaks s.net z b) (record { card = card_of s.net z; stamp = 0 } ∷ []) []) f
+      (reported_once s.net s.number b (record { card = card_of s.net s.number; stamp = 0 }) (subst (λ z. IsNet z) (sym e) n)))
 
   begun_past : (from b j : ℕ) (nodes : List FloodState) → AreUnbegun flooding net from nodes → speaker net b ≡ Some j → j < from → on_arc b (begun_messages flooding nodes) ≡ []
   begun_past from b j [] u e l = refl
   begun_past from b j (s ∷ nodes) u e l =
       let other : (j == from) ≡ false = grind (arith, nat_tests) in
-      rw (on_arc_join b (told_by s (card_of s.net s.number) 0) (begun_messages flooding nodes), put_by s from b u.0 u.1, speaks_other net from j b e other)
+      rw (on_arc_join b (reported_by s (card_of s.net s.number) 0) (begun_messages flooding nodes), put_by s from b u.0 u.1, speaks_other net from j b e other)
       (begun_past (from + 1) b j nodes u.3 e (omega (arith, l)))
 
   -- what waits at the start is its speaker's own card
@@ -127,13 +127,13 @@ module _ (net : PureNet) (n : IsNet net) where
   begun_at from k b j [] u e p l = absurd (omega (arith, l))
   begun_at from zero b j (s ∷ nodes) u e p l =
       let same : j ≡ from = omega (arith, p) in
-      let first : on_arc b (told_by s (card_of s.net s.number) 0) ≡ own_message j ∷ [] =
+      let first : on_arc b (reported_by s (card_of s.net s.number) 0) ≡ own_message j ∷ [] =
       put_by s j b u.0 (u.1 ∙ sym same) ∙ ap (λ t. cond t (own_message j ∷ []) []) (speaks_itself net j b e) in
       let past : on_arc b (begun_messages flooding nodes) ≡ [] = begun_past (from + 1) b j nodes u.3 e (omega (arith, same)) in
-      rw (on_arc_join b (told_by s (card_of s.net s.number) 0) (begun_messages flooding nodes), first, past) refl
+      rw (on_arc_join b (reported_by s (card_of s.net s.number) 0) (begun_messages flooding nodes), first, past) refl
   begun_at from (suc k) b j (s ∷ nodes) u e p l =
       let other : (j == from) ≡ false = grind (arith, nat_tests) in
-      rw (on_arc_join b (told_by s (card_of s.net s.number) 0) (begun_messages flooding nodes), put_by s from b u.0 u.1, speaks_other net from j b e other)
+      rw (on_arc_join b (reported_by s (card_of s.net s.number) 0) (begun_messages flooding nodes), put_by s from b u.0 u.1, speaks_other net from j b e other)
       (begun_at (from + 1) k b j nodes u.3 e (omega (arith, p)) (omega (arith, l)))
 
 -- a node that isn't begun, at its place

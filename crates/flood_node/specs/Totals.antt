@@ -16,7 +16,7 @@ use Rattle.rest_laws.specs.WayLaws.{total_more, total_plus}
 use Rattle.rest_laws.specs.Reach.{taken_on}
 use Rattle.flood_node.specs.Cards.{PureCard, PureFlooded}
 use Rattle.flood_node.specs.Node.{FloodState, has_card, flooding}
-use Rattle.flood_node.specs.Reach.{Reach, reaches, count_nodes, cards_told}
+use Rattle.flood_node.specs.Reach.{Reach, reaches, count_nodes, cards_sent}
 use Rattle.flood_node.specs.Knowing.{IsReachedCard, IsFlood}
 use Rattle.flood_node.specs.Truth.{start_floods, replays_flood, drained_holds, head_in}
 use Rattle.flood_node.specs.Counting.{by_heads, at_head, all_taken, IsCounted, counted_along, start_counted, card_count, total_alike}
@@ -87,11 +87,11 @@ module _ (net : PureNet) (n : IsNet net) (nodes : List FloodState) (u : AreUnbeg
       let head : at_head reached net.arcs b ≡ reached arc.0.head = ap (λ o. option_map_or (λ (a : PureArc). reached a.head) o 0) arc.1 in
       omega (arith, held, few, head)
 
-  all_heads : over_arcs net (at_head reached net.arcs) ≡ cards_told net
+  all_heads : over_arcs net (at_head reached net.arcs) ≡ cards_sent net
   all_heads = by_heads (length net.nodes) reached net.arcs (all_weaker (IsArcOf net.alg (length net.nodes)) (λ (a : PureArc). a.head < length net.nodes) net.arcs (λ a h. h.head_in) n.arcs_in)
 
   -- so deliveries and messages that wait are no more
-  pub deliveries_at_most : length journal + over_arcs net (λ b. length (c.link b)) ≤ cards_told net
+  pub deliveries_at_most : length journal + over_arcs net (λ b. length (c.link b)) ≤ cards_sent net
   deliveries_at_most =
       let made = all_taken net journal (Start flooding nodes) c e in
       let sums = total_plus (length net.arcs) (λ b. taken_on b journal) (λ b. length (c.link b)) in
@@ -116,7 +116,7 @@ module _ (net : PureNet) (n : IsNet net) (nodes : List FloodState) (u : AreUnbeg
       omega (arith, held, few, head, none, many)
 
   -- and where none waits there are exactly so many
-  pub drained_deliveries : Drained c → length journal ≡ cards_told net
+  pub drained_deliveries : Drained c → length journal ≡ cards_sent net
   drained_deliveries drained =
       let made = all_taken net journal (Start flooding nodes) c e in
       let each = total_alike (length net.arcs) (λ b. taken_on b journal) (at_head reached net.arcs) (drained_at drained) in
@@ -139,10 +139,10 @@ module _ (net : PureNet) (n : IsNet net) (nodes : List FloodState) (u : AreUnbeg
       by (inl none) (x ∷ l) h = let some : 1 ≤ length (c.link m) = rw h (omega arith) in inr (m, omega arith, some)
 
   -- a replay that isn't drained has fewer
-  pub fewer_deliveries : ¬ Drained c → length journal < cards_told net
+  pub fewer_deliveries : ¬ Drained c → length journal < cards_sent net
   fewer_deliveries not = by (some_waits (length net.arcs))
     where
-      by : ((b : ℕ) → b < length net.arcs → c.link b ≡ []) ⊎ ((b : ℕ) × (b < length net.arcs) × (1 ≤ length (c.link b))) → length journal < cards_told net
+      by : ((b : ℕ) → b < length net.arcs → c.link b ≡ []) ⊎ ((b : ℕ) × (b < length net.arcs) × (1 ≤ length (c.link b))) → length journal < cards_sent net
       by (inr one) =
           let most = deliveries_at_most in
           let some = total_some (length net.arcs) one.0 (λ b. length (c.link b)) one.1 in

@@ -108,7 +108,7 @@ module _ (net : PureNet) (n : IsNet net) where
           held = λ i s e. let b = begun_is i s e in rw b.0 (own_is_reached i b.1, tt);
           apart = λ i s e. rw (begun_is i s e).0 (tt, tt);
           waiting = λ a j e. rw (waits_own a j e) (own_is_reached j (head_in a j e), tt);
-          told = λ a i j k s t li sp es et h.
+          reported = λ a i j k s t li sp es et h.
               let one : (j == k) ≡ true = any_of_one (λ (c : PureCard). c.node == k) (card_of net j) (rw (begun_is j t et).0 at h) in
               inr (rw (waits_own a j sp) (any_one (λ (m : PureFlooded). m.card.node == k) (own_message net n j) one));
         }
@@ -186,9 +186,9 @@ module _ (net : PureNet) (n : IsNet net) where
         by false h = inr (kept (c.link b) (rw h refl) e)
 
     -- a card that the speaker held before is held by the listener, or waits
-    old_told : (b li sp k : ℕ) (x z : FloodState) → listener net b ≡ Some li → speaker net b ≡ Some sp → d.node li ≡ Some x → c.node sp ≡ Some z
+    old_reported : (b li sp k : ℕ) (x z : FloodState) → listener net b ≡ Some li → speaker net b ≡ Some sp → d.node li ≡ Some x → c.node sp ≡ Some z
         → holds z k ≡ true → (holds x k ≡ true) ⊎ (is_waiting (d.link b) k ≡ true)
-    old_told b li sp k x z el es ex ez hz = by (was net n c f.running a d w li x ex)
+    old_reported b li sp k x z el es ex ez hz = by (was net n c f.running a d w li x ex)
       where
         took_it : b ≡ a → m.card.node ≡ k → holds x k ≡ true
         took_it same is =
@@ -205,16 +205,16 @@ module _ (net : PureNet) (n : IsNet net) where
         had o eo (inr q) = waits (still_waits b k q)
 
         old : (o : FloodState) → c.node li ≡ Some o → (holds x k ≡ true) ⊎ (is_waiting (d.link b) k ≡ true)
-        old o eo = had o eo (f.told b li sp k o z el es eo ez hz)
+        old o eo = had o eo (f.reported b li sp k o z el es eo ez hz)
 
         by : ((li ≡ w.number) × (x ≡ new)) ⊎ (((li == w.number) ≡ false) × (c.node li ≡ Some x)) → (holds x k ≡ true) ⊎ (is_waiting (d.link b) k ≡ true)
         by (inl is) = old s (ap c.node is.0 ∙ w.there)
         by (inr is) = old x is.1
 
     -- and so is one that it holds after the delivery
-    told_after : (b li sp k : ℕ) (x y : FloodState) → listener net b ≡ Some li → speaker net b ≡ Some sp → d.node li ≡ Some x → d.node sp ≡ Some y
+    reported_after : (b li sp k : ℕ) (x y : FloodState) → listener net b ≡ Some li → speaker net b ≡ Some sp → d.node li ≡ Some x → d.node sp ≡ Some y
         → holds y k ≡ true → (holds x k ≡ true) ⊎ (is_waiting (d.link b) k ≡ true)
-    told_after b li sp k x y el es ex ey h = by (was net n c f.running a d w sp y ey)
+    reported_after b li sp k x y el es ex ey h = by (was net n c f.running a d w sp y ey)
       where
         put : (sp ≡ w.number) → holds s m.card.node ≡ false → m.card.node ≡ k → is_waiting (d.link b) k ≡ true
         put is absent same =
@@ -224,11 +224,11 @@ module _ (net : PureNet) (n : IsNet net) where
             (any_right (λ (q : PureFlooded). q.card.node == k) (changed_at c.link a w.rest b) (next ∷ []) (any_one (λ (q : PureFlooded). q.card.node == k) next test))
 
         by : ((sp ≡ w.number) × (y ≡ new)) ⊎ (((sp == w.number) ≡ false) × (c.node sp ≡ Some y)) → (holds x k ≡ true) ⊎ (is_waiting (d.link b) k ≡ true)
-        by (inr is) = old_told b li sp k x y el es ex is.1 h
+        by (inr is) = old_reported b li sp k x y el es ex is.1 h
         by (inl is) = now is.0 (held_before s a m time k (subst (λ z. holds z k ≡ true) is.1 h))
           where
             now : sp ≡ w.number → (holds s k ≡ true) ⊎ ((holds s m.card.node ≡ false) × (m.card.node ≡ k)) → (holds x k ≡ true) ⊎ (is_waiting (d.link b) k ≡ true)
-            now here (inl had) = old_told b li sp k x s el es ex (ap c.node here ∙ w.there) had
+            now here (inl had) = old_reported b li sp k x s el es ex (ap c.node here ∙ w.there) had
             now here (inr got) = inr (put here got.0 got.1)
 
     pub delivery_floods : Deliver flooding net c a ≡ Some d → IsFlood net d
@@ -239,7 +239,7 @@ module _ (net : PureNet) (n : IsNet net) where
           held = λ j t et. held_of j t (was net n c f.running a d w j t et);
           apart = λ j t et. apart_of j t (was net n c f.running a d w j t et);
           waiting = waiting_after;
-          told = told_after;
+          reported = reported_after;
         }
       where
         own_of : (j : ℕ) (t : FloodState) → ((j ≡ w.number) × (t ≡ new)) ⊎ (((j == w.number) ≡ false) × (c.node j ≡ Some t)) → holds t j ≡ true
@@ -271,4 +271,4 @@ module _ (net : PureNet) (n : IsNet net) where
       by : ((a : ℕ) × (listener net a ≡ Some i) × (speaker net a ≡ Some k)) → ((t : FloodState) → c.node k ≡ Some t → holds t j ≡ true) → holds s j ≡ true
       by arc next =
           let there = f.running.there k (head_in arc.0 k arc.2) in
-          known arc.0 (f.told arc.0 i k j s there.0 arc.1 arc.2 e there.1 (next there.0 there.1))
+          known arc.0 (f.reported arc.0 i k j s there.0 arc.1 arc.2 e there.1 (next there.0 there.1))

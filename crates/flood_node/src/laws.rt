@@ -8,10 +8,10 @@ ghost use Rattle.node_core.specs.Running.{IsRunning};
 ghost use Rattle.rest_laws.specs.Ways.{left};
 ghost use Rattle.flood_node.specs.Cards.{PureFlooded};
 ghost use Rattle.flood_node.specs.Node.{FloodState, flooding, holds};
-ghost use Rattle.flood_node.specs.Reach.{Reach, reaches, cards_told};
+ghost use Rattle.flood_node.specs.Reach.{Reach, reaches, cards_sent};
 ghost use Rattle.flood_node.specs.Knowing.{IsFlood, IsReachedCard};
 ghost use Rattle.flood_node.specs.Missing.{card_budgets};
-ghost use Rattle.flood_node.specs.Told.{AreBegun, AreFloodRows, AreTrueCards};
+ghost use Rattle.flood_node.specs.Reported.{AreBegun, AreFloodRows, AreTrueCards};
 
 use best_first::best_first_is_unique;
 
@@ -61,10 +61,10 @@ pub fn reaching_is_tested()
 pub fn deliveries_are_counted()
     ensures drained { (net : PureNet) (nodes : List FloodState) (journal : List Delivery)
         (c : Machine FloodState PureFlooded) → IsNet net → AreUnbegun flooding net 0 nodes
-        → Replay flooding net nodes journal ≡ Some c → Drained c → length journal ≡ cards_told net }
+        → Replay flooding net nodes journal ≡ Some c → Drained c → length journal ≡ cards_sent net }
     ensures fewer { (net : PureNet) (nodes : List FloodState) (journal : List Delivery)
         (c : Machine FloodState PureFlooded) → IsNet net → AreUnbegun flooding net 0 nodes
-        → Replay flooding net nodes journal ≡ Some c → ¬ Drained c → length journal < cards_told net }
+        → Replay flooding net nodes journal ≡ Some c → ¬ Drained c → length journal < cards_sent net }
 {}
 
 /// Every run of flooding nodes ends, from any machine that runs and in whatever order deliveries are made: a card that

@@ -9,10 +9,10 @@ mod card;
 mod laws;
 mod node;
 mod own_card;
+mod reported;
 mod rows;
 mod sets;
 mod telling;
-mod told;
 
 pub use card::{Card, CardArc, CardOrigin, Flooded};
 pub use laws::{

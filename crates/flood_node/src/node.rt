@@ -2,7 +2,7 @@ ghost use Rattle.std.specs.Prelude.{◌≡◌, ◌<◌, ◌++◌, ◌∷◌, [],
 ghost use Rattle.std.specs.Arc.{arc_value};
 ghost use Rattle.flood_node.specs.Cards.{PureFlooded, card_of};
 ghost use Rattle.flood_node.specs.Lawful.{flooding_is_lawful};
-ghost use Rattle.flood_node.specs.Node.{FloodState, Begin, flooding, holds, new_node, told_by};
+ghost use Rattle.flood_node.specs.Node.{FloodState, Begin, flooding, holds, new_node, reported_by};
 ghost use Rattle.flood_node.specs.Views.{noted, pure_card, pure_flooded};
 
 use crate::card::{Card, Flooded};
@@ -108,7 +108,7 @@ impl<'a> FloodNode<'a> {
           cards = self.old.cards ++ pure_card (arc_value card.now) ∷ [];
           last = clock;
         }) }
-        ensures out { OnOk result (map noted out.new ≡ told_by self.old (pure_card (arc_value card.now)) clock) }
+        ensures out { OnOk result (map noted out.new ≡ reported_by self.old (pure_card (arc_value card.now)) clock) }
         ensures err { OnErr result ((self.new ≡ self.old) × (out.new ≡ [])) }
     {
         let message = Flooded {
@@ -116,13 +116,13 @@ impl<'a> FloodNode<'a> {
             stamp: clock,
         };
         let kept = Arc::try_clone(card)?;
-        let mut told = replace(out, List::new(*self.cards.allocator())).into_vec();
-        tell(self.net, self.number, message, &mut told)?;
+        let mut reported = replace(out, List::new(*self.cards.allocator())).into_vec();
+        tell(self.net, self.number, message, &mut reported)?;
         self.cards.reserve(1)?;
         self.held.insert(card.node.0)?;
         self.cards.push(kept).unwrap();
         self.last = clock;
-        *out = List::from_vec(told);
+        *out = List::from_vec(reported);
         Ok(())
     }
 }
@@ -155,15 +155,15 @@ impl<'a> NodeCore for FloodNode<'a> {
             card: Arc::try_clone(&card)?,
             stamp: 0,
         };
-        let mut told = Vec::new(alloc);
-        tell(self.net, self.number, message, &mut told)?;
+        let mut reported = Vec::new(alloc);
+        tell(self.net, self.number, message, &mut reported)?;
         let mut held = NumberSet::new(alloc);
         held.insert(self.number.0)?;
         self.cards = vec![in alloc; card]?;
         self.held = held;
         self.is_begun = true;
         self.last = 0;
-        *out = List::from_vec(told);
+        *out = List::from_vec(reported);
         Ok(())
     }
 

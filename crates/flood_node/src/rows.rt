@@ -6,10 +6,10 @@ ghost use Rattle.net_graph.specs.Views.{pure_row};
 ghost use Rattle.flood_node.specs.FoundRows.{found_rows};
 ghost use Rattle.flood_node.specs.Node.{FloodState, holds};
 ghost use Rattle.flood_node.specs.Rows.{AreAllFound, AreAllPlaced, AreLeaders, is_placed, placed_at};
-ghost use Rattle.flood_node.specs.Told.{AreBegun, AreFloodRows, AreTrueCards};
+ghost use Rattle.flood_node.specs.Reported.{AreBegun, AreFloodRows, AreTrueCards};
 
 use crate::node::FloodNode;
-use crate::told::told_net;
+use crate::reported::reported_net;
 use alg_model::Algebra;
 use arc_labels::{NeighbourLabels, label_forms, listener_labels};
 use best_first::solve_with;
@@ -114,46 +114,46 @@ fn place_rows(
 fn place_tables<A: Algebra>(
     alloc: Global,
     algebra: &A,
-    told: &Net,
+    reported: &Net,
     labels: &NeighbourLabels<'_, A::Lab>,
     leaders: &[usize],
     leader: usize,
     found: &mut Vec<Vec<Option<RouteRow>>>,
 ) -> Result<(), NoMemory>
-    requires algebra { A.expression algebra.now ≡ told.now.alg.expression }
-    requires labels { AreListenerLabels (A.stands_for algebra.now) told.now labels.now }
-    requires leaders { length leaders.now ≡ length told.now.nodes }
-    requires dests { length found.old.items ≡ length told.now.dests }
+    requires algebra { A.expression algebra.now ≡ reported.now.alg.expression }
+    requires labels { AreListenerLabels (A.stands_for algebra.now) reported.now labels.now }
+    requires leaders { length leaders.now ≡ length reported.now.nodes }
+    requires dests { length found.old.items ≡ length reported.now.dests }
     requires nodes { AllByRecursion (λ rows. length rows ≡ length leaders.now) (found_rows found.old.items) }
-    ensures { OnOk result (AreAllPlaced told.now leaders.now leader (length told.now.dests)
+    ensures { OnOk result (AreAllPlaced reported.now leaders.now leader (length reported.now.dests)
         (found_rows found.old.items) (found_rows found.new.items)) }
 {
-    for dest in 0..told.dest_count() {
-        let table = solve_with(alloc, algebra, told, labels, DestId(dest as u32))?;
+    for dest in 0..reported.dest_count() {
+        let table = solve_with(alloc, algebra, reported, labels, DestId(dest as u32))?;
         place_rows(table.rows, leaders, leader, &mut found[dest]);
     }
     Ok(())
 }
 
 // The same, where the labels of the network's arcs aren't in the algebra's form yet.
-fn solve_told<A: Algebra>(
+fn solve_reported<A: Algebra>(
     alloc: Global,
     algebra: &A,
-    told: &Net,
+    reported: &Net,
     leaders: &[usize],
     leader: usize,
     found: &mut Vec<Vec<Option<RouteRow>>>,
 ) -> Result<(), NoMemory>
-    requires algebra { A.expression algebra.now ≡ told.now.alg.expression }
-    requires leaders { length leaders.now ≡ length told.now.nodes }
-    requires dests { length found.old.items ≡ length told.now.dests }
+    requires algebra { A.expression algebra.now ≡ reported.now.alg.expression }
+    requires leaders { length leaders.now ≡ length reported.now.nodes }
+    requires dests { length found.old.items ≡ length reported.now.dests }
     requires nodes { AllByRecursion (λ rows. length rows ≡ length leaders.now) (found_rows found.old.items) }
-    ensures { OnOk result (AreAllPlaced told.now leaders.now leader (length told.now.dests)
+    ensures { OnOk result (AreAllPlaced reported.now leaders.now leader (length reported.now.dests)
         (found_rows found.old.items) (found_rows found.new.items)) }
 {
-    let forms = label_forms(alloc, algebra, told)?;
-    let labels = listener_labels(alloc, algebra, told, &forms)?;
-    place_tables(alloc, algebra, told, &labels, leaders, leader, found)
+    let forms = label_forms(alloc, algebra, reported)?;
+    let labels = listener_labels(alloc, algebra, reported, &forms)?;
+    place_tables(alloc, algebra, reported, &labels, leaders, leader, found)
 }
 
 // Solves the network of the leader's cards for each destination, and puts the rows of the nodes that it leads in their
@@ -176,8 +176,8 @@ fn find_rows<A: Algebra>(
     ensures { OnOk result (AreAllFound net.now nodes.now leaders.now (leader + 1) (leader + 1) 0
         (found_rows found.new.items)) }
 {
-    let told = told_net(alloc, net, nodes[leader].cards())?;
-    solve_told(alloc, algebra, &told, leaders, leader, found)
+    let reported = reported_net(alloc, net, nodes[leader].cards())?;
+    solve_reported(alloc, algebra, &reported, leaders, leader, found)
 }
 
 // Adds the rows of a destination, all of which were found.

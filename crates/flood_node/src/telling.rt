@@ -1,7 +1,7 @@
 // What a node sends to those that listen to it.
 ghost use Rattle.std.specs.Prelude.{◌≡◌, ◌<◌, [], OnOk, length, map};
 ghost use Rattle.net_graph.specs.Nets.{arcs_to};
-ghost use Rattle.flood_node.specs.Node.{told_on};
+ghost use Rattle.flood_node.specs.Node.{reported_on};
 ghost use Rattle.flood_node.specs.Views.{noted, pure_flooded};
 
 use crate::card::Flooded;
@@ -17,7 +17,7 @@ pub(crate) fn tell(
 ) -> Result<(), NoMemory>
     requires out { out.old.items ≡ [] }
     requires node { node.0 < length net.now.nodes }
-    ensures { OnOk result (map noted out.new.items ≡ told_on (arcs_to net.now node.0) (pure_flooded message)) }
+    ensures { OnOk result (map noted out.new.items ≡ reported_on (arcs_to net.now node.0) (pure_flooded message)) }
 {
     tell_all(net.listeners(node), message, out)
 }

@@ -11,33 +11,33 @@ use Rattle.net_graph.specs.Tables.{PureRow, BestFirst, OnTablesFrom, joined_rows
 use Rattle.node_core.specs.Machine.{Drained}
 use Rattle.node_core.specs.MachineLaws.{all_join}
 use Rattle.flood_node.specs.Node.{FloodState, holds}
-use Rattle.flood_node.specs.Told.{AreToldRows, IsToldRow, Told}
-use Rattle.flood_node.specs.ToldLaws.{told_is_net}
+use Rattle.flood_node.specs.Reported.{AreReportedRows, IsReportedRow, Reported}
+use Rattle.flood_node.specs.ReportedLaws.{reported_is_net}
 use Rattle.flood_runs.specs.Floods.{IsFloodRun}
 
 -- ---- the rows of nodes are the network's
 
 module _ (net : PureNet) (is_net : IsNet net) (best_rows : (m : PureNet) (dest : ℕ) (t : List PureRow) → IsNet m → dest < length m.dests → BestFirst m dest t → AllByRecursion (IsRowOf m) t) where
-  route_in : (known : ℕ → Bool) (o : Option PureRoute) → IfSome o (IsRouteIn (Told net known)) → IfSome o (IsRouteIn net)
+  route_in : (known : ℕ → Bool) (o : Option PureRoute) → IfSome o (IsRouteIn (Reported net known)) → IfSome o (IsRouteIn net)
   route_in known None r = tt
   route_in known (Some o) r = record { value_in = r.value_in; path_in = r.path_in }
 
-  told_row : (dest : ℕ) → dest < length net.dests → (s : FloodState) (row : PureRow) → IsToldRow net dest s row → IsRowOf net row
-  told_row dest l s row told =
-      let at = all_at (IsRowOf (Told net (holds s))) told.table s.number row (best_rows (Told net (holds s)) dest told.table (told_is_net net (holds s) is_net) l told.best_first) told.is_row in
+  reported_row : (dest : ℕ) → dest < length net.dests → (s : FloodState) (row : PureRow) → IsReportedRow net dest s row → IsRowOf net row
+  reported_row dest l s row reported =
+      let at = all_at (IsRowOf (Reported net (holds s))) reported.table s.number row (best_rows (Reported net (holds s)) dest reported.table (reported_is_net net (holds s) is_net) l reported.best_first) reported.is_row in
       record { node_in = at.node_in; dest_in = at.dest_in; route_in = route_in (holds s) row.route at.route_in }
 
-  told_rows : (dest : ℕ) → dest < length net.dests → (states : List FloodState) (rows : List PureRow) → AreToldRows net states dest rows → AllByRecursion (IsRowOf net) rows
-  told_rows dest l [] [] told = tt
-  told_rows dest l [] (row ∷ rows) told = absurd told
-  told_rows dest l (s ∷ states) [] told = absurd told
-  told_rows dest l (s ∷ states) (row ∷ rows) told = (told_row dest l s row told.0, told_rows dest l states rows told.1)
+  reported_rows : (dest : ℕ) → dest < length net.dests → (states : List FloodState) (rows : List PureRow) → AreReportedRows net states dest rows → AllByRecursion (IsRowOf net) rows
+  reported_rows dest l [] [] reported = tt
+  reported_rows dest l [] (row ∷ rows) reported = absurd reported
+  reported_rows dest l (s ∷ states) [] reported = absurd reported
+  reported_rows dest l (s ∷ states) (row ∷ rows) reported = (reported_row dest l s row reported.0, reported_rows dest l states rows reported.1)
 
-  tables_in : (states : List FloodState) (dest : ℕ) (tables : List (List PureRow)) → OnTablesFrom (AreToldRows net states) dest tables → dest + length tables ≤ length net.dests → AllByRecursion (IsRowOf net) (joined_rows tables)
+  tables_in : (states : List FloodState) (dest : ℕ) (tables : List (List PureRow)) → OnTablesFrom (AreReportedRows net states) dest tables → dest + length tables ≤ length net.dests → AllByRecursion (IsRowOf net) (joined_rows tables)
   tables_in states dest [] are l = tt
   tables_in states dest (table ∷ tables) are l =
       all_join (IsRowOf net) table (joined_rows tables)
-      (told_rows dest (omega (arith, l)) states table are.0) (tables_in states (dest + 1) tables are.1 (omega (arith, l)))
+      (reported_rows dest (omega (arith, l)) states table are.0) (tables_in states (dest + 1) tables are.1 (omega (arith, l)))
 
   pub rows_are_the_networks : (turns : ℕ) (rows : List PureRow) (journal : List Delivery) (quiet : Bool) → IsFloodRun net turns rows journal quiet → AllByRecursion (IsRowOf net) rows
   rows_are_the_networks turns rows journal quiet is =

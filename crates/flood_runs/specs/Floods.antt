@@ -6,7 +6,7 @@ use Rattle.net_graph.specs.Nets.{PureNet}
 use Rattle.net_graph.specs.Tables.{PureRow}
 use Rattle.node_runs.specs.Runs.{IsPhaseOf}
 use Rattle.flood_node.specs.Node.{FloodState, flooding, new_node}
-use Rattle.flood_node.specs.Told.{AreFloodRows}
+use Rattle.flood_node.specs.Reported.{AreFloodRows}
 
 -- the new nodes of a network
 abbrev pub new_nodes : PureNet → List FloodState

@@ -1,6 +1,6 @@
 ghost use Rattle.std.specs.Prelude.{◌≡◌, IfOk, map};
 ghost use Rattle.net_graph.specs.Views.{pure_row};
-ghost use Rattle.flood_node.specs.Told.{AreFloodRows};
+ghost use Rattle.flood_node.specs.Reported.{AreFloodRows};
 
 use alg_model::Algebra;
 use flood_node::{FloodNode, flood_rows, replayed_nodes_are_ready};

@@ -4,7 +4,7 @@ ghost use Rattle.meta_base.specs.declared.ids.Delivery.{Delivery};
 ghost use Rattle.net_graph.specs.Nets.{PureNet, IsNet};
 ghost use Rattle.net_graph.specs.RowTexts.{IsRowOf};
 ghost use Rattle.net_graph.specs.Tables.{PureRow, BestFirst, AreRowsOfTables};
-ghost use Rattle.flood_node.specs.Reach.{cards_told};
+ghost use Rattle.flood_node.specs.Reach.{cards_sent};
 ghost use Rattle.flood_runs.specs.Floods.{IsFloodRun};
 
 use best_first::best_first_rows_are_the_networks;
@@ -23,9 +23,9 @@ pub fn quiet_floods_are_link_states()
 /// node that it reaches and each arc that it speaks on. A quiet flood made as many deliveries.
 pub fn floods_are_spent_exactly()
     ensures spent { (net : PureNet) (turns : ℕ) (rows : List PureRow) (journal : List Delivery) (quiet : Bool)
-        → IsNet net → IsFloodRun net turns rows journal quiet → (quiet ≡ false) ↔ (turns < cards_told net) }
+        → IsNet net → IsFloodRun net turns rows journal quiet → (quiet ≡ false) ↔ (turns < cards_sent net) }
     ensures quiet { (net : PureNet) (turns : ℕ) (rows : List PureRow) (journal : List Delivery)
-        → IsNet net → IsFloodRun net turns rows journal true → length journal ≡ cards_told net }
+        → IsNet net → IsFloodRun net turns rows journal true → length journal ≡ cards_sent net }
 {
     deliveries_are_counted();
 }

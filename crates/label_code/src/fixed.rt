@@ -38,6 +38,7 @@ impl<const N: usize> HeldRow for FixedRow<N> {
         Ok(FixedRow { words: self.words })
     }
 
+    #[inline(always)]
     fn rewrite(&mut self, alloc: Global, code: &[Op], row: &[Word]) -> Result<Run, NoMemory> {
         self.write_all(alloc, code, row)
     }
@@ -46,7 +47,7 @@ impl<const N: usize> HeldRow for FixedRow<N> {
 impl<const N: usize> FixedRow<N> {
     // Writes what the code makes of the row, as [`HeldRow::rewrite`] tells it. Most codes write a word in place of
     // each, `N` in all; what does something else is left to the machine, with all after it.
-    #[inline(never)]
+    #[inline(always)]
     fn write_all(&mut self, alloc: Global, code: &[Op], row: &[Word]) -> Result<Run, NoMemory>
         requires fits { Fits code.now row.now }
         requires holds { MakesOnly (λ row. has_width N row) (RunCode code.now row.now) }

@@ -1,9 +1,10 @@
-ghost use Rattle.std.specs.Prelude.{◌≡◌, ◌≢◌, Some};
+ghost use Rattle.std.specs.Prelude.{◌≡◌, ◌≢◌, ◌<◌, Some, length, slice_get};
 ghost use Rattle.label_code.specs.Orders.{RunOrder, FitsBoth, finding, by_words, by_sides, misses};
 ghost use Rattle.label_code.specs.Findings.{finding_of};
 
 use crate::pieces::{after, item, sequence};
 use crate::{OrdOp, OrderCode, Row, Word};
+use meta_base::List;
 use std::cmp::Ordering;
 
 /// Which of two rows the code prefers, both of which it fits: `Less` is the first. It takes no memory.
@@ -35,6 +36,47 @@ pub fn compare_words(code: &[OrdOp], first: &[Word], second: &[Word]) -> Orderin
             }
             unequal => return unequal,
         }
+    }
+    if code.is_empty() {
+        return Ordering::Equal;
+    }
+    compare_others(code, first, second)
+}
+
+// The same of a code whose first operation isn't `Less`, which goes to the loop that suits that operation.
+#[inline(never)]
+fn compare_others(code: &[OrdOp], first: &[Word], second: &[Word]) -> Ordering
+    requires { FitsBoth code.now first.now second.now }
+    ensures { RunOrder code.now first.now second.now ≡ Some result }
+{
+    match code {
+        [OrdOp::More, ..] | [OrdOp::Rank(_), ..] => compare_ranks(code, first, second),
+        _ => compare_steps(code, first, second),
+    }
+}
+
+// The same by numbers and ranks, which most orders compare alone, up to the first operation that does something else.
+#[inline(never)]
+fn compare_ranks(code: &[OrdOp], first: &[Word], second: &[Word]) -> Ordering
+    requires { FitsBoth code.now first.now second.now }
+    ensures { RunOrder code.now first.now second.now ≡ Some result }
+{
+    let mut code = code;
+    let mut first = first;
+    let mut second = second;
+    while let ([op, others @ ..], [m, left @ ..], [n, right @ ..]) = (code, first, second) {
+        let found = match op {
+            OrdOp::Less => m.cmp(n),
+            OrdOp::More => n.cmp(m),
+            OrdOp::Rank(ranks) => rank_of(ranks, *m).cmp(&rank_of(ranks, *n)),
+            _ => return compare_steps(code, first, second),
+        };
+        if found != Ordering::Equal {
+            return found;
+        }
+        code = others;
+        first = left;
+        second = right;
     }
     if code.is_empty() {
         return Ordering::Equal;
@@ -90,13 +132,18 @@ fn find<'a>(op: &OrdOp, first: &'a [Word], second: &'a [Word]) -> Found<'a>
         OrdOp::More => by(n.cmp(m), first, second),
         OrdOp::Length => { by(m.cmp(n), sequence(*m, first).1, sequence(*n, second).1) }
         OrdOp::Pass => Found::Tied(first, second, 0),
-        OrdOp::Rank(ranks) => {
-            let ranks = ranks.as_slice();
-            by(item(ranks, *m).cmp(&item(ranks, *n)), first, second)
-        }
+        OrdOp::Rank(ranks) => { by(rank_of(ranks, *m).cmp(&rank_of(ranks, *n)), first, second) }
         OrdOp::Sides(jump) => stated_by_sides(*m, *n, first, second, *jump),
         OrdOp::Leap(_) => unreachable!(),
     }
+}
+
+// The rank of a word.
+fn rank_of(ranks: &List<Word>, word: Word) -> Word
+    requires { word < length ranks.now }
+    ensures { slice_get ranks.now word ≡ Some result }
+{
+    item(ranks.as_slice(), word)
 }
 
 // Decided, unless the words were equal.

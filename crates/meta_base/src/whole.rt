@@ -7,8 +7,8 @@ ghost use Rattle.meta_base.specs.Sink.{Puts};
 use crate::{Failed, List, MAX_FILE_BYTES, Shelf, Sink, TakeError};
 use std::alloc::Global;
 
-// How many bytes are asked for at a time.
-const CHUNK: usize = 16384;
+// How many bytes are asked for at a time: most files are small, and a larger buffer is filled with zeros for each.
+const CHUNK: usize = 4096;
 
 // Moves the next bytes into the buffer, which has room for 4,096 bytes at least.
 fn read_on<S: Shelf>(shelf: &mut S, buf: &mut [u8]) -> Result<usize, Failed>
@@ -21,7 +21,7 @@ fn read_on<S: Shelf>(shelf: &mut S, buf: &mut [u8]) -> Result<usize, Failed>
 
 /// Takes all bytes of the file `name`, which may have at most `limit` of them.
 ///
-/// It begins one file, and each read is offered a buffer of 16,384 bytes. [`TakeError::Fault`] comes only
+/// It begins one file, and each read is offered a buffer of 4,096 bytes. [`TakeError::Fault`] comes only
 /// where the shelf's count of faults rose or where the shelf tells that it has no such file, and before the
 /// file's end was found; after any other answer the count is as it was. [`TakeError::TooLong`] comes exactly
 /// where more than `limit` bytes were taken, and then at most one buffer more. The file stays begun.

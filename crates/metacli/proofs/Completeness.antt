@@ -8,7 +8,7 @@ use Rattle.alg_model.specs.Expressions.{PureAlg, PureLabel}
 use Rattle.alg_model.specs.Application.{IsLabel}
 use Rattle.raml_syntax.specs.declared.faults.ExprFault.{ExprFault}
 use Rattle.raml_syntax.specs.ExprText.{ExprText, IsExprFault}
-use Rattle.flood_node.specs.Reach.{cards_told}
+use Rattle.flood_node.specs.Reach.{cards_sent}
 use Rattle.net_facts.specs.MissingLaws.{first_refutes}
 use Rattle.net_graph.specs.Nets.{PureNet}
 use Rattle.net_graph.specs.Tables.{PureRow}
@@ -364,8 +364,8 @@ flooded_out turns a file o h fit = ⊎_elim carried (⊎_elim unfit without) (fl
   where
     carried : floods.Came turns a file o → IsFloodedOut (changed_net file) turns o
     carried c = record {
-      ends = λ enough. inl (flood_ends turns (cards_told (changed_net file)) o c.quiet c.flood.spent (ap answer_in c.is) enough);
-      runs_out = λ few. inl (flood_runs_out turns (cards_told (changed_net file)) o c.quiet c.flood.spent (ap answer_in c.is) few);
+      ends = λ enough. inl (flood_ends turns (cards_sent (changed_net file)) o c.quiet c.flood.spent (ap answer_in c.is) enough);
+      runs_out = λ few. inl (flood_runs_out turns (cards_sent (changed_net file)) o c.quiet c.flood.spent (ap answer_in c.is) few);
     }
 
     unfit : IsUnfit (asked_of Unbeaten) file o → IsFloodedOut (changed_net file) turns o

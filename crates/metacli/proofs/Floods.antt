@@ -3,7 +3,7 @@ use Rattle.std.proofs.Common.{◌≡◌, ◌↔◌, ◌⊎◌, ℕ, ◌<◌, Boo
 use Rattle.std.specs.List.{AllByRecursion}
 use Rattle.meta_base.specs.declared.ids.Delivery.{Delivery}
 use Rattle.alg_model.specs.Expressions.{PureAlg}
-use Rattle.flood_node.specs.Reach.{cards_told}
+use Rattle.flood_node.specs.Reach.{cards_sent}
 use Rattle.flood_runs.specs.Floods.{IsFloodRun}
 use Rattle.flood_runs.specs.declared.run.FloodRun.{FloodRun}
 use Rattle.net_graph.specs.Nets.{PureNet}
@@ -24,8 +24,8 @@ use Rattle.metacli.specs.declared.routing.Solution.TheVariants.{Unbeaten}
 -- when a flood is spent, how many deliveries a quiet one makes, that its rows are those of link state, and that the rows
 -- of every flood are the network's
 pub record Laws (net : PureNet) : Type 0 where
-  pub spent : (turns : ℕ) (rows : List PureRow) (journal : List Delivery) (quiet : Bool) → IsFloodRun net turns rows journal quiet → (quiet ≡ false) ↔ (turns < cards_told net)
-  pub made : (turns : ℕ) (rows : List PureRow) (journal : List Delivery) → IsFloodRun net turns rows journal true → length journal ≡ cards_told net
+  pub spent : (turns : ℕ) (rows : List PureRow) (journal : List Delivery) (quiet : Bool) → IsFloodRun net turns rows journal quiet → (quiet ≡ false) ↔ (turns < cards_sent net)
+  pub made : (turns : ℕ) (rows : List PureRow) (journal : List Delivery) → IsFloodRun net turns rows journal true → length journal ≡ cards_sent net
   pub link_state : (turns : ℕ) (rows routed : List PureRow) (journal : List Delivery) → IsFloodRun net turns rows journal true → AreRowsOfTables net (BestFirst net) routed → rows ≡ routed
   pub rows_in : (turns : ℕ) (rows : List PureRow) (journal : List Delivery) (quiet : Bool) → IsFloodRun net turns rows journal quiet → AllByRecursion (IsRowOf net) rows
 

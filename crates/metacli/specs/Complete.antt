@@ -8,7 +8,7 @@ use Rattle.alg_model.specs.Expressions.{PureAlg}
 use Rattle.alg_model.specs.Properties.{PureProperty}
 use Rattle.raml_syntax.specs.ExprText.{ExprText, IsExprFault}
 use Rattle.raml_syntax.specs.declared.faults.ExprFault.{ExprFault}
-use Rattle.flood_node.specs.Reach.{cards_told}
+use Rattle.flood_node.specs.Reach.{cards_sent}
 use Rattle.net_graph.specs.Nets.{PureNet}
 use Rattle.topology_file.specs.NetText.{PureNetFile, NetText, IsNetFault, changed_net}
 use Rattle.topology_file.specs.declared.faults.NetFault.{NetFault}
@@ -73,8 +73,8 @@ IsRunOut o = IsDone o ⊎ (answer_in o ≡ spent)
 
 -- or all turns are used exactly where they are fewer than the cards that are sent on the network
 pub record IsFloodedOut (net : PureNet) (turns : ℕ) (o : PureOutcome) : Type 0 where
-  pub ends : cards_told net ≤ turns → IsDone o
-  pub runs_out : turns < cards_told net → IsUnlessMemory o spent
+  pub ends : cards_sent net ≤ turns → IsDone o
+  pub runs_out : turns < cards_sent net → IsUnlessMemory o spent
 
 -- what a task on an algebra is answered by
 abbrev pub IsAnsweredAlone : AlgebraTask → PureOutcome → Type 0

@@ -28,7 +28,7 @@ use Rattle.vector_runs.specs.Turns.{AreMonotone, deliveries_left, deliveries_mad
 use Rattle.demo_rest.specs.Most.{demo_turns}
 use Rattle.distance_node.specs.Rows.{PureHopRow, pure_hop_row}
 use Rattle.distance_runs.specs.Runs.{AreAsGoodRows, AreBestHops, IsDistanceRun}
-use Rattle.flood_node.specs.Reach.{cards_told}
+use Rattle.flood_node.specs.Reach.{cards_sent}
 use Rattle.flood_runs.specs.Floods.{IsFloodRun}
 use Rattle.report_text.specs.Refusals as refusal
 use Rattle.net_facts.specs.Misses.{IsFirstMissing, NetHasAll}
@@ -330,8 +330,8 @@ IsRunAs traced turns a file _ = ⊥
 -- Where it is quiet, it made as many deliveries, and its rows are those that link state finds.
 pub record IsFlood (net : PureNet) (turns : ℕ) (rows : List PureRow) (journal : List Delivery) (quiet : Bool) : Type 0 where
   pub is_run : IsFloodRun net turns rows journal quiet
-  pub spent : (quiet ≡ false) ↔ (turns < cards_told net)
-  pub made : quiet ≡ true → length journal ≡ cards_told net
+  pub spent : (quiet ≡ false) ↔ (turns < cards_sent net)
+  pub made : quiet ≡ true → length journal ≡ cards_sent net
   pub link_state : quiet ≡ true → (routed : List PureRow) → AreRowsOfTables net (BestFirst net) routed → rows ≡ routed
 
 -- What flood comes to where all was read, on the network after its changes: a flood, where its labels are fit for routes

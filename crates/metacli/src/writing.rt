@@ -42,7 +42,7 @@ use net_graph::{Net, RouteRow};
 use property_infer::Verdicts;
 use report_check::ManyHops;
 use report_text::{
-    code_lines, judgement_lines, misses_line, push_hops_line, push_row_line, refusal_line,
+    RowLines, code_lines, judgement_lines, misses_line, push_hops_line, refusal_line,
     required_line, verdict_line,
 };
 use std::alloc::Global;
@@ -330,10 +330,10 @@ pub(crate) fn put_rows<K: Sink>(
     requires { AllByRecursion (IsRowOf net.now) (map pure_row rows.now) }
     ensures { PutsText (K.holds out.old) (rows_text net.now (map pure_row rows.now)) result (K.holds out.new) }
 {
-    let mut room = room_for_lines(alloc)?;
+    let mut lines = RowLines::new(alloc, net)?;
     for row in rows {
-        push_row_line(&mut room, net, row)?;
-        put_room(out, &mut room)?;
+        lines.write(row)?;
+        put_all(out, lines.line())?;
     }
     Ok(())
 }

@@ -1,10 +1,14 @@
 -- Names and pairs as keys.
-use Rattle.std.proofs.Common.{◌≡◌, ℕ, List, [], ◌∷◌, ◌++◌, false, cond, ◌||◌, ◌&&◌, eqb, refl, ap, map, position, Global, ◌+◌, ◌∙◌, not, arith}
+use Rattle.std.proofs.Common.{◌≡◌, ◌<◌, ℕ, zero, suc, List, [], ◌∷◌, ◌++◌, Bool, true, false, cond, ◌||◌, ◌&&◌, eqb, ltb, Some, refl, sym, ap, map, length, position, slice_get, Global, ◌+◌, ◌∙◌, not, arith}
 use Rattle.std.proofs.lemmas.List.{length-map}
 use Rattle.std.proofs.lemmas.Bool.Decides.{nat_tests}
-use Rattle.std.specs.List.{list_any, prefix_len}
+use Rattle.std.proofs.lemmas.Map.Keys.{IsDistinct-head, IsDistinct-tail}
+use Rattle.std.proofs.lemmas.Option.{slice_get_within, get_or_from_slice_get}
+use Rattle.std.proofs.lemmas.Slice.Eq.{bytes_eq-Decides}
+use Rattle.std.specs.List.{list_any, prefix_len, IsDistinct}
 use Rattle.std.specs.Str.{bytes_eq}
 use Rattle.std.specs.declared.vec.Vec.{Vec}
+use Rattle.net_graph.proofs.GroupLemmas.{all_at}
 
 -- some key is the name exactly if some name is it
 pub any_key : (ks : List (Vec ℕ Global)) (name : List ℕ) → list_any (λ v. bytes_eq name v.items) ks ≡ list_any (λ n. bytes_eq name n) (map (λ v. v.items) ks)
@@ -48,3 +52,27 @@ before_pair (p ∷ ps) a b =
 -- and stands where it does
 pub place_pair : (ps : List (ℕ × ℕ)) (a b : ℕ) → position (λ p. eqb a p.0 && eqb b p.1) ps ≡ position (λ p. eqb p.0 a && eqb p.1 b) ps
 place_pair ps a b = rw (before_pair ps a b) refl
+
+-- where keys differ, a name's place is the one at which it is found
+before_named : (ks : List (Vec ℕ Global)) (i : ℕ) (k : Vec ℕ Global) (name : List ℕ) → IsDistinct (λ (a b : Vec ℕ Global). bytes_eq a.items b.items) ks → slice_get ks i ≡ Some k → k.items ≡ name
+    → prefix_len (λ n. not (bytes_eq name n)) (map (λ v. v.items) ks) ≡ i
+before_named [] i k name d e s = absurd (cc)
+before_named (x ∷ ks) zero k name d e s =
+    let here : x ≡ k = cc in
+    let same : bytes_eq name x.items ≡ true = (bytes_eq-Decides name x.items).1 (sym s ∙ ap (λ (v : Vec ℕ Global). v.items) (sym here)) in
+    rw same refl
+before_named (x ∷ ks) (suc i) k name d e s = by (bytes_eq name x.items) refl (before_named ks i k name (IsDistinct-tail (λ (a b : Vec ℕ Global). bytes_eq a.items b.items) x ks d) e s)
+  where
+    apart : bytes_eq x.items k.items ≡ false
+    apart = all_at (λ (y : Vec ℕ Global). bytes_eq x.items y.items ≡ false) ks i k (IsDistinct-head (λ (a b : Vec ℕ Global). bytes_eq a.items b.items) x ks d) (slice_get_within ks i k e) (sym (get_or_from_slice_get ks i k k e))
+
+    by : (b : Bool) → bytes_eq name x.items ≡ b → prefix_len (λ n. not (bytes_eq name n)) (map (λ v. v.items) ks) ≡ i → prefix_len (λ n. not (bytes_eq name n)) (map (λ v. v.items) (x ∷ ks)) ≡ suc i
+    by true h more = absurd (let other : bytes_eq x.items k.items ≡ false = apart in let same : bytes_eq x.items k.items ≡ true = (bytes_eq-Decides x.items k.items).1 (sym ((bytes_eq-Decides name x.items).0 h) ∙ sym s) in cc)
+    by false h more = rw h (omega (arith, more))
+
+pub named_at : (ks : List (Vec ℕ Global)) (i : ℕ) (k : Vec ℕ Global) (name : List ℕ) → IsDistinct (λ (a b : Vec ℕ Global). bytes_eq a.items b.items) ks → slice_get ks i ≡ Some k → k.items ≡ name
+    → position (λ n. bytes_eq name n) (map (λ v. v.items) ks) ≡ Some i
+named_at ks i k name d e s =
+    let inside : i < length ks = slice_get_within ks i k e in
+    let below : ltb i (length ks) ≡ true = grind (arith, nat_tests) in
+    rw (before_named ks i k name d e s, length-map ks (λ (v : Vec ℕ Global). v.items), below) refl

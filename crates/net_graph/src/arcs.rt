@@ -120,6 +120,14 @@ impl Arcs {
         self.arcs.len()
     }
 
+    /// Makes room for so many arcs more.
+    pub fn reserve(&mut self, count: usize) -> Result<(), NoMemory>
+        ensures { self.new ≡ self.old }
+    {
+        self.arcs.reserve(count)?;
+        Ok(())
+    }
+
     /// Adds an arc with a label of its own. After a refusal nothing has changed.
     pub fn push(&mut self, tail: NodeId, head: NodeId, label: Label) -> Result<(), NoMemory>
         requires { CanBeNumbered (length self.old) }

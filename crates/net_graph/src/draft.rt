@@ -100,6 +100,14 @@ impl NetDraft {
         Ok(())
     }
 
+    /// Makes room for so many arcs more at once. It adds nothing, and after a refusal nothing has changed.
+    pub fn reserve_arcs(&mut self, count: usize) -> Result<(), NoMemory>
+        ensures { self.new ≡ self.old }
+    {
+        self.known.arc_pairs.reserve(count)?;
+        self.arcs.reserve(count)
+    }
+
     /// Adds an arc, with the next number. Both are nodes and differ, no arc joins them in this
     /// direction, the label is the algebra's with numbers that a text of its edition may hold
     /// ([`alg_model::Edition::greatest_number`]), and there are fewer than [`crate::MAX_ARCS`] arcs. After a

@@ -17,6 +17,7 @@ mod out_arcs;
 mod pairs;
 mod parts;
 mod route;
+mod spots;
 
 pub use arcs::Arc;
 pub use change::Change;

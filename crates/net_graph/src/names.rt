@@ -1,16 +1,23 @@
-ghost use Rattle.std.specs.Prelude.{◌≡◌, ◌<◌, ◌++◌, ◌∷◌, [], ℕ, List, Some, None, length, slice_get, true, IfOk, OnOk, OnErr};
+ghost use Rattle.std.specs.Prelude.{◌≡◌, ◌<◌, ◌++◌, ◌∷◌, [], ℕ, List, Some, None, length, slice_get, true, IfOk, IfSome, OnOk, OnErr};
+ghost use Rattle.std.specs.Str.{bytes_eq};
 ghost use Rattle.net_graph.specs.Nets.{CanBeNumbered, is_name, number_of};
 
+use crate::spots::Spots;
 use indexmap::IndexSet;
 use meta_base::{NoMemory, Text};
 use std::alloc::Global;
 use std::marker::Model;
 use std::str;
 
+// So many bytes, or fewer, are compared one by one: that takes less than a comparison of blocks.
+const SHORT: usize = 16;
+
 // Names, numbered from 0 in order of first sight. Contracts see the list of the names.
 #[derive(Debug, Drop)]
 pub(crate) struct Names {
     names: IndexSet<Vec<u8>>,
+    // Their numbers. Where the guess is wrong, a name is looked up among all.
+    spots: Spots,
     // The same names, as they are printed.
     texts: Vec<Text>,
 }
@@ -32,6 +39,7 @@ impl Names {
     {
         Names {
             names: IndexSet::new(alloc),
+            spots: Spots::new(alloc),
             texts: Vec::new(alloc),
         }
     }
@@ -48,9 +56,26 @@ impl Names {
         requires { CanBeNumbered (length self.now) }
         ensures { result ≡ number_of self.now name.now }
     {
+        if let Some(number) = self.guessed(name) {
+            return Some(number);
+        }
         match self.names.get_index_of(name) {
             Some(number) => Some(number as u32),
             None => None,
+        }
+    }
+
+    // The number of a name, if the guess is right.
+    fn guessed(&self, name: &[u8]) -> Option<u32>
+        requires { CanBeNumbered (length self.now) }
+        ensures { IfSome result (λ number. number_of self.now name.now ≡ Some number) }
+    {
+        let number = self.spots.guess(name)?;
+        let known = self.names.as_slice().get(number)?;
+        if is_same(known.as_slice(), name) {
+            Some(number as u32)
+        } else {
+            None
         }
     }
 
@@ -79,17 +104,21 @@ impl Names {
     {
         let text = Text::copy(alloc, as_text(name))?;
         self.texts.reserve(1)?;
+        self.spots.reserve()?;
+        let number = self.texts.len();
         self.names.insert(Vec::from_slice(alloc, name)?)?;
         self.texts.push(text).unwrap();
+        self.spots.note(name, number);
         Ok(())
     }
 
-    /// The same names.
+    /// The same names. They are looked up among all.
     pub fn copy(&self, alloc: Global) -> Result<Names, NoMemory>
         ensures { IfOk result (λ copied. copied ≡ self.now) }
     {
         Ok(Names {
             names: self.names.clone()?,
+            spots: Spots::new(alloc),
             texts: copy_texts(alloc, &self.texts)?,
         })
     }
@@ -101,6 +130,25 @@ impl Names {
         let _ = self.names.pop();
         let _ = self.texts.pop();
     }
+}
+
+// Whether both are the same bytes.
+fn is_same(first: &[u8], second: &[u8]) -> bool
+    ensures { result ≡ bytes_eq first.now second.now }
+{
+    if first.len() > SHORT {
+        return first == second;
+    }
+    let mut first = first;
+    let mut second = second;
+    while let ([a, after_a @ ..], [b, after_b @ ..]) = (first, second) {
+        if a != b {
+            return false;
+        }
+        first = after_a;
+        second = after_b;
+    }
+    first.is_empty() && second.is_empty()
 }
 
 // The name as text: all of its bytes are ASCII.

@@ -56,6 +56,14 @@ impl Pairs {
         })
     }
 
+    /// Makes room for so many pairs more.
+    pub fn reserve(&mut self, count: usize) -> Result<(), NoMemory>
+        ensures { self.new ≡ self.old }
+    {
+        self.pairs.reserve(count)?;
+        Ok(())
+    }
+
     /// Adds a pair that isn't there. After a refusal nothing has changed.
     pub fn add(&mut self, first: u32, second: u32) -> Result<(), NoMemory>
         requires { has_pair self.old first second ≡ false }

@@ -5,7 +5,7 @@ use alg_model::{Algebra, TreeAlgebra};
 use meta_base::{ArcId, List, NodeId};
 use net_graph::{Net, Route, RouteRow};
 use node_core::{MAX_CLOCK, NodeCore, Outgoing};
-use path_vector::{PvNode, Shared, SharedRoute, Update, rows_of};
+use path_vector::{NodePath, PvNode, Shared, SharedRoute, Update, rows_of};
 use std::alloc::Global;
 use std::test::Fail;
 use testkit_nodes::{NOTHING, dest_of, is_route, node_of, route_of};
@@ -41,11 +41,15 @@ fn sent_last<N: NodeCore>(
 }
 
 // The route as nodes tell it.
-fn reported_of(alloc: Global, route: Option<Route>) -> Result<Option<Shared<SharedRoute>>, Fail> {
+fn reported_of(
+    alloc: Global,
+    net: &Net,
+    route: Option<Route>,
+) -> Result<Option<Shared<SharedRoute>>, Fail> {
     let Some(Route { value, path }) = route else {
         return Ok(None);
     };
-    let path = Shared::new(alloc, path)?;
+    let path = Shared::new(alloc, NodePath::new(path, net.node_count()))?;
     Ok(Some(Shared::new(alloc, SharedRoute { value, path })?))
 }
 
@@ -69,7 +73,7 @@ fn update_of(alloc: Global, net: &Net, text: &str) -> Result<(ArcId, Update), Fa
     let (dest, row) = rest.split_once(' ').ok_or("no row")?;
     let arc = ArcId(arc.parse()?);
     let dest = dest_of(net, dest)?;
-    let route = reported_of(alloc, route_of(alloc, net, row)?)?;
+    let route = reported_of(alloc, net, route_of(alloc, net, row)?)?;
     Ok((
         arc,
         Update {

@@ -1,10 +1,10 @@
 -- Marks of the nodes of a path.
-use Rattle.std.proofs.Common.{◌≡◌, ◌≢◌, ℕ, zero, suc, ◌+◌, ◌*◌, ◌/◌, ◌%◌, ◌^◌, ◌<◌, List, [], ◌∷◌, ◌++◌, Bool, true, false, not, ◌&&◌, ◌||◌, ◌==◌, length, get_or, replicate, set, take, slice_get, Some, refl, sym, ap, ◌∙◌, arith}
+use Rattle.std.proofs.Common.{◌≡◌, ◌≢◌, ℕ, zero, suc, ◌+◌, ◌*◌, ◌/◌, ◌%◌, ◌^◌, ◌<◌, List, [], ◌∷◌, ◌++◌, Bool, true, false, not, ◌&&◌, ◌||◌, ◌==◌, length, get_or, replicate, set, take, map, slice_get, Some, refl, sym, ap, ◌∙◌, arith}
 use Rattle.std.specs.Prelude.{bit_or}
 use Rattle.std.specs.Int.{bit_at}
 use Rattle.std.proofs.Common.{w64}
 use Rattle.std.proofs.Math.Nat.{div-add-mod, mod-lt}
-use Rattle.std.proofs.lemmas.Bool.{eqb-true}
+use Rattle.std.proofs.lemmas.Bool.{and_parts, eqb-true}
 use Rattle.std.proofs.lemmas.Bool.Decides.{nat_tests}
 use Rattle.std.proofs.lemmas.List.{map-append, get_or-set_same, get_or-set_other}
 use Rattle.std.proofs.lemmas.Nat.Bits.{bit_at_set_same, bit_at_set_other, bit_at-zero}
@@ -161,3 +161,45 @@ pub twice_at : (path : List NodeId) (k : ℕ) (node : NodeId) → slice_get path
 twice_at path k node at there =
     let split = numbers_split path k node at in
     sym (ap distinct split.1 ∙ not_distinct (numbers (take k path)) node.0 split.0 there)
+
+-- ---- marks that numbers share in one word
+
+-- the marks of numbers, which each shares with others
+abbrev pub folded : List ℕ → List ℕ
+folded ns = map (λ n. n % 64) ns
+
+among_folded : (ns : List ℕ) (x : ℕ) → is_among ns x ≡ true → is_among (folded ns) (x % 64) ≡ true
+among_folded [] x e = absurd (cc)
+among_folded (n ∷ ns) x e = by (n == x) refl e (among_folded ns x)
+  where
+    by : (b : Bool) → (n == x) ≡ b → (b || is_among ns x) ≡ true → (is_among ns x ≡ true → is_among (folded ns) (x % 64) ≡ true) → (n % 64 == x % 64 || is_among (folded ns) (x % 64)) ≡ true
+    by true f g more =
+        let same : n ≡ x = eqb-true n x f in
+        let itself : (x % 64 == x % 64) ≡ true = grind (arith, nat_tests) in
+        rw (same, itself) refl
+    by false f g more = rw (more g) (or_true (n % 64 == x % 64))
+
+-- numbers whose marks are apart are apart
+pub folded_distinct : (ns : List ℕ) → distinct (folded ns) ≡ true → distinct ns ≡ true
+folded_distinct [] e = refl
+folded_distinct (n ∷ ns) e =
+    let both = and_parts (not (is_among (folded ns) (n % 64))) (distinct (folded ns)) e in
+    rw (apart (is_among ns n) refl both.0, folded_distinct ns both.1) refl
+  where
+    apart : (b : Bool) → is_among ns n ≡ b → not (is_among (folded ns) (n % 64)) ≡ true → is_among ns n ≡ false
+    apart false f g = f
+    apart true f g = absurd (let there = among_folded ns n f in cc)
+
+folded_take : (path : List NodeId) (k : ℕ) (node : NodeId) → slice_get path k ≡ Some node → folded (numbers (take (k + 1) path)) ≡ folded (numbers (take k path)) ++ node.0 % 64 ∷ []
+folded_take path k node e =
+    let next : suc k ≡ k + 1 = omega arith in
+    ap (λ z. folded (numbers (take z path))) (sym next) ∙ ap folded (numbers_take path k node e) ∙ map-append {B = ℕ} (λ n. n % 64) (numbers (take k path)) (node.0 ∷ [])
+
+pub folded_marked : (was now : ℕ → Bool) (path : List NodeId) (k : ℕ) (node : NodeId) → slice_get path k ≡ Some node → ((i : ℕ) → was i ≡ is_among (folded (numbers (take k path))) i)
+    → ((i : ℕ) → now i ≡ (was i || node.0 % 64 == i)) → (i : ℕ) → now i ≡ is_among (folded (numbers (take (k + 1) path))) i
+folded_marked was now path k node at e f i =
+    marked_end was now (folded (numbers (take k path))) (node.0 % 64) e f i ∙ ap (λ ns. is_among ns i) (sym (folded_take path k node at))
+
+pub folded_once : (path : List NodeId) (k : ℕ) (node : NodeId) → slice_get path k ≡ Some node → is_among (folded (numbers (take k path))) (node.0 % 64) ≡ false → distinct (folded (numbers (take k path))) ≡ true
+    → distinct (folded (numbers (take (k + 1) path))) ≡ true
+folded_once path k node at misses once = ap distinct (folded_take path k node at) ∙ distinct_end (folded (numbers (take k path))) (node.0 % 64) misses once

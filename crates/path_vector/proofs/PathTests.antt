@@ -67,12 +67,10 @@ one_test false true h d = absurd (let e = h.1 (d.0 refl) in cc)
 pub all_but_last : (a b c d e x : Bool) → a ≡ true → b ≡ true → c ≡ true → d ≡ true → x ≡ e → x ≡ (a && b && c && d && e)
 all_but_last a b c d e x p q r s h = rw (p, q, r, s) h
 
-pub fourth_fails : (a b c d e : Bool) → a ≡ true → b ≡ true → d ≡ false → false ≡ (a && b && c && d && e)
-fourth_fails a b true d e p q r = rw (p, q, r) refl
-fourth_fails a b false d e p q r = rw (p, q) refl
-
-pub third_fails : (a b c d e : Bool) → a ≡ true → b ≡ true → c ≡ false → false ≡ (a && b && c && d && e)
-third_fails a b c d e p q r = rw (p, q, r) refl
+pub path_fails : (a b c d e : Bool) → a ≡ true → b ≡ true → (d && c) ≡ false → false ≡ (a && b && c && d && e)
+path_fails a b true true e p q r = absurd (cc)
+path_fails a b true false e p q r = rw (p, q) refl
+path_fails a b false d e p q r = rw (p, q) refl
 
 -- what is below one bound is below a greater one
 pub all_below_more : (path : List NodeId) (few many : ℕ) → few ≤ many → list_all (λ (n : NodeId). nat_lt n.0 few) path ≡ true → list_all (λ (n : NodeId). nat_lt n.0 many) path ≡ true

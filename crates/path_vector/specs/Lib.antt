@@ -15,6 +15,7 @@ pub mod Quiet
 pub mod RowLists
 pub mod Runs
 pub mod Settling
+pub mod Simple
 pub mod Starting
 pub mod State
 pub mod Reporting

@@ -71,7 +71,7 @@ pub(crate) fn choose<A: Algebra>(
         keep_better(site.algebra, &mut best, after, spare);
     }
     match best {
-        Some(offer) => Ok(Some(taken_by(alloc, site.node, offer)?)),
+        Some(offer) => Ok(Some(taken_by(alloc, site.net, site.node, offer)?)),
         None => Ok(None),
     }
 }

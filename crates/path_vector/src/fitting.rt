@@ -7,7 +7,7 @@ ghost use Rattle.path_vector.specs.Node.{may_be_of};
 ghost use Rattle.path_vector.specs.Updates.{pure_shared, pure_update};
 ghost use Rattle.path_vector.specs.Words.{fits_on};
 
-use crate::paths::{are_below, has_each_once, starts_at};
+use crate::paths::starts_at;
 use crate::update::{SharedRoute, Update};
 use alg_model::{Amount, Value, is_at_most, value_in};
 use meta_base::NodeId;
@@ -32,10 +32,7 @@ fn may_be_of(net: &Net, speaker: NodeId, route: &SharedRoute) -> bool
     if !starts_at(path, speaker) {
         return false;
     }
-    if !are_below(path, net.node_count()) {
-        return false;
-    }
-    if !has_each_once(path) {
+    if !route.path.get().is_simple(net.node_count()) {
         return false;
     }
     let greatest = path.len() as Amount * (net.edition().greatest_number() as Amount + 1);

@@ -7,6 +7,7 @@ ghost use Rattle.path_vector.specs.Known.{known_route};
 ghost use Rattle.path_vector.specs.Node.{same_route};
 ghost use Rattle.path_vector.specs.Updates.{pure_shared};
 
+use crate::node_path::NodePath;
 use crate::shared::Shared;
 use crate::update::SharedRoute;
 use alg_model::{Algebra, same_value};
@@ -21,7 +22,7 @@ use std::cmp::Ordering;
 #[derive(Drop)]
 pub(crate) struct Known<S> {
     pub sig: S,
-    pub path: Shared<List<NodeId>>,
+    pub path: Shared<NodePath>,
 }
 
 // An equal path.

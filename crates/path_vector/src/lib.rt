@@ -13,6 +13,7 @@ mod marks;
 mod neighbour;
 mod neighbours;
 mod node;
+mod node_path;
 mod offer;
 mod own;
 mod paths;
@@ -28,6 +29,7 @@ pub use laws::{
     quiet_runs_are_stable, runs_are_coherent,
 };
 pub use node::PvNode;
+pub use node_path::NodePath;
 pub use rows::rows_of;
 pub use shared::Shared;
 pub use update::{SharedRoute, Update};

@@ -6,7 +6,7 @@ use meta_base::NodeId;
 use net_graph::MOST_NODES;
 
 // How many nodes a word has marks of.
-const WORD_BITS: u32 = u64::BITS;
+pub(crate) const WORD_BITS: u32 = u64::BITS;
 
 // How many words have marks of the nodes of any network.
 pub(crate) const MARK_WORDS: usize = MOST_NODES / WORD_BITS as usize;

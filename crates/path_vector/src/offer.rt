@@ -7,6 +7,7 @@ ghost use Rattle.path_vector.specs.Known.{better_of, MayOffer};
 ghost use Rattle.path_vector.specs.Node.{offer_by};
 
 use crate::known::Known;
+use crate::node_path::NodePath;
 use crate::paths::passes;
 use crate::shared::Shared;
 use alg_model::Algebra;
@@ -131,6 +132,7 @@ pub(crate) fn keep_better<'p, A: Algebra>(
 // The offer as a route that the node knows.
 pub(crate) fn taken_by<S: Drop>(
     alloc: Global,
+    net: &Net,
     node: NodeId,
     offer: Offer<'_, S>,
 ) -> Result<Known<S>, NoMemory>
@@ -142,6 +144,6 @@ pub(crate) fn taken_by<S: Drop>(
     path.extend_from_slice(offer.after)?;
     Ok(Known {
         sig: offer.sig,
-        path: Shared::new(alloc, List::from_vec(path))?,
+        path: Shared::new(alloc, NodePath::new(List::from_vec(path), net.node_count()))?,
     })
 }

@@ -1,13 +1,14 @@
 // Tests of paths.
-ghost use Rattle.std.specs.Prelude.{◌≡◌, ◌==◌, ◌∷◌, ℕ, nat_lt, true};
+ghost use Rattle.std.specs.Prelude.{◌≡◌, ◌≤◌, ◌==◌, ◌∷◌, ℕ, nat_lt, true};
 ghost use Rattle.std.specs.List.{list_all, list_any};
 ghost use Rattle.meta_base.specs.NodePaths.{numbers};
 ghost use Rattle.net_graph.specs.declared.limits.TheConstants.{MOST_NODES};
 ghost use Rattle.alg_model.specs.Carriers.{distinct};
 ghost use Rattle.path_vector.specs.Node.{begins_with};
 ghost use Rattle.path_vector.specs.Settling.{is_next};
+ghost use Rattle.path_vector.specs.Simple.{is_simple};
 
-use crate::marks::{MARK_WORDS, is_marked, mark};
+use crate::marks::{MARK_WORDS, WORD_BITS, is_marked, mark};
 use meta_base::NodeId;
 
 // Whether the path passes the node.
@@ -51,17 +52,34 @@ pub(crate) fn is_second(path: &[NodeId], node: NodeId) -> bool
 const SHORT_PATH: usize = 12;
 
 // Whether no node is on the path twice. The nodes are those of a network.
-pub(crate) fn has_each_once(path: &[NodeId]) -> bool
+fn has_each_once(path: &[NodeId]) -> bool
     requires { list_all (λ n. nat_lt n.0 MOST_NODES) path.now ≡ true }
     ensures { result ≡ distinct (numbers path.now) }
 {
     if path.len() <= SHORT_PATH {
-        return has_none_before_itself(path);
+        return are_apart(path) || has_none_before_itself(path);
     }
     has_each_marked_once(path)
 }
 
+// Whether the nodes of the path are apart from each other by their marks in one word, which each shares with others.
+// Then none is on it twice, and most short paths are so.
+fn are_apart(path: &[NodeId]) -> bool
+    ensures { result ≡ true → distinct (numbers path.now) ≡ true }
+{
+    let mut passed = [0; 1];
+    for node in path {
+        let shared = NodeId(node.0 % WORD_BITS);
+        if is_marked(&passed, shared) {
+            return false;
+        }
+        mark(&mut passed, shared);
+    }
+    true
+}
+
 // Whether no node is on the path twice, by a look at all in front of each.
+#[inline(never)]
 fn has_none_before_itself(path: &[NodeId]) -> bool
     ensures { result ≡ distinct (numbers path.now) }
 {
@@ -74,6 +92,7 @@ fn has_none_before_itself(path: &[NodeId]) -> bool
 }
 
 // Whether no node is on the path twice, by marks. The nodes are those of a network.
+#[inline(never)]
 fn has_each_marked_once(path: &[NodeId]) -> bool
     requires { list_all (λ n. nat_lt n.0 MOST_NODES) path.now ≡ true }
     ensures { result ≡ distinct (numbers path.now) }
@@ -88,8 +107,17 @@ fn has_each_marked_once(path: &[NodeId]) -> bool
     true
 }
 
+// Whether all nodes of the path are of a network of so many, and none is on it twice.
+#[inline(never)]
+pub(crate) fn is_simple(path: &[NodeId], count: usize) -> bool
+    requires { count ≤ MOST_NODES }
+    ensures { result ≡ is_simple count path.now }
+{
+    are_below(path, count) && has_each_once(path)
+}
+
 // Whether all nodes of the path are below this number.
-pub(crate) fn are_below(path: &[NodeId], count: usize) -> bool
+fn are_below(path: &[NodeId], count: usize) -> bool
     ensures { result ≡ list_all (λ n. nat_lt n.0 count) path.now }
 {
     path.iter().all(|node| (node.0 as usize) < count)

@@ -183,6 +183,6 @@ pub(crate) fn rechoose<A: Algebra>(
     let Some(offer) = take_offer(after_offer, spare) else {
         return Ok(None);
     };
-    let row = Some(taken_by(alloc, site.node, offer)?);
+    let row = Some(taken_by(alloc, site.net, site.node, offer)?);
     change_of(alloc, site, before, row, dest, arrival.clock)
 }

@@ -1,6 +1,6 @@
 ghost use Rattle.std.specs.Prelude.{◌≡◌, IfOk};
 
-use meta_base::{List, NoMemory};
+use meta_base::NoMemory;
 use std::alloc::Global;
 use std::marker::Model;
 use std::sync::Arc;
@@ -46,14 +46,5 @@ impl<T> Shared<T> {
         ensures { result.now ≡ self.now }
     {
         &self.value
-    }
-}
-
-impl<T> Shared<List<T>> {
-    /// Lends the items of the list in order.
-    pub fn as_slice(&self) -> &[T]
-        ensures { result.now ≡ self.now }
-    {
-        self.get().as_slice()
     }
 }

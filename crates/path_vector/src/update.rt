@@ -1,15 +1,16 @@
 ghost use Rattle.std.specs.Prelude.{◌≡◌, IfOk};
 
+use crate::node_path::NodePath;
 use crate::shared::Shared;
 use alg_model::Value;
-use meta_base::{DestId, List, NoMemory, NodeId};
+use meta_base::{DestId, NoMemory};
 
 /// A route as it is reported: its value, and the path from the speaker to the origin. All who keep what they heard
 /// share the path.
 #[derive(Debug, Drop)]
 pub struct SharedRoute {
     pub value: Value,
-    pub path: Shared<List<NodeId>>,
+    pub path: Shared<NodePath>,
 }
 
 /// What a node tells those that may route by it: its route for a destination, which all of them share, or that it

@@ -1,2 +1,4 @@
+mod ExtremeLaws
 mod StepLaws
 mod Places
+mod DecidingLaws

@@ -14,21 +14,22 @@ use Rattle.base_classes.specs.Lists.{candidate}
 use Rattle.base_classes.specs.CandidateLaws.{has_candidate, label_bounded}
 use Rattle.table_classes.specs.Rows.{IsTable}
 use Rattle.table_classes.specs.RowLaws.{each_row, row_bound}
-use Rattle.profile_labels.specs.declared.labelled.Labelled.{Labelled}
+use Rattle.profile_labels.specs.declared.outlined.Outlined.{Outlined}
 use Rattle.profile_labels.specs.Growth.{Grown}
-use Rattle.profile_labels.specs.Labels.{AreDistinct, IsLabelWith, LabelledOf, IsCoveredBy, CoversBy}
+use Rattle.profile_labels.specs.Labels.{IsLabelWith}
+use Rattle.profile_labels.specs.Outlines.{AreDistinct, OutlinedOf, IsCoveredBy, CoversBy}
 use Rattle.profile_labels.specs.Places.{HasBefore}
 
 -- an empty list has none before the first place
-pub none_before : (a : PureAlg) (label_at : ℕ → PureLabel) (xs : List Labelled) → xs ≡ [] → HasBefore a label_at 0 xs
+pub none_before : (a : PureAlg) (label_at : ℕ → PureLabel) (xs : List Outlined) → xs ≡ [] → HasBefore a label_at 0 xs
 none_before a label_at xs empty = record {
   distinct = subst AreDistinct (sym empty) tt;
-  each = subst (AllByRecursion (LabelledOf a)) (sym empty) tt;
+  each = subst (AllByRecursion (OutlinedOf a)) (sym empty) tt;
   before = λ p k. absurd (omega (arith, k));
 }
 
 -- the next place, where its label is covered
-one_more : (a : PureAlg) (label_at : ℕ → PureLabel) (place : ℕ) (xs : List Labelled) → HasBefore a label_at place xs
+one_more : (a : PureAlg) (label_at : ℕ → PureLabel) (place : ℕ) (xs : List Outlined) → HasBefore a label_at place xs
     → (IsLabel a.expression (label_at place) → IsCoveredBy a xs (label_at place)) → HasBefore a label_at (place + 1) xs
 one_more a label_at place xs h has = record {
   distinct = h.distinct;
@@ -40,13 +41,13 @@ one_more a label_at place xs h has = record {
 }
 
 -- so too where there is no label
-pub none_more : (a : PureAlg) (label_at : ℕ → PureLabel) (place : ℕ) (xs : List Labelled) → ¬ IsLabel a.expression (label_at place)
+pub none_more : (a : PureAlg) (label_at : ℕ → PureLabel) (place : ℕ) (xs : List Outlined) → ¬ IsLabel a.expression (label_at place)
     → HasBefore a label_at place xs → HasBefore a label_at (place + 1) xs
 none_more a label_at place xs none h = one_more a label_at place xs h (λ i. absurd (none i))
 
 -- and where it is added
-pub added_more : (a : PureAlg) (label_at : ℕ → PureLabel) (place : ℕ) (old new : List Labelled) (p : Profile) → IsLabelWith a (label_at place) p
-    → HasBefore a label_at place old → Grown (LabelledOf a) (Only p) old new → HasBefore a label_at (place + 1) new
+pub added_more : (a : PureAlg) (label_at : ℕ → PureLabel) (place : ℕ) (old new : List Outlined) (p : Profile) → IsLabelWith a (label_at place) p
+    → HasBefore a label_at place old → Grown (OutlinedOf a) (Only p) old new → HasBefore a label_at (place + 1) new
 added_more a label_at place old new p is h grown = one_more a label_at place new (record {
   distinct = grown.distinct h.distinct;
   each = grown.each h.each;
@@ -71,7 +72,7 @@ base_with a l p is base i profile = record {
 }
 
 -- all rows cover a table
-pub rows_cover : (a : PureAlg) (place : ℕ) (xs : List Labelled) → IsTable a.expression
+pub rows_cover : (a : PureAlg) (place : ℕ) (xs : List Outlined) → IsTable a.expression
     → ((r : ℕ) → IsLabel a.expression (row_label r) → r < place) → HasBefore a row_label place xs → CoversBy a xs
 rows_cover a place xs table below h = record {
   distinct = h.distinct;
@@ -80,7 +81,7 @@ rows_cover a place xs table below h = record {
 }
 
 -- all that are tried cover another base algebra
-pub candidates_cover : (a : PureAlg) (place : ℕ) (xs : List Labelled) → IsAlg a → IsBase a.expression → 4 ≤ place
+pub candidates_cover : (a : PureAlg) (place : ℕ) (xs : List Outlined) → IsAlg a → IsBase a.expression → 4 ≤ place
     → HasBefore a (candidate a.expression) place xs → CoversBy a xs
 candidates_cover a place xs is base all h = record {
   distinct = h.distinct;

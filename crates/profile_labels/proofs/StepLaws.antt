@@ -26,19 +26,20 @@ use Rattle.scoped_classes.specs.ScopedLaws.{outer_rule_is_exact, inner_rule_is_e
 use Rattle.union_classes.specs.LabelLaws.{sum_profile_of, first_profile_of, second_profile_of, plus_first_profile_of, plus_second_profile_of}
 use Rattle.union_classes.specs.Sums.{beside_profile, first_profile, second_profile}
 use Rattle.profile_labels.specs.declared.joint.Joint.TheVariants.{Lex, Sum}
-use Rattle.profile_labels.specs.declared.labelled.Labelled.{Labelled}
+use Rattle.profile_labels.specs.declared.outlined.Outlined.{Outlined}
 use Rattle.profile_labels.specs.declared.step.Step.{Step}
 use Rattle.profile_labels.specs.declared.step.Step.TheVariants.{UnionFirst, UnionSecond, PlusFirst, PlusSecond}
-use Rattle.profile_labels.specs.Labels.{AreDistinct, IsLabelWith, LabelledOf, IsCoveredBy, CoversBy}
+use Rattle.profile_labels.specs.Labels.{IsLabelWith}
+use Rattle.profile_labels.specs.Outlines.{outline_label, AreDistinct, OutlinedOf, IsCoveredBy, CoversBy}
 use Rattle.profile_labels.specs.Growth.{Grown, Over}
 use Rattle.profile_labels.specs.Steps.{step_label, step_profile, Makes, Joins}
 
 -- what is made of a label with its profile is one
-pub made : (a c : PureAlg) (s : Step) (x z : Labelled) → Makes s a c → LabelledOf a x → z.profile ≡ step_profile s x.profile
-    → pure_label z.label ≡ step_label s (pure_label x.label) → LabelledOf c z
+pub made : (a c : PureAlg) (s : Step) (x z : Outlined) → Makes s a c → OutlinedOf a x → z.profile ≡ step_profile s x.profile
+    → outline_label z.outline.value ≡ step_label s (outline_label x.outline.value) → OutlinedOf c z
 made a c s x z makes is profile label =
     subst (λ l. IsLabelWith c l z.profile) (sym label)
-    (subst (IsLabelWith c (step_label s (pure_label x.label))) (sym profile) (makes (pure_label x.label) x.profile is))
+    (subst (IsLabelWith c (step_label s (outline_label x.outline.value))) (sym profile) (makes (outline_label x.outline.value) x.profile is))
 
 -- a copy of a class's label has the class's profile
 pub label_of_class : (a : PureAlg) (class : Class) (l : PureLabel) → ClassOf a class → l ≡ pure_label class.label → IsLabelWith a l class.profile
@@ -52,18 +53,18 @@ pub first_or_rest : (class : Class) (classes : List Class) (p : Profile) → Has
 first_or_rest class classes p h = ⊎_elim (λ e. inl (sym e)) (λ g. inr g) h
 
 -- an empty list has none of another kind, and no two of one profile
-begun : (P : Labelled → Type 0) (old : List Labelled) → old ≡ [] → AllByRecursion P old
+begun : (P : Outlined → Type 0) (old : List Outlined) → old ≡ [] → AllByRecursion P old
 begun P old empty = subst (AllByRecursion P) (sym empty) tt
 
-begun_distinct : (old : List Labelled) → old ≡ [] → AreDistinct old
+begun_distinct : (old : List Outlined) → old ≡ [] → AreDistinct old
 begun_distinct old empty = subst AreDistinct (sym empty) tt
 
 -- the labels of classes that cover an algebra cover it
-pub classes_cover : (a : PureAlg) (classes : List Class) (old xs : List Labelled) → old ≡ [] → Covers a classes
-    → Grown (LabelledOf a) (HasProfile classes) old xs → CoversBy a xs
+pub classes_cover : (a : PureAlg) (classes : List Class) (old xs : List Outlined) → old ≡ [] → Covers a classes
+    → Grown (OutlinedOf a) (HasProfile classes) old xs → CoversBy a xs
 classes_cover a classes old xs empty covers g = record {
   distinct = g.distinct (begun_distinct old empty);
-  each = g.each (begun (LabelledOf a) old empty);
+  each = g.each (begun (OutlinedOf a) old empty);
   labels = λ l i. let c = covers.labels l i in (c.0, c.1, g.reached c.0 c.2);
 }
 
@@ -159,11 +160,11 @@ each_of_scoped a b P f g (outer l v) is = f l v is.0 is.1
 each_of_scoped a b P f g (inner m) is = g m is
 each_of_scoped a b P f g _ is = absurd is
 
-pub lex_covers : (a b : Expression) (e : Edition) (xs ys old zs : List Labelled) → IsFormed (lex a b) → old ≡ [] → CoversBy (alg_in a e) xs → CoversBy (alg_in b e) ys
-    → Grown (LabelledOf (alg_in (lex a b) e)) (Over (λ p. Over (λ q. Only (pair_profile p q)) ys) xs) old zs → CoversBy (alg_in (lex a b) e) zs
+pub lex_covers : (a b : Expression) (e : Edition) (xs ys old zs : List Outlined) → IsFormed (lex a b) → old ≡ [] → CoversBy (alg_in a e) xs → CoversBy (alg_in b e) ys
+    → Grown (OutlinedOf (alg_in (lex a b) e)) (Over (λ p. Over (λ q. Only (pair_profile p q)) ys) xs) old zs → CoversBy (alg_in (lex a b) e) zs
 lex_covers a b e xs ys old zs formed empty cx cy g = record {
   distinct = g.distinct (begun_distinct old empty);
-  each = g.each (begun (LabelledOf (alg_in (lex a b) e)) old empty);
+  each = g.each (begun (OutlinedOf (alg_in (lex a b) e)) old empty);
   labels = each_pair a b (IsCoveredBy (alg_in (lex a b) e) zs) (λ l m i j.
       let s = cx.labels l i in
       let t = cy.labels m j in
@@ -171,11 +172,11 @@ lex_covers a b e xs ys old zs formed empty cx cy g = record {
       (r, rule_is_exact s.0 t.0 a b l m formed i j s.1 t.1, g.reached r (s.0, s.2, (t.0, t.2, refl))));
 }
 
-pub sum_covers : (a b : Expression) (e : Edition) (xs ys old zs : List Labelled) → IsFormed (sum a b) → old ≡ [] → CoversBy (alg_in a e) xs → CoversBy (alg_in b e) ys
-    → Grown (LabelledOf (alg_in (sum a b) e)) (Over (λ p. Over (λ q. Only (beside_profile p q)) ys) xs) old zs → CoversBy (alg_in (sum a b) e) zs
+pub sum_covers : (a b : Expression) (e : Edition) (xs ys old zs : List Outlined) → IsFormed (sum a b) → old ≡ [] → CoversBy (alg_in a e) xs → CoversBy (alg_in b e) ys
+    → Grown (OutlinedOf (alg_in (sum a b) e)) (Over (λ p. Over (λ q. Only (beside_profile p q)) ys) xs) old zs → CoversBy (alg_in (sum a b) e) zs
 sum_covers a b e xs ys old zs formed empty cx cy g = record {
   distinct = g.distinct (begun_distinct old empty);
-  each = g.each (begun (LabelledOf (alg_in (sum a b) e)) old empty);
+  each = g.each (begun (OutlinedOf (alg_in (sum a b) e)) old empty);
   labels = each_both a b (IsCoveredBy (alg_in (sum a b) e) zs) (λ l m i j.
       let s = cx.labels l i in
       let t = cy.labels m j in
@@ -183,37 +184,37 @@ sum_covers a b e xs ys old zs formed empty cx cy g = record {
       (r, sum_profile_of a b l m s.0 t.0 formed i j s.1 t.1, g.reached r (s.0, s.2, (t.0, t.2, refl))));
 }
 
-pub union_covers : (a b : Expression) (e : Edition) (xs ys old mid zs : List Labelled) → IsFormed (union a b) → old ≡ []
+pub union_covers : (a b : Expression) (e : Edition) (xs ys old mid zs : List Outlined) → IsFormed (union a b) → old ≡ []
     → CoversBy (alg_in a e) xs → CoversBy (alg_in b e) ys
-    → Grown (LabelledOf (alg_in (union a b) e)) (Over (λ p. Only (first_profile p)) xs) old mid
-    → Grown (LabelledOf (alg_in (union a b) e)) (Over (λ q. Only (second_profile q)) ys) mid zs → CoversBy (alg_in (union a b) e) zs
+    → Grown (OutlinedOf (alg_in (union a b) e)) (Over (λ p. Only (first_profile p)) xs) old mid
+    → Grown (OutlinedOf (alg_in (union a b) e)) (Over (λ q. Only (second_profile q)) ys) mid zs → CoversBy (alg_in (union a b) e) zs
 union_covers a b e xs ys old mid zs formed empty cx cy g h = record {
   distinct = h.distinct (g.distinct (begun_distinct old empty));
-  each = h.each (g.each (begun (LabelledOf (alg_in (union a b) e)) old empty));
+  each = h.each (g.each (begun (OutlinedOf (alg_in (union a b) e)) old empty));
   labels = each_of_union a b (IsCoveredBy (alg_in (union a b) e) zs)
       (λ l i. let s = cx.labels l i in let r = first_profile s.0 in (r, first_profile_of a b l s.0 formed i s.1, h.kept r (g.reached r (s.0, s.2, refl))))
       (λ m i. let t = cy.labels m i in let r = second_profile t.0 in (r, second_profile_of a b m t.0 formed i t.1, h.reached r (t.0, t.2, refl)));
 }
 
-pub plus_covers : (a b : Expression) (e : Edition) (xs ys old mid zs : List Labelled) → IsFormed (plus a b) → old ≡ []
+pub plus_covers : (a b : Expression) (e : Edition) (xs ys old mid zs : List Outlined) → IsFormed (plus a b) → old ≡ []
     → CoversBy (alg_in a e) xs → CoversBy (alg_in b e) ys
-    → Grown (LabelledOf (alg_in (plus a b) e)) (Over (λ p. Only p) xs) old mid
-    → Grown (LabelledOf (alg_in (plus a b) e)) (Over (λ q. Only q) ys) mid zs → CoversBy (alg_in (plus a b) e) zs
+    → Grown (OutlinedOf (alg_in (plus a b) e)) (Over (λ p. Only p) xs) old mid
+    → Grown (OutlinedOf (alg_in (plus a b) e)) (Over (λ q. Only q) ys) mid zs → CoversBy (alg_in (plus a b) e) zs
 plus_covers a b e xs ys old mid zs formed empty cx cy g h = record {
   distinct = h.distinct (g.distinct (begun_distinct old empty));
-  each = h.each (g.each (begun (LabelledOf (alg_in (plus a b) e)) old empty));
+  each = h.each (g.each (begun (OutlinedOf (alg_in (plus a b) e)) old empty));
   labels = each_of_plus a b (IsCoveredBy (alg_in (plus a b) e) zs)
       (λ l i. let s = cx.labels l i in (s.0, plus_first_profile_of a b l s.0 s.1, h.kept s.0 (g.reached s.0 (s.0, s.2, refl))))
       (λ m i. let t = cy.labels m i in (t.0, plus_second_profile_of a b m t.0 (formed_plus a b formed).2 t.1, h.reached t.0 (t.0, t.2, refl)));
 }
 
-pub scoped_covers : (a b : Expression) (e : Edition) (c d : PureCarrier) (xs ys old mid zs : List Labelled) → IsFormed (scoped a b) → old ≡ []
+pub scoped_covers : (a b : Expression) (e : Edition) (c d : PureCarrier) (xs ys old mid zs : List Outlined) → IsFormed (scoped a b) → old ≡ []
     → c ≡ carrier_of a → d ≡ carrier_of b → CoversBy (alg_in a e) xs → CoversBy (alg_in b e) ys
-    → Grown (LabelledOf (alg_in (scoped a b) e)) (Over (OfOuters d) xs) old mid
-    → Grown (LabelledOf (alg_in (scoped a b) e)) (Over (λ q. Only (inner_rule c q)) ys) mid zs → CoversBy (alg_in (scoped a b) e) zs
+    → Grown (OutlinedOf (alg_in (scoped a b) e)) (Over (OfOuters d) xs) old mid
+    → Grown (OutlinedOf (alg_in (scoped a b) e)) (Over (λ q. Only (inner_rule c q)) ys) mid zs → CoversBy (alg_in (scoped a b) e) zs
 scoped_covers a b e c d xs ys old mid zs formed empty same_c same_d cx cy g h = record {
   distinct = h.distinct (g.distinct (begun_distinct old empty));
-  each = h.each (g.each (begun (LabelledOf (alg_in (scoped a b) e)) old empty));
+  each = h.each (g.each (begun (OutlinedOf (alg_in (scoped a b) e)) old empty));
   labels = each_of_scoped a b (IsCoveredBy (alg_in (scoped a b) e) zs)
       (λ l v is i.
       let p = cx.labels l is in
@@ -229,7 +230,7 @@ scoped_covers a b e c d xs ys old mid zs formed empty same_c same_d cx cy g h = 
 }
 
 -- The best value and the worst, where there is one, make the profiles of all labels that set the second part.
-pub grown_by_best : (P : Labelled → Type 0) (d : PureCarrier) (xs old new : List Labelled) → IsCarrier d → worst d ≡ None
+pub grown_by_best : (P : Outlined → Type 0) (d : PureCarrier) (xs old new : List Outlined) → IsCarrier d → worst d ≡ None
     → Grown P (Over (λ p. Only (outer_rule d (best d) p)) xs) old new → Grown P (Over (OfOuters d) xs) old new
 grown_by_best P d xs old new is none g = record {
   kept = g.kept;
@@ -238,7 +239,7 @@ grown_by_best P d xs old new is none g = record {
   distinct = g.distinct;
 }
 
-pub grown_by_both : (P : Labelled → Type 0) (d : PureCarrier) (w : PureValue) (xs old mid new : List Labelled) → IsCarrier d → worst d ≡ Some w
+pub grown_by_both : (P : Outlined → Type 0) (d : PureCarrier) (w : PureValue) (xs old mid new : List Outlined) → IsCarrier d → worst d ≡ Some w
     → Grown P (Over (λ p. Only (outer_rule d (best d) p)) xs) old mid → Grown P (Over (λ p. Only (outer_rule d w p)) xs) mid new
     → Grown P (Over (OfOuters d) xs) old new
 grown_by_both P d w xs old mid new is worst_is = grown_then P (Over (λ p. Only (outer_rule d (best d) p)) xs) (Over (λ p. Only (outer_rule d w p)) xs)

@@ -15,6 +15,7 @@ use Rattle.alg_classes.specs.Facts.{fact_of}
 use Rattle.alg_classes.specs.FactLaws.{has_by_profile}
 use Rattle.alg_classes.specs.Profiles.{bit}
 use Rattle.profile_labels.specs.declared.labelled.Labelled.{Labelled}
+use Rattle.profile_labels.specs.Deciding.{Decides}
 use Rattle.profile_labels.specs.Labels.{CoversBy, Has as HasProfile, IsCoveredBy, LabelledOf}
 use Rattle.property_infer.specs.Labels.{CoversLabels}
 use Rattle.property_infer.specs.Reported.{IsMissingAmong, IsReported, AreReported}
@@ -73,6 +74,16 @@ each_is a (x ∷ xs) each = (each.0.label, each_is a xs each.1)
 pub stated_of_all : (a : PureAlg) (labels : List Labelled) (v : PureVerdicts) → CoversBy a labels → AreReported a labels v
     → ExactFor a.expression (IsLabel a.expression) v
 stated_of_all a labels v covers reported = stated_exact a (IsLabel a.expression) labels v (each_is a labels covers.each) covers.labels reported
+
+-- For all labels of an algebra that the labels decide.
+decided_of_each : (a : PureAlg) (p : PureProperty) (labels : List Labelled) (v : PureVerdict) → Decides a labels → IsReported a labels p v
+    → IsExact p a.expression (IsLabel a.expression) v
+decided_of_each a p labels holds decides all = λ l is. let t = decides.labels l is in has_by_profile p a.expression l t.0 t.1 (t.2 p all)
+decided_of_each a p labels (fails x) decides missing = exact_by_missing a (IsLabel a.expression) p labels x (each_is a labels decides.each) missing
+
+pub decided_of_all : (a : PureAlg) (labels : List Labelled) (v : PureVerdicts) → Decides a labels → AreReported a labels v
+    → ExactFor a.expression (IsLabel a.expression) v
+decided_of_all a labels v decides reported p = decided_of_each a p labels (verdict_on v p) decides (reported p)
 
 -- For the labels of a list.
 pub reported_of_labels : (a : PureAlg) (all : List PureLabel) (labels : List Labelled) (v : PureVerdicts) → CoversLabels a all labels → AreReported a labels v

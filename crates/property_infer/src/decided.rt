@@ -11,7 +11,7 @@ ghost use Rattle.property_infer.specs.Views.{pure_verdicts};
 use crate::{Verdicts, add_label, verdicts_of};
 use alg_model::{Alg, Label};
 use meta_base::{List, NoMemory};
-use profile_labels::covering_labels;
+use profile_labels::deciding_labels;
 use std::alloc::Global;
 
 /// The exact verdicts on an algebra: each property holds of all its labels, or an instance shows that one of
@@ -23,7 +23,7 @@ pub fn verdicts(alloc: Global, alg: &Alg) -> Result<Verdicts, NoMemory>
     ensures bound { IfOk result (λ verdicts.
         VerdictsAtMost (greatest_number alg.now.edition) MAX_INSTANCE_NUMBER (pure_verdicts verdicts)) }
 {
-    let labels = covering_labels(alloc, alg)?;
+    let labels = deciding_labels(alloc, alg)?;
     verdicts_of(alloc, alg, labels.as_slice())
 }
 

@@ -4,3 +4,4 @@ pub mod Places
 pub mod Sources
 pub mod Lexing
 pub mod WordBytes
+mod KnownFronts

@@ -5,3 +5,4 @@ pub mod Sources
 pub mod Tokens
 pub mod Views
 pub mod Lexers
+pub mod KnownFronts

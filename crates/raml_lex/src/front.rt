@@ -1,5 +1,6 @@
 // The token at the front of a text.
-ghost use Rattle.std.specs.Prelude.{◌≡◌};
+ghost use Rattle.std.specs.Prelude.{◌≡◌, true};
+ghost use Rattle.raml_lex.specs.KnownFronts.{IsFront, begins, begins_letter, begins_pair, mark_len, stands};
 ghost use Rattle.raml_lex.specs.Tokens.{token_at};
 ghost use Rattle.raml_lex.specs.Views.{step_for, Fits};
 
@@ -40,5 +41,81 @@ pub fn token_at_front(text: &[u8], greatest: u64) -> Front
         [b'.', b'.', ..] => Front::Found(TokenKind::Dots, 2),
         [b'-', b'>', ..] => Front::Found(TokenKind::Arrow, 2),
         _ => Front::Bad(LexKind::BadByte),
+    }
+}
+
+#[inline(always)]
+fn begins_letter(text: &[u8]) -> bool
+    ensures { result ≡ begins_letter text.now }
+{
+    match text {
+        [] => false,
+        [first, ..] => is_letter(*first),
+    }
+}
+
+#[inline(always)]
+fn begins(byte: u8, text: &[u8]) -> bool
+    ensures { result ≡ begins byte text.now }
+{
+    match text {
+        [] => false,
+        [first, ..] => *first == byte,
+    }
+}
+
+#[inline(always)]
+fn begins_pair(byte: u8, second: u8, text: &[u8]) -> bool
+    ensures { result ≡ begins_pair byte second text.now }
+{
+    match text {
+        [] => false,
+        [first, rest @ ..] => *first == byte && begins(second, rest),
+    }
+}
+
+/// Whether a word, or a mark of this kind, stands at the front. Of numbers it says nothing.
+#[inline(always)]
+pub fn stands(kind: TokenKind, text: &[u8]) -> bool
+    ensures { result ≡ stands kind text.now }
+{
+    match kind {
+        TokenKind::Word => begins_letter(text),
+        TokenKind::Number(_) => false,
+        TokenKind::LeftParen => begins(b'(', text),
+        TokenKind::RightParen => begins(b')', text),
+        TokenKind::LeftBrace => begins(b'{', text),
+        TokenKind::RightBrace => begins(b'}', text),
+        TokenKind::Comma => begins(b',', text),
+        TokenKind::Semicolon => begins(b';', text),
+        TokenKind::Colon => begins(b':', text),
+        TokenKind::Dots => begins_pair(b'.', b'.', text),
+        TokenKind::Equals => begins(b'=', text),
+        TokenKind::Less => begins(b'<', text),
+        TokenKind::Arrow => begins_pair(b'-', b'>', text),
+    }
+}
+
+// How many bytes a mark has.
+#[inline(always)]
+fn mark_len(mark: TokenKind) -> usize
+    ensures { result ≡ mark_len mark }
+{
+    match mark {
+        TokenKind::Dots | TokenKind::Arrow => 2,
+        _ => 1,
+    }
+}
+
+/// How many bytes the token has that stands at the front.
+#[inline(always)]
+pub fn len_at_front(kind: TokenKind, text: &[u8]) -> usize
+    requires { stands kind text.now ≡ true }
+    ensures { IsFront kind text.now result }
+{
+    if kind == TokenKind::Word {
+        word_len(text)
+    } else {
+        mark_len(kind)
     }
 }

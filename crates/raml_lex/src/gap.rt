@@ -3,6 +3,7 @@ ghost use Rattle.std.specs.Prelude.{◌≡◌, ◌+◌, ◌<◌, ◌≤◌, ◌^
 ghost use Rattle.std.specs.List.{list_all};
 ghost use Rattle.meta_base.specs.Bytes.{is_space, is_line_feed};
 ghost use Rattle.raml_lex.specs.Gaps.{passed_at, gap_of, after_gap, is_plain_space, IsLine};
+ghost use Rattle.raml_lex.specs.KnownFronts.{after_blank};
 ghost use Rattle.raml_lex.specs.Places.{FitsPlace};
 ghost use Rattle.raml_lex.specs.Sources.{IsCursor};
 
@@ -120,11 +121,12 @@ fn after_blocks(source: &[u8], from: Cursor) -> Cursor
     here
 }
 
-// After the space that stands there, if one does.
+/// After the blank that stands there, if one does.
 #[inline(always)]
-fn after_space(source: &[u8], from: &Cursor) -> Cursor
+pub fn after_space(source: &[u8], from: &Cursor) -> Cursor
     requires { IsCursor source.now from.now }
     ensures cursor { IsCursor source.now result }
+    ensures blank { drop result.at source.now ≡ after_blank (drop from.now.at source.now) }
     ensures gap { passed_at source.now result.at ≡ passed_at source.now from.now.at }
     ensures after { after_gap false (drop result.at source.now) ≡ after_gap false (drop from.now.at source.now) }
 {

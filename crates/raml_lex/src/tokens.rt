@@ -1,9 +1,9 @@
-ghost use Rattle.std.specs.Prelude.{◌≡◌, ◌≤◌, [], length, IfSome, IfOk, IfErr, IfNone, IsNone, OnSome, Some, None, Ok, Err};
+ghost use Rattle.std.specs.Prelude.{◌≡◌, ◌≤◌, [], length, is_some, IfSome, IfOk, IfErr, IfNone, IsNone, OnSome, Some, None, Ok, Err};
 
 use crate::cursor::Cursor;
-use crate::front::{Front, token_at_front};
-use crate::gap::gap_end;
-use crate::{LexFault, Token};
+use crate::front::{Front, len_at_front, stands, token_at_front};
+use crate::gap::{after_space, gap_end};
+use crate::{LexFault, Token, TokenKind};
 use meta_base::{MAX_FILE_BYTES, MAX_NUMBER, Place};
 use std::marker::Model;
 
@@ -41,6 +41,7 @@ impl<'a> Tokens<'a> {
     ghost use Rattle.raml_lex.specs.Lexers.{Lexer, Found, Ended, Faulted};
     ghost use Rattle.raml_lex.specs.Places.{place_after};
     ghost use Rattle.raml_lex.specs.Tokens.{step_of, end};
+    ghost use Rattle.raml_lex.specs.KnownFronts.{after_blank, stands};
 
     /// The tokens of the source, none of which was taken. The source has at most
     /// [`meta_base::MAX_FILE_BYTES`] bytes, and a number is at most [`meta_base::MAX_NUMBER`] until
@@ -117,5 +118,30 @@ impl<'a> Tokens<'a> {
                 }))
             }
         }
+    }
+
+    /// The next token where it is a word, or the mark of this kind, and stands here or after one blank, as most
+    /// do. Elsewhere it answers `None` and nothing is taken: [`Tokens::next`] says what stands next.
+    #[inline(always)]
+    pub fn next_at_hand(&mut self, kind: TokenKind) -> Option<Token<'a>>
+        requires { self.old.fault ≡ None }
+        ensures exactly { is_some result ≡ stands kind (after_blank self.old.rest) }
+        ensures kind { IfSome result (λ t. t.kind ≡ kind) }
+        ensures token { IfSome result (λ t. Found self.old t self.new) }
+        ensures kept { IfNone result (self.new ≡ self.old) }
+    {
+        let start = after_space(self.source, &self.here);
+        let (_, text) = self.source.split_at(start.at);
+        if !stands(kind, text) {
+            return None;
+        }
+        let len = len_at_front(kind, text);
+        self.here = start.after(len);
+        let (text, _) = text.split_at(len);
+        Some(Token {
+            kind,
+            text,
+            place: start.place(),
+        })
     }
 }

@@ -1,14 +1,20 @@
 -- A word among names.
-use Rattle.std.proofs.Common.{◌≡◌, ℕ, ◌<◌, Bool, true, false, ◌||◌, List, [], ◌∷◌, zero, suc, length, get_or, arith, refl}
+use Rattle.std.proofs.Common.{◌≡◌, ℕ, Bool, true, false, ◌||◌, List, [], ◌∷◌, zero, suc, take, drop, refl}
 use Rattle.std.specs.Str.{bytes_eq}
 use Rattle.raml_syntax.specs.Syntax.{is_among}
 
--- it is one of them where the name at some place is the word
-pub among_at : (names : List (List ℕ)) (w : List ℕ) (k : ℕ) (d : List ℕ) → k < length names → bytes_eq (get_or names k d) w ≡ true → is_among names w ≡ true
-among_at [] w k d h e = absurd (omega (arith, h))
-among_at (n ∷ names) w zero d h e = rw e refl
-among_at (n ∷ names) w (suc k) d h e = rest (bytes_eq n w) (among_at names w k d (omega (arith, h)) e)
+-- it is one of them where it is one of the last or one of the first
+pub among_parts : (names : List (List ℕ)) (w : List ℕ) (k : ℕ) → (is_among (drop k names) w || is_among (take k names) w) ≡ is_among names w
+among_parts [] w zero = refl
+among_parts [] w (suc k) = refl
+among_parts (n ∷ names) w zero = or_false (is_among (n ∷ names) w)
   where
-    rest : (b : Bool) → is_among names w ≡ true → (b || is_among names w) ≡ true
-    rest true h = refl
-    rest false h = h
+    or_false : (b : Bool) → (b || false) ≡ b
+    or_false true = refl
+    or_false false = refl
+among_parts (n ∷ names) w (suc k) = by (bytes_eq n w) (is_among (drop k names) w) (among_parts names w k)
+  where
+    by : (b c : Bool) → (c || is_among (take k names) w) ≡ is_among names w → (c || (b || is_among (take k names) w)) ≡ (b || is_among names w)
+    by false c h = h
+    by true true h = refl
+    by true false h = refl

@@ -45,7 +45,7 @@ abbrev pub AreClean : ℕ → List Mark → Type 0
 AreClean greatest ms = AllByRecursion (IsClean greatest) ms
 
 -- no fault means that the test passes
-passes : (t : Tok) (k : ExprKind) (b : Bool) → (tested t k b).fault ≡ None → b ≡ true
+pub passes : (t : Tok) (k : ExprKind) (b : Bool) → (tested t k b).fault ≡ None → b ≡ true
 passes t k true h = refl
 passes t k false h = absurd (let e : Some k ≡ None = h in cc)
 

@@ -27,6 +27,7 @@ pub mod RowReading
 pub mod TableReading
 pub mod Printing
 pub mod PrintedNames
+pub mod DistinctNames
 pub mod PrintedTables
 pub mod PrintedMarks
 pub mod PrintedTrees

@@ -162,7 +162,7 @@ abbrev pub FollowingMap : List (List ℕ) → List MapSyntax → AfterMap → Li
 FollowingMap names done after.Map = Then (One (source_mark names (sources done))) (λ w. Then (Target names w) (λ m. MoreMaps names (done ++ m ∷ [])))
 FollowingMap names done (after.After a) = Nothing (done, a)
 
-sources-append : (ms ns : List MapSyntax) → sources (ms ++ ns) ≡ sources ms ++ sources ns
+pub sources-append : (ms ns : List MapSyntax) → sources (ms ++ ns) ≡ sources ms ++ sources ns
 sources-append [] ns = refl
 sources-append (m ∷ ms) ns = ap (λ l. m.source ∷ l) (sources-append ms ns)
 

@@ -7,12 +7,13 @@ use Rattle.raml_lex.specs.Tokens.{token, left_brace, right_brace, comma, semicol
 use Rattle.alg_model.specs.declared.alg.TheConstants.{MAX_TABLE_NAMES}
 use Rattle.alg_model.specs.declared.tree.TableRow.{TableRow}
 use Rattle.alg_model.specs.Formation.{is_place_or_none, is_row_over, is_table_name, row_name}
+use Rattle.raml_syntax.specs.Differing.{differ}
 use Rattle.raml_syntax.specs.declared.faults.ExprKind.TheVariants.{BadTable}
 use Rattle.raml_syntax.specs.Syntax.{MapSyntax, is_among, is_none, AreMaps, IsRow}
 use Rattle.raml_syntax.specs.Meaning.{value_names}
 use Rattle.raml_syntax.specs.Marks.{Mark, plain, plain_word, own_name, rank_tok, values_marks, map_marks, more_map_marks, maps_marks, row_marks, rows_marks, table_marks}
 use Rattle.raml_syntax.specs.Printed.{rank_text, more_values_text, values_text, maps_of, map_text, more_maps_text, maps_text, row_text, rows_text}
-use Rattle.raml_syntax.proofs.PrintedNames.{differ, Fresh, first_apart, fresh_first, fresh_less, fresh_more, at_among, at_all}
+use Rattle.raml_syntax.proofs.PrintedNames.{Fresh, first_apart, fresh_first, fresh_less, fresh_more, at_among, at_all}
 use Rattle.raml_syntax.proofs.PrintedTables.{values_of, maps_syntax, row_syntax, table_from, IsNamedTable, names_back}
 use Rattle.raml_syntax.proofs.Printing.{off, stops, stops_append, IsPrinted, printed_none, mark_next, word_next, printed_then}
 

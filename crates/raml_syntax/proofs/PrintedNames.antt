@@ -2,15 +2,11 @@
 use Rattle.std.proofs.Common.{◌≡◌, ℕ, ◌+◌, ◌<◌, zero, suc, Bool, true, false, not, ◌||◌, cond, nat_lt, List, [], ◌∷◌, ◌++◌, length, get_or, Some, None, bytes_eq, refl, ap, ap₂, sym, ◌∙◌, arith}
 use Rattle.std.specs.List.{list_all, position_or_len}
 use Rattle.std.proofs.lemmas.Bool.{lt-ltb, and_parts, or_parts, or_left, or_right, not_from_true, not_from_false, cond-true, cond-false, false≢true}
-use Rattle.alg_model.specs.Formation.{are_distinct}
+use Rattle.raml_syntax.specs.Differing.{differ}
 use Rattle.raml_syntax.specs.Syntax.{is_among}
 use Rattle.alg_model.specs.Names.{place_of}
 use Rattle.raml_syntax.proofs.TestLaws.{bytes_same, bytes_self}
 use Rattle.raml_syntax.proofs.Printing.{off}
-
--- no two of them are the same
-abbrev pub differ : List (List ℕ) → Bool
-differ names = are_distinct (λ (name : List ℕ). name) names
 
 -- none of these is among those before
 abbrev pub Fresh : List (List ℕ) → List (List ℕ) → Type 0
@@ -34,7 +30,7 @@ other_apart n w ns h k = by (bytes_eq n w) refl
     by true e = absurd (false≢true (sym h ∙ ap (is_among ns) (bytes_same n w e) ∙ k))
     by false e = refl
 
-not_pushed : (before : List (List ℕ)) (n w : List ℕ) → is_among before w ≡ false → bytes_eq n w ≡ false → is_among (before ++ n ∷ []) w ≡ false
+pub not_pushed : (before : List (List ℕ)) (n w : List ℕ) → is_among before w ≡ false → bytes_eq n w ≡ false → is_among (before ++ n ∷ []) w ≡ false
 not_pushed [] n w h e = ap (λ b. b || false) e
 not_pushed (b ∷ bs) n w h e = let p = or_parts (bytes_eq b w) (is_among bs w) h in ap₂ (λ x y. x || y) p.0 (not_pushed bs n w p.1 e)
 

@@ -6,12 +6,13 @@ use Rattle.alg_model.specs.declared.alg.TheConstants.{MAX_TABLE_NAMES}
 use Rattle.alg_model.specs.declared.tree.TableSpec.{TableSpec}
 use Rattle.alg_model.specs.declared.tree.TableRow.{TableRow}
 use Rattle.alg_model.specs.Formation.{ranks_rise, are_ranks, is_place_or_none, is_row_over, is_table_count, is_table, is_table_name, are_distinct, are_named, row_name}
+use Rattle.raml_syntax.specs.Differing.{differ}
 use Rattle.raml_syntax.specs.Syntax.{ValueSyntax, MapSyntax, MapsSyntax, no_maps, maps, RowSyntax, TableSyntax, is_among}
 use Rattle.alg_model.specs.Names.{place_of}
 use Rattle.raml_syntax.specs.Meaning.{ranks_from, target_of, all_maps, image_place, row_meaning, table_meaning}
 use Rattle.raml_syntax.specs.Printed.{maps_of}
 use Rattle.raml_syntax.proofs.TestLaws.{bytes_self}
-use Rattle.raml_syntax.proofs.PrintedNames.{differ, bytes_differ, first_apart, place_at}
+use Rattle.raml_syntax.proofs.PrintedNames.{bytes_differ, first_apart, place_at}
 
 abbrev pub values_of : ℕ → List (List ℕ) → List ℕ → List ValueSyntax
 values_of before (name ∷ names) (rank ∷ ranks) = record { is_tied = rank == before; name = name } ∷ values_of rank names ranks

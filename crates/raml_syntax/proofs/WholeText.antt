@@ -1,5 +1,5 @@
 -- What was read of a text, and of what stands after it, says what the text means or which fault it has.
-use Rattle.std.proofs.Common.{◌≡◌, inr, ℕ, List, Ok, ◌∙◌, sym, ap, subst, arith}
+use Rattle.std.proofs.Common.{◌≡◌, inr, ℕ, List, Ok, ◌∙◌, sym, ap, subst}
 use Rattle.raml_lex.specs.Tokens.{end, step_of}
 use Rattle.raml_lex.specs.Lexers.{Lexer}
 use Rattle.alg_model.specs.Expressions.{PureAlg}

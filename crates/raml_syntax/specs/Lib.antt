@@ -12,6 +12,7 @@ pub mod Leaves
 pub mod Heads
 pub mod Forms
 pub mod Tested
+pub mod Differing
 pub mod Values
 pub mod Maps
 pub mod Rows

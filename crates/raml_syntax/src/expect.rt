@@ -63,7 +63,23 @@ pub fn take_mark(tokens: &mut Tokens<'_>, kind: TokenKind) -> Result<(), AlgErro
 }
 
 /// Takes a mark of this kind, and answers its place.
+#[inline(always)]
 pub fn take_mark_at(tokens: &mut Tokens<'_>, kind: TokenKind) -> Result<Place, AlgError>
+    requires ready { IsReady tokens.old }
+    requires kind { IsMark kind }
+    ensures ready { OnOk result (IsReady tokens.new) }
+    ensures mark { IfOk result (λ place. TakesAt (tok_of kind []) place tokens.old tokens.new) }
+    ensures fault { IfErr result (IsRefusal (Misses (IsTok (tok_of kind []))) tokens.old) }
+{
+    match tokens.next_at_hand(kind) {
+        Some(token) => Ok(token.place),
+        None => take_any_mark_at(tokens, kind),
+    }
+}
+
+// The same after any gap.
+#[inline(never)]
+fn take_any_mark_at(tokens: &mut Tokens<'_>, kind: TokenKind) -> Result<Place, AlgError>
     requires ready { IsReady tokens.old }
     requires kind { IsMark kind }
     ensures ready { OnOk result (IsReady tokens.new) }
@@ -79,7 +95,22 @@ pub fn take_mark_at(tokens: &mut Tokens<'_>, kind: TokenKind) -> Result<Place, A
 }
 
 /// Takes a word.
+#[inline(always)]
 pub fn take_word<'a>(tokens: &mut Tokens<'a>) -> Result<Token<'a>, AlgError>
+    requires { IsReady tokens.old }
+    ensures ready { OnOk result (IsReady tokens.new) }
+    ensures word { IfOk result (λ t. TakesAt (word t.text.now) t.place tokens.old tokens.new) }
+    ensures fault { IfErr result (IsRefusal (Misses IsWord) tokens.old) }
+{
+    match tokens.next_at_hand(TokenKind::Word) {
+        Some(token) => Ok(token),
+        None => take_any_word(tokens),
+    }
+}
+
+// The same after any gap.
+#[inline(never)]
+fn take_any_word<'a>(tokens: &mut Tokens<'a>) -> Result<Token<'a>, AlgError>
     requires { IsReady tokens.old }
     ensures ready { OnOk result (IsReady tokens.new) }
     ensures word { IfOk result (λ t. TakesAt (word t.text.now) t.place tokens.old tokens.new) }

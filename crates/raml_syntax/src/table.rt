@@ -1,8 +1,9 @@
 // Tables.
-ghost use Rattle.std.specs.Prelude.{◌≡◌, ◌<◌, ◌≤◌, [], length, OnOk};
+ghost use Rattle.std.specs.Prelude.{◌≡◌, ◌<◌, ◌≤◌, [], true, length, OnOk};
 ghost use Rattle.std.specs.List.{list_any};
 ghost use Rattle.std.specs.Str.{bytes_eq};
 ghost use Rattle.alg_model.specs.declared.alg.TheConstants.{MAX_TABLE_NAMES};
+ghost use Rattle.raml_syntax.specs.Differing.{differ};
 ghost use Rattle.raml_syntax.specs.Leaves.{IsReady};
 ghost use Rattle.raml_syntax.specs.Marks.{own_name};
 ghost use Rattle.raml_syntax.specs.Rows.{MoreRows, OneRow, row_names};
@@ -48,6 +49,7 @@ fn read_row(
 ) -> Result<(TableRow, AfterRow), AlgError>
     requires ready { IsReady tokens.old }
     requires few { length names.now ≤ MAX_TABLE_NAMES }
+    requires distinct { differ names.now ≡ true }
     ensures ready { OnOk result (IsReady tokens.new) }
     ensures room { OnOk result (length rows.now < MAX_TABLE_NAMES) }
     ensures row { Reads (OneRow names.now (row_names rows.now)) tokens.old result tokens.new }
@@ -67,6 +69,7 @@ fn read_rows(
 ) -> Result<List<TableRow>, AlgError>
     requires ready { IsReady tokens.old }
     requires few { length names.now ≤ MAX_TABLE_NAMES }
+    requires distinct { differ names.now ≡ true }
     ensures ready { OnOk result (IsReady tokens.new) }
     ensures rows { Reads (MoreRows names.now []) tokens.old result tokens.new }
 {

@@ -36,7 +36,7 @@ pub struct ValueList {
 pub fn is_none(word: &[u8]) -> bool
     ensures { result ≡ is_none word.now }
 {
-    word == b"none".as_slice()
+    is_same(word, b"none")
 }
 
 // Whether two words, of one length, have the same last byte.
@@ -48,6 +48,19 @@ fn ends_alike(name: &[u8], word: &[u8]) -> bool
     word.is_empty() || name[word.len() - 1] == word[word.len() - 1]
 }
 
+// Whether two words, of one length, have the same bytes. Words are short, so their bytes are compared in turn.
+fn are_spelled_alike(name: &[u8], word: &[u8]) -> bool
+    requires { length name.now ≡ length word.now }
+    ensures { result ≡ bytes_eq name.now word.now }
+{
+    for place in 0..name.len() {
+        if name[place] != word[place] {
+            return false;
+        }
+    }
+    true
+}
+
 /// Whether both are the same word. Names of a table are mostly alike at their front, so the last byte is compared
 /// first.
 #[inline(always)]
@@ -55,7 +68,7 @@ fn ends_alike(name: &[u8], word: &[u8]) -> bool
 pub fn is_same(name: &[u8], word: &[u8]) -> bool
     ensures { result ≡ bytes_eq name.now word.now }
 {
-    name.len() == word.len() && ends_alike(name, word) && name == word
+    name.len() == word.len() && ends_alike(name, word) && are_spelled_alike(name, word)
 }
 
 /// Whether the word is one of the names.

@@ -1,3 +1,4 @@
 pub mod Summaries
 pub mod CodeLines
 mod Appended
+mod PathNames

@@ -53,8 +53,9 @@ pub(crate) fn push_route(out: &mut String, net: &Net, route: Option<&Route>) -> 
     }
 }
 
-/// Appends the line of a row of a network: the node, the destination, and the value and the path of the route, or
-/// `none`. It is refused for want of memory alone; what the text holds then isn't said.
+/// For lines in a text; the program writes rows by [`crate::RowLines`]. Appends the line of a row of a network: the
+/// node, the destination, and the value and the path of the route, or `none`. It is refused for want of memory alone;
+/// what the text holds then isn't said.
 pub fn push_row_line(out: &mut String, net: &Net, row: &RouteRow) -> Result<(), NoMemory>
     requires { IsRowOf net.now (pure_row row.now) }
     ensures { OnOk result (Gains out.old (row_text net.now (pure_row row.now)) out.new) }
@@ -70,8 +71,8 @@ pub fn push_row_line(out: &mut String, net: &Net, row: &RouteRow) -> Result<(), 
 // As many bytes as most rows have, so that few lines grow.
 const USUAL_ROW: usize = 256;
 
-/// For a line alone; the program appends it to a text. The line of a row alone, as [`push_row_line`] appends it. It is
-/// refused for want of memory alone.
+/// For a line alone; the program writes rows by [`crate::RowLines`]. The line of a row alone, as [`push_row_line`]
+/// appends it. It is refused for want of memory alone.
 pub fn row_line(alloc: Global, net: &Net, row: &RouteRow) -> Result<Text, NoMemory>
     requires { IsRowOf net.now (pure_row row.now) }
     ensures { IfOk result (λ text. text ≡ row_text net.now (pure_row row.now)) }

@@ -59,7 +59,7 @@ impl<'a> Row<'a> {
     }
 
     // The image of the value at that place, if there is one.
-    fn image(&self, place: u8) -> Option<u8>
+    pub(crate) fn image(&self, place: u8) -> Option<u8>
         ensures { result ≡ image_at self.now.images place }
     {
         *self.images.get(usize::from(place))?
@@ -111,11 +111,12 @@ impl<'a> Row<'a> {
         }
     }
 
-    // The fact fails between these values, in this order.
-    pub(crate) fn fails_between(&self, fact: PairFact, u: u8, v: u8) -> bool
+    // The fact fails between these values, in this order. The first has this image, which a search asks for once.
+    pub(crate) fn fails_between(&self, fact: PairFact, u: u8, image: Option<u8>, v: u8) -> bool
+        requires { image ≡ image_at self.now.images u }
         ensures { IsTruthOf result (FailsBetween self.now (pair_fact fact) u v) }
     {
-        match (fact, self.image(u), self.image(v)) {
+        match (fact, image, self.image(v)) {
             (PairFact::Isotone, first, second) => {
                 !self.is_preferred(Some(v), Some(u)) && self.is_preferred(second, first)
             }

@@ -37,8 +37,9 @@ impl Row<'_> {
             ((v : ℕ) → v < length self.now.names → ¬ FailsBetween self.now (pair_fact fact) u v)
             (λ v. (v < length self.now.names) × FailsBetween self.now (pair_fact fact) u v) }
     {
+        let image = self.image(u);
         for v in 0..self.count() {
-            if self.fails_between(fact, u, v) {
+            if self.fails_between(fact, u, image, v) {
                 return Some(v);
             }
         }

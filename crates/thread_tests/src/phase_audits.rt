@@ -196,8 +196,9 @@ then drop a b
 then link a b : 2
 ";
 
-// b's route is delivered to a, and a's to b. a's row changes with the label, which b is told. a loses its row with the
-// arc, which b is told on the arc that is left and moved up to 0. b tells a its route on the new arc 1, and a tells b.
+// b's route is delivered to a, and a's to b. a's row changes with the label, which b hears. a loses its row with the
+// arc, which b hears on the arc that is left and moved up to 0. b sends a its route on the new arc 1, and a sends b its
+// own.
 const JOURNALS: &str = "1 0, 2 1 / 1 1 / 1 0 / 1 1, 2 0";
 
 const ENDS: &[&str] = &["3 a b / 0 b", "5 a b / 0 b", "none / 0 b", "2 a b / 0 b"];

@@ -25,6 +25,9 @@ use net_graph::{Change, MAX_ARCS, NetDraft, max_changes};
 use std::alloc::Global;
 use std::marker::Model;
 
+// So many bytes a line of an arc has, or more, in most files.
+const ARC_LINE_BYTES: usize = 16;
+
 /// What the lines so far give. Contracts see the network of the lines without `then`, and the changes of
 /// the others.
 #[derive(Debug, Drop)]
@@ -64,6 +67,14 @@ impl<'a> FileDraft<'a> {
             changes: List::new(alloc),
             arc_count: 0,
         }
+    }
+
+    /// Makes room for the arcs of so many bytes of lines. Nothing is added.
+    pub fn reserve(&mut self, bytes: usize) -> Result<(), NoMemory>
+        ensures { self.new ≡ self.old }
+    {
+        self.draft
+            .reserve_arcs((bytes / ARC_LINE_BYTES).min(MAX_ARCS))
     }
 
     /// The network and its changes.
@@ -116,6 +127,7 @@ impl<'a> FileDraft<'a> {
     }
 
     // The arc gets this label after the changes so far, or is added.
+    #[inline(never)]
     #[tactic(auto, using(crate::proofs::Steps::link_made))]
     fn add_then_link(
         &mut self,
@@ -133,6 +145,7 @@ impl<'a> FileDraft<'a> {
     }
 
     // The arc is taken out after the changes so far.
+    #[inline(never)]
     #[tactic(auto, using(crate::proofs::Steps::drop_made, crate::proofs::Steps::dropped))]
     fn add_then_drop(&mut self, listener: &[u8], speaker: &[u8]) -> Result<(), LineError>
         ensures ok { OnOk result (after_then_drop self.old listener.now speaker.now ≡ Ok self.new) }

@@ -69,6 +69,7 @@ pub fn line_form(said: &[u8]) -> Line<'_>
 }
 
 // The same of any line, word by word.
+#[inline(never)]
 fn any_line(said: &[u8]) -> Line<'_>
     ensures form { pure_line result ≡ line_of said.now }
     ensures names { HasDestName result }

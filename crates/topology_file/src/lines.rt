@@ -149,6 +149,7 @@ fn add_first(draft: &mut NetDraft, name: &[u8], others: &[u8]) -> Result<(), Lin
 }
 
 // Adds nodes of the names that are the words of the text.
+#[inline(never)]
 fn add_nodes(draft: &mut NetDraft, names: &[u8]) -> Result<(), LineError>
     ensures arcs { HasSameArcs draft.old draft.new }
     ensures ok { OnOk result (after_names draft.old (words_of names.now) ≡ Ok draft.new) }
@@ -233,6 +234,7 @@ fn add_link<'a>(
 }
 
 // Adds that arc, and the one back.
+#[inline(never)]
 fn add_both<'a>(
     alloc: Global,
     draft: &mut NetDraft,
@@ -257,6 +259,7 @@ fn add_both<'a>(
 }
 
 // Adds an origin at the node of a name, with the value that the text spells.
+#[inline(never)]
 fn add_origin(
     alloc: Global,
     draft: &mut NetDraft,

@@ -64,6 +64,7 @@ pub fn read_net(alloc: Global, alg: Alg, source: &[u8]) -> Result<NetFile, NetEr
     // What is read of a literal is what it spells.
     texts_have_one_spelling();
     let mut file = FileDraft::new(alloc, alg);
+    file.reserve(source.len())?;
     let mut number: u32 = 1;
     let mut rest = source;
     while let Some((line, others)) = split_line(rest) {

@@ -18,7 +18,9 @@ pub struct ArcWords<'a> {
     pub label: &'a [u8],
 }
 
+// Kept out of the loop over lines, where there are too few registers for it.
 /// The parts of a line of three names and a literal. Where it is `None` the line may still be one.
+#[inline(never)]
 #[tactic(auto, using(crate::proofs::QuickForms::short_form))]
 pub fn arc_words(said: &[u8]) -> Option<ArcWords<'_>>
     ensures form { IfSome result (λ line.

@@ -1,5 +1,5 @@
 // How what a node puts out is sent.
-ghost use Rattle.std.specs.Prelude.{◌≡◌, ℕ, ◌==◌, cond, [], ◌∷◌, map, OnOk, slice_get};
+ghost use Rattle.std.specs.Prelude.{◌≡◌, ℕ, ◌==◌, cond, [], ◌∷◌, ◌++◌, map, OnOk, slice_get};
 ghost use Rattle.node_core.specs.Configs.{numbered};
 ghost use Rattle.node_core.specs.Kinds.{on_arc};
 ghost use Rattle.weave.specs.Lanes.{HasPassed, lane_in, lane_of};
@@ -11,6 +11,17 @@ use node_core::Outgoing;
 use std::alloc::Global;
 use std::collections::VecDeque;
 use std::mem::replace;
+
+// Notes that one more message waits on the arc. The list has room for it as a rule, and then no call is made.
+fn note_ready(ready: &mut VecDeque<ArcId>, arc: ArcId) -> Result<(), NoMemory>
+    ensures { OnOk result (ready.new.items ≡ ready.old.items ++ arc ∷ []) }
+{
+    if ready.len() == ready.capacity() {
+        ready.reserve(1)?;
+    }
+    ready.push_back_reserved(arc);
+    Ok(())
+}
 
 // Appends the message to what waits, and notes that one more waits on the arc.
 fn send_inside<M: Drop>(
@@ -24,8 +35,7 @@ fn send_inside<M: Drop>(
 {
     queue.reserve(1)?;
     queue.send(message);
-    ready.push_back(arc)?;
-    Ok(())
+    note_ready(ready, arc)
 }
 
 // Appends the message to what was sent to another worker, and notes that the arc is to be flushed.

@@ -1,5 +1,5 @@
 use Rattle.std.proofs.Common.{◌+◌, option_map, sym, ap, subst, ◌∙◌}
-use Rattle.distance_node.specs.Arrivals.{heard_told}
+use Rattle.distance_node.specs.Arrivals.{heard_reported}
 use Rattle.distance_node.specs.Chosen.{IsBest, chosen_at}
 use Rattle.distance_node.specs.Node.{offers}
 use Rattle.distance_node.proofs.Arrived.{row_small}
@@ -17,7 +17,7 @@ move_row-requires-clause-small g c =
     let t = c.args.arrival.now in
     let value = A.sig_value s in
     let sig_in = signs_in (A.is_sig s) value net c.requires.algebra (g.met.A.Algebra.sig_in s) in
-    let best = subst (IsBest value net i (offers net t.dest.0 i (heard_told value net i c.args.heard.now t)))
+    let best = subst (IsBest value net i (offers net t.dest.0 i (heard_reported value net i c.args.heard.now t)))
     (sym (c.taken-next.ensures ∙ ap (option_map (chosen_at (t.place + 1))) (made_is_there c.settle_by.new.spare))) (c.in_ok-settle_by.ensures.moves c.in-Moves.is) in
     row_small (A.is_sig s) value net c.requires.placed.is_net i sig_in c.args.heard.now c.requires.heard.0 c.requires.heard.2 t c.requires.arrival c.requires.heard.1 c.taken-next.result best
 

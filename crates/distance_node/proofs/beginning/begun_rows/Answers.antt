@@ -4,7 +4,7 @@ use Rattle.std.specs.List.{range_with_len}
 use Rattle.distance_node.specs.Beginning.{AreBegun}
 use Rattle.distance_node.specs.Node.{all_begun}
 use Rattle.distance_node.specs.Vectors.{noted}
-use Rattle.distance_node.proofs.Beginnings.{dests_few, own_row, own_small, rows_next, told_next, told_none, told_some}
+use Rattle.distance_node.proofs.Beginnings.{dests_few, own_row, own_small, rows_next, reported_next, reported_none, reported_some}
 use Rattle.distance_node.proofs.Pushing.{entry_or}
 use Rattle.distance_node.proofs.Taking.{some_holds}
 use Rattle.distance_node.proofs.beginning.begun_rows.Goals as goal
@@ -46,16 +46,16 @@ loop-place-preserved g c =
     record {
       rows = subst (AreBegun (A.is_sig s) (A.sig_value s) net i (k + 1)) (sym c.in_ok-push.ensures.items)
           (rows_next (A.is_sig s) (A.sig_value s) net i k c.loop-place.rows.items row c.loop-place.invariant.rows c.in_ok-row.ensures.sig c.in_ok-row.ensures.place hop);
-      told = elim c.if-is_some.branch [
-        | then-is_some+in_ok-tell w ↦ told_next net i k (map noted c.loop-place.out.items) (map noted c.if-is_some.out.items) c.loop-place.invariant.told
-            (told_some (A.is_sig s) (A.sig_value s) net i k row (map noted c.loop-place.out.items) (map noted c.if-is_some.out.items) hop (sym c.is_some.ensures ∙ w.if-is_some.true) (ap (λ o. map noted o.items) w.out-is ∙ w.in_ok-tell.ensures))
-        | else-is_some w ↦ told_next net i k (map noted c.loop-place.out.items) (map noted c.if-is_some.out.items) c.loop-place.invariant.told
-            (told_none (A.is_sig s) (A.sig_value s) net i k row (map noted c.loop-place.out.items) (map noted c.if-is_some.out.items) hop (sym c.is_some.ensures ∙ w.if-is_some.false) (ap (λ o. map noted o.items) w.out-is))
+      reported = elim c.if-is_some.branch [
+        | then-is_some+in_ok-tell w ↦ reported_next net i k (map noted c.loop-place.out.items) (map noted c.if-is_some.out.items) c.loop-place.invariant.reported
+            (reported_some (A.is_sig s) (A.sig_value s) net i k row (map noted c.loop-place.out.items) (map noted c.if-is_some.out.items) hop (sym c.is_some.ensures ∙ w.if-is_some.true) (ap (λ o. map noted o.items) w.out-is ∙ w.in_ok-tell.ensures))
+        | else-is_some w ↦ reported_next net i k (map noted c.loop-place.out.items) (map noted c.if-is_some.out.items) c.loop-place.invariant.reported
+            (reported_none (A.is_sig s) (A.sig_value s) net i k row (map noted c.loop-place.out.items) (map noted c.if-is_some.out.items) hop (sym c.is_some.ensures ∙ w.if-is_some.false) (ap (λ o. map noted o.items) w.out-is))
       ];
     }
 
-pub returns-clause-told : goal.returns-clause-told
-returns-clause-told g c =
+pub returns-clause-reported : goal.returns-clause-reported
+returns-clause-reported g c =
     let at = c.args.site.now in
     let whole : c.loop-place.place ≡ length c.args.site.now.own.now = (let few = c.loop-place-test.false in let more = c.loop-place.auto.place-end in omega (arith, few, more)) in
-    ap (map noted) c.from_vec.ensures ∙ (c.loop-place.invariant.told ∙ ap (λ z. all_begun at.net.now at.node.0 (range_with_len 0 z)) whole)
+    ap (map noted) c.from_vec.ensures ∙ (c.loop-place.invariant.reported ∙ ap (λ z. all_begun at.net.now at.node.0 (range_with_len 0 z)) whole)

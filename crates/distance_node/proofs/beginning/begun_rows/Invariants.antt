@@ -12,5 +12,5 @@ invariant-loop-place g l =
     let at = l.fn.site in
     record {
       rows : AreBegun (A.is_sig at.algebra.now) (A.sig_value at.algebra.now) at.net.now at.node.0 l.place l.rows.items;
-      told : map noted l.out.items ≡ all_begun at.net.now at.node.0 (range_with_len 0 l.place);
+      reported : map noted l.out.items ≡ all_begun at.net.now at.node.0 (range_with_len 0 l.place);
     }

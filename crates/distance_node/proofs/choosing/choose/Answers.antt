@@ -5,7 +5,7 @@ use Rattle.alg_model.specs.Carriers.{carrier_of}
 use Rattle.alg_model.specs.Expressions.{Expression}
 use Rattle.arc_labels.specs.Images.{made_in}
 use Rattle.distance_node.specs.Chosen.{IsBest, better_of, chosen_at}
-use Rattle.distance_node.proofs.Arrived.{all_told_in, best_more, best_of_all, known_may, own_is_best}
+use Rattle.distance_node.proofs.Arrived.{all_reported_in, best_more, best_of_all, known_may, own_is_best}
 use Rattle.distance_node.proofs.Near.{near_at, signs_in}
 use Rattle.distance_node.proofs.Pushing.{entry_or}
 use Rattle.distance_node.proofs.Taking.{some_holds}
@@ -24,7 +24,7 @@ loop-place-init g c =
     record {
       sig = c.in_ok-best.ensures.sig;
       best = own_is_best (A.sig_value s) net c.args.arrival.now.dest.0 i _ c.in_ok-best.best
-          (all_told_in (A.is_sig s) (A.sig_value s) net n i sig_in c.args.heard.now c.requires.heard.0 c.requires.heard.2 c.args.arrival.now c.requires.arrival c.requires.heard.1)
+          (all_reported_in (A.is_sig s) (A.sig_value s) net n i sig_in c.args.heard.now c.requires.heard.0 c.requires.heard.2 c.args.arrival.now c.requires.arrival c.requires.heard.1)
           (c.in_ok-best.ensures.value ∙ (ap (option_map (A.sig_value s)) (sym entry) ∙ c.requires.placed.own_values c.args.arrival.now.dest.0)) c.in_ok-best.ensures.place;
     }
 

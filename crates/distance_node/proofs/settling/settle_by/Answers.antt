@@ -5,7 +5,7 @@ use Rattle.alg_model.specs.Carriers.{carrier_of}
 use Rattle.alg_model.specs.Expressions.{Expression}
 use Rattle.arc_labels.specs.Images.{made_in}
 use Rattle.net_graph.specs.Tables.{carrier}
-use Rattle.distance_node.specs.Arrivals.{heard_told}
+use Rattle.distance_node.specs.Arrivals.{heard_reported}
 use Rattle.distance_node.specs.Chosen.{IsBest, chosen_at}
 use Rattle.distance_node.specs.Node.{offers}
 use Rattle.distance_node.specs.Settling.{settled}
@@ -58,6 +58,6 @@ returns-clause-moves g c moves =
     let made = made_in c.in_ok-made.made place in
     let image = subst (λ (e : Expression). option_map value made ≡ option_and_then (App e arrival.from.label) (option_map value t.value.now)) c.requires.algebra (c.in_ok-made.ensures.value arrival.from.label near.label) in
     let is = ap (λ (e : Expression). settled value (carrier_of e) c.args.before.now (t.place + 1) made) (sym c.requires.algebra) ∙ (sym c.settle.ensures ∙ moves) in
-    subst (λ o. IsBest value at.net.now at.node.0 (offers at.net.now t.dest.0 at.node.0 (heard_told value at.net.now at.node.0 c.args._heard.now t)) (option_map (chosen_at (t.place + 1)) o))
+    subst (λ o. IsBest value at.net.now at.node.0 (offers at.net.now t.dest.0 at.node.0 (heard_reported value at.net.now at.node.0 c.args._heard.now t)) (option_map (chosen_at (t.place + 1)) o))
     (moved_is_made value (carrier at.net.now) c.args.before.now (t.place + 1) c.in_ok-made.made place is)
     (row_moves (A.is_sig s) value at.net.now c.requires.placed.is_net at.node.0 sig_in c.args._heard.now c.requires.heard.0 c.requires.heard.2 t arrival c.requires.heard.1 (t.place + 1) refl made image c.args.before.now c.requires.best is)

@@ -8,6 +8,6 @@ use Rattle.distance_node.proofs.telling.tell_none.Given as goal
 abbrev pub invariant-loop-arc : goal.invariant-loop-arc
 invariant-loop-arc g l =
     record {
-      told : map noted l.out.items ≡ map noted l.fn.out.items ++ map (λ (a : ArcId). (a.0, record { dest = l.fn.dest.0; value = None; stamp = l.fn.clock })) (take l.arc-index l.listeners);
+      reported : map noted l.out.items ≡ map noted l.fn.out.items ++ map (λ (a : ArcId). (a.0, record { dest = l.fn.dest.0; value = None; stamp = l.fn.clock })) (take l.arc-index l.listeners);
       room : vec_len l.out + length l.listeners ≤ vec_capacity l.out + l.arc-index;
     }

@@ -9,6 +9,6 @@ abbrev pub invariant-loop-arc : goal.invariant-loop-arc
 invariant-loop-arc g l =
     let value = g.A.Algebra.sig_value l.fn.site.algebra.now in
     record {
-      told : map noted l.out.items ≡ map noted l.fn.out.items ++ map (λ (a : ArcId). (a.0, record { dest = l.fn.dest.0; value = Some (value l.fn.sig); stamp = l.fn.clock })) (take l.arc-index l.listeners);
+      reported : map noted l.out.items ≡ map noted l.fn.out.items ++ map (λ (a : ArcId). (a.0, record { dest = l.fn.dest.0; value = Some (value l.fn.sig); stamp = l.fn.clock })) (take l.arc-index l.listeners);
       room : vec_len l.out + length l.listeners ≤ vec_capacity l.out + l.arc-index;
     }

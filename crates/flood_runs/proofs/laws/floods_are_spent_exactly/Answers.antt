@@ -1,5 +1,5 @@
 use Rattle.std.proofs.Common.{refl}
-use Rattle.flood_node.specs.Reach.{cards_told}
+use Rattle.flood_node.specs.Reach.{cards_sent}
 use Rattle.flood_node.specs.Ready.{new_are_unbegun}
 use Rattle.flood_runs.specs.FloodLaws.{spent_exactly}
 use Rattle.flood_runs.specs.Floods.{new_nodes}
@@ -9,7 +9,7 @@ pub returns-clause-spent : goal.returns-clause-spent
 returns-clause-spent c net turns rows journal quiet n is =
     let end = is.phase in
     let counted = c.deliveries_are_counted.ensures in
-    spent_exactly net (cards_told net) turns rows journal quiet is
+    spent_exactly net (cards_sent net) turns rows journal quiet is
     (λ drained. counted.drained net (new_nodes net) journal end.end n (new_are_unbegun net) end.phase.replayed drained)
     (λ not. counted.fewer net (new_nodes net) journal end.end n (new_are_unbegun net) end.phase.replayed not)
 

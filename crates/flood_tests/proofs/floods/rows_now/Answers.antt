@@ -4,7 +4,7 @@ use Rattle.std.proofs.lemmas.Iterator.Adapters.{option_map_id}
 use Rattle.node_core.specs.MachineOf.{machine_of, net_of}
 use Rattle.flood_node.specs.Node.{FloodState}
 use Rattle.flood_node.specs.Ready.{states_begun, states_hold_true_cards}
-use Rattle.flood_node.specs.Told.{AreBegun, AreTrueCards}
+use Rattle.flood_node.specs.Reported.{AreBegun, AreTrueCards}
 use Rattle.flood_node.specs.Views.{pure_flooded}
 use Rattle.flood_tests.proofs.floods.rows_now.Goals as goal
 

@@ -1,8 +1,13 @@
-use Rattle.std.proofs.Common.{sym, subst}
-use Rattle.alg_model.specs.Expressions.{lex, scoped, union, sum, plus}
-use Rattle.alg_model.specs.Views.{expression_of, pure_carrier}
+use Rattle.std.proofs.Common.{refl, sym, subst}
+use Rattle.alg_model.specs.Carriers.{carrier_of}
+use Rattle.alg_model.specs.Expressions.{lex, scoped, union, sum, plus, inner}
+use Rattle.alg_model.specs.Views.{expression_of}
 use Rattle.alg_classes.specs.Classes.{alg_in}
-use Rattle.profile_labels.specs.Labels.{CoversBy}
+use Rattle.alg_classes.specs.Growth.{Only}
+use Rattle.alg_classes.specs.Pairs.{pair_profile}
+use Rattle.profile_labels.specs.Growth.{Grown, Over}
+use Rattle.profile_labels.specs.Labels.{IsLabelWith}
+use Rattle.profile_labels.specs.Outlines.{CoversBy, OutlinedOf}
 use Rattle.profile_labels.proofs.StepLaws.{joins_lex, joins_sum, makes_union_first, makes_union_second, makes_plus_first, makes_plus_second, makes_inner, lex_covers, sum_covers, union_covers, plus_covers, scoped_covers}
 use Rattle.profile_labels.proofs.parts.+part_labels.Goals as goal
 
@@ -60,11 +65,15 @@ labels_of_scoped-returns t c =
     let formed = c.requires.formed in
     let cx = subst (CoversBy (alg_in a e)) (sym c.as_slice.ensures) c.in_ok-xs.ensures in
     let cy = subst (CoversBy (alg_in b e)) (sym c.as_slice-2.ensures) c.in_ok-ys.ensures in
-    let first = pure_carrier c.in_ok-first.first in
-    let second = pure_carrier c.in_ok-second.second in
-    let same_first = c.in_ok-first.ensures.carrier in
-    let same_second = c.in_ok-second.ensures.carrier in
-    scoped_covers a b e first second c.as_slice.result.now c.as_slice-2.result.now c.new-list.result c.add_outers.new.list c.add_steps.new.list
-    formed c.new-list.ensures same_first same_second cx cy
-    (c.in_ok-add_outers.ensures a b e formed c.requires.bound.1 same_second cx.each)
-    (c.in_ok-add_steps.ensures (alg_in b e) (alg_in (scoped a b) e) (makes_inner a b e first formed same_first) cy.each)
+    let s = alg_in (scoped a b) e in
+    let kept = c.kept_profile.result in
+    let xs = c.as_slice.result.now in
+    let ys = c.as_slice-2.result.now in
+    let mid = c.add_outers.new.list in
+    let new = c.add_steps.new.list in
+    let same = c.kept_profile.ensures.profile in
+    let inners = c.in_ok-add_steps.ensures (alg_in b e) s
+    (λ m q i. subst (λ k. IsLabelWith s (inner m) (pair_profile k q)) (sym same) (makes_inner a b e (carrier_of a) formed refl m q i)) cy.each in
+    scoped_covers a b e (carrier_of a) (carrier_of b) xs ys c.new-list.result mid new formed c.new-list.ensures refl refl cx cy
+    (c.in_ok-add_outers.ensures a e formed c.requires.bound.1 cx.each)
+    (subst (λ k. Grown (OutlinedOf s) (Over (λ q. Only (pair_profile k q)) ys) mid new) same inners)

@@ -1,49 +1,31 @@
-use Rattle.std.proofs.Common.{sym, ap, subst, ◌∙◌, option_map}
+use Rattle.std.proofs.Common.{sym, ◌∙◌}
 use Rattle.std.proofs.lemmas.Result.{on_ok_weaker}
-use Rattle.alg_model.specs.Carriers.{In}
+use Rattle.alg_model.specs.Carriers.{carrier_of}
+use Rattle.alg_model.specs.CarrierLaws.{carriers_are}
 use Rattle.alg_model.specs.Expressions.{scoped}
-use Rattle.alg_model.specs.Views.{pure_carrier, pure_value}
+use Rattle.alg_model.specs.Views.{expression_of}
 use Rattle.alg_classes.specs.Classes.{alg_in}
-use Rattle.alg_classes.specs.FlatLaws.{best_in}
-use Rattle.alg_classes.specs.Worst.{IsWithin}
-use Rattle.alg_classes.specs.WorstLaws.{best_within, worst_within, within_edition}
-use Rattle.scoped_classes.specs.Scoped.{outer_rule}
-use Rattle.alg_classes.specs.Growth.{Only}
-use Rattle.profile_labels.specs.Growth.{Grown, Over}
-use Rattle.profile_labels.specs.Labels.{LabelledOf}
+use Rattle.alg_classes.specs.Flat.{best}
+use Rattle.profile_labels.specs.declared.extreme.Extreme.TheVariants.{Worst}
+use Rattle.profile_labels.specs.Outlines.{OutlinedOf, extreme_of}
+use Rattle.profile_labels.proofs.ExtremeLaws.{none_where_not, worst_where_there}
 use Rattle.profile_labels.proofs.StepLaws.{grown_by_best, grown_by_both}
 use Rattle.profile_labels.proofs.parts.add_outers.Goals as goal
 
-pub add_outers_to-requires : goal.add_outers_to-requires
-add_outers_to-requires c =
-    let d = pure_carrier c.args.second.now in
-    subst (In d) (sym c.in_ok-best.ensures.value) (best_in d c.requires)
+pub returns-then-has_worst : goal.returns-then-has_worst
+returns-then-has_worst c = λ a e formed bound are.
+    let b = expression_of c.args.second.now in
+    let d = carrier_of b in
+    let there = worst_where_there d (best d) (sym c.has_worst.ensures ∙ c.if-has_worst.true) in
+    on_ok_weaker c.add_outers_to-then-has_worst.result
+    (grown_by_both (OutlinedOf (alg_in (scoped a b) e)) d (extreme_of d Worst) c.args.xs.now c.args.list.now c.add_outers_to.new.list
+    c.add_outers_to-then-has_worst.new.list (carriers_are b c.requires) there (c.in_ok-add_outers_to.ensures a e formed bound are))
+    (c.add_outers_to-then-has_worst.ensures a e formed bound are)
 
-pub returns-in-Some : goal.returns-in-Some
-returns-in-Some c = λ a b e formed bound same are.
-    let P = LabelledOf (alg_in (scoped a b) e) in
-    let d = pure_carrier c.args.second.now in
-    let u = pure_value c.in_ok-best.field-0 in
-    let w = pure_value c.in-Some.value in
-    let xs = c.args.xs.now in
-    let best_is = c.in_ok-best.ensures.value in
-    let worst_is = sym c.in_ok-value.ensures.value ∙ ap (option_map pure_value) c.in-Some.is in
-    let first = c.in_ok-add_outers_to.ensures a b e formed same
-    (within_edition b e d u bound same (subst (IsWithin d) (sym best_is) (best_within d))) are in
-    on_ok_weaker c.add_outers_to-in-Some.result
-    (grown_by_both P d w xs c.args.list.now c.add_outers_to.new.list c.add_outers_to-in-Some.new.list c.requires worst_is
-    (subst (λ v. Grown P (Over (λ p. Only (outer_rule d v p)) xs) c.args.list.now c.add_outers_to.new.list) best_is first))
-    (c.add_outers_to-in-Some.ensures a b e formed same (within_edition b e d w bound same (worst_within d w worst_is)) are)
-
-pub returns-in-None : goal.returns-in-None
-returns-in-None c = λ a b e formed bound same are.
-    let P = LabelledOf (alg_in (scoped a b) e) in
-    let d = pure_carrier c.args.second.now in
-    let u = pure_value c.in_ok-best.field-0 in
-    let xs = c.args.xs.now in
-    let best_is = c.in_ok-best.ensures.value in
-    let worst_is = sym c.in_ok-value.ensures.value ∙ ap (option_map pure_value) c.in-None.is in
-    let first = c.in_ok-add_outers_to.ensures a b e formed same
-    (within_edition b e d u bound same (subst (IsWithin d) (sym best_is) (best_within d))) are in
-    grown_by_best P d xs c.args.list.now c.add_outers_to.new.list c.requires worst_is
-    (subst (λ v. Grown P (Over (λ p. Only (outer_rule d v p)) xs) c.args.list.now c.add_outers_to.new.list) best_is first)
+pub returns-else-has_worst : goal.returns-else-has_worst
+returns-else-has_worst c = λ a e formed bound are.
+    let b = expression_of c.args.second.now in
+    let d = carrier_of b in
+    let none = none_where_not d (sym c.has_worst.ensures ∙ c.if-has_worst.false) in
+    grown_by_best (OutlinedOf (alg_in (scoped a b) e)) d c.args.xs.now c.args.list.now c.add_outers_to.new.list (carriers_are b c.requires) none
+    (c.in_ok-add_outers_to.ensures a e formed bound are)

@@ -8,5 +8,5 @@ returns-in_err-map c = c.from_residual.ensures ∙ image_none c.args.names.now c
 
 pub returns : goal.returns
 returns c =
-    c.place_in.ensures ∙ ap (λ t. place_of c.args.names.now t) c.target.ensures
+    c.place_from.ensures ∙ ap (λ t. place_of c.args.names.now t) c.target.ensures
     ∙ image_some c.args.names.now c.args.maps.now c.in_ok-map.map.now c.args.name.now c.in_ok-map.ensures

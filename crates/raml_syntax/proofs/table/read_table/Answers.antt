@@ -1,5 +1,7 @@
-use Rattle.std.proofs.Common.{Ok, Err}
+use Rattle.std.proofs.Common.{ap, ◌∙◌, Ok, Err}
 use Rattle.std.proofs.lemmas.Result.{err_from_is_err_and}
+use Rattle.raml_syntax.specs.Differing.{differ}
+use Rattle.raml_syntax.proofs.DistinctNames.{values_differ}
 use Rattle.raml_syntax.proofs.TableReading.{table_no_brace, table_no_values, table_read}
 use Rattle.raml_syntax.proofs.table.read_table.Goals as goal
 
@@ -24,3 +26,8 @@ pub returns-clause-table : goal.returns-clause-table
 returns-clause-table c =
     table_read c.args.tokens.now c.take_mark.new.tokens c.read_values.new.tokens c.read_rows.new.tokens c.in_ok-values.values c.as_slice.result.now (Ok c.in_ok-rows.rows)
     c.as_slice.ensures c.in_ok-take_mark.ensures.mark c.in_ok-values.ensures.values c.in_ok-rows.ensures.rows
+
+pub read_rows-requires-clause-distinct : goal.read_rows-requires-clause-distinct
+read_rows-requires-clause-distinct c =
+    let read = c.in_ok-values.ensures.values in
+    ap differ c.as_slice.ensures ∙ values_differ c.in_ok-values.values read.0 read.1

@@ -9,4 +9,4 @@ returns g c =
     let s = inside.algebra.now in
     let net = inside.net.now in
     let sig_in = signs_in (A.is_sig s) (A.sig_value s) net c.self.invariant.1.algebra (g.met.A.Algebra.sig_in s) in
-    rw (← c.self.view_is) (fits_is (A.is_sig s) (A.sig_value s) net sig_in c.args.message.now c.told-told.result.now c.dest.result.0 c.dest_count.result c.told-told.ensures.told c.told-told.ensures.value c.dest.ensures c.dest_count.ensures.count)
+    rw (← c.self.view_is) (fits_is (A.is_sig s) (A.sig_value s) net sig_in c.args.message.now c.reported-reported.result.now c.dest.result.0 c.dest_count.result c.reported-reported.ensures.reported c.reported-reported.ensures.value c.dest.ensures c.dest_count.ensures.count)

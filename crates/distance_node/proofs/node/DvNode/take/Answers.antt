@@ -5,15 +5,15 @@ use Rattle.std.proofs.lemmas.List.{set-get_or}
 use Rattle.net_graph.specs.Nets.{arcs_to}
 use Rattle.node_core.specs.Kinds.{listener}
 use Rattle.distance_node.specs.Chosen.{IsBest, entry_of}
-use Rattle.distance_node.specs.Fitting.{fits_dest, same_told_self}
-use Rattle.distance_node.specs.Node.{fits_in, heard_with, offers, same_told, taken, told_on}
+use Rattle.distance_node.specs.Fitting.{fits_dest, same_reported_self}
+use Rattle.distance_node.specs.Node.{fits_in, heard_with, offers, same_reported, taken, reported_on}
 use Rattle.distance_node.specs.Nodes.{HasRows, PureNode, state_of}
 use Rattle.distance_node.specs.Places.{heard_by}
-use Rattle.distance_node.specs.Tellings.{told_of}
+use Rattle.distance_node.specs.Tellings.{reported_of}
 use Rattle.distance_node.specs.Vectors.{noted}
-use Rattle.distance_node.proofs.Nodes.{heard_more, node_with, rows_more, taken_is, told_is_taken}
+use Rattle.distance_node.proofs.Nodes.{heard_more, node_with, rows_more, taken_is, reported_is_taken}
 use Rattle.distance_node.proofs.Pushing.{entry_is}
-use Rattle.distance_node.proofs.Taking.{came_on, entry_there, heard_put, some_holds, told_before, told_may}
+use Rattle.distance_node.proofs.Taking.{came_on, entry_there, heard_put, some_holds, reported_before, reported_may}
 use Rattle.distance_node.proofs.node.DvNode.take.Goals as goal
 
 pub settle_by-requires-clause-arrival : goal.settle_by-requires-clause-arrival
@@ -34,14 +34,14 @@ settle_by-requires-clause-arrival g c =
     let below : dest < length net.dests = subst (λ z. z < length net.dests) (sym c.dest-dest.ensures) (fits_dest net m fits) in
     let listens : listener net c.args.arc.0 ≡ Some i = rw (← c.self.view_is) at c.requires.listens in
     let came = came_on net n i c.args.arc.0 place listens c.place_of-place.ensures in
-    let told = c.told-told.result.now in
-    let may = told_may (A.is_sig s) value m.stamp c.args.clock told c.requires.stamp c.told-told.ensures.told in
+    let reported = c.reported-reported.result.now in
+    let may = reported_may (A.is_sig s) value m.stamp c.args.clock reported c.requires.stamp c.reported-reported.ensures.reported in
     record {
       from = came.0;
       there = came.1;
       number = came.2;
       dest_in = below;
-      told = may;
+      reported = may;
       early = c.requires.early;
     }
 
@@ -153,8 +153,8 @@ invariant_of-self-2 g c =
     let below : dest < length net.dests = subst (λ z. z < length net.dests) (sym c.dest-dest.ensures) (fits_dest net m fits) in
     let listens : listener net c.args.arc.0 ≡ Some i = rw (← c.self.view_is) at c.requires.listens in
     let came = came_on net n i c.args.arc.0 place listens c.place_of-place.ensures in
-    let told = c.in_ok-kept.kept in
-    let may = told_before (A.is_sig s) value m.stamp c.args.clock c.told-told.result.now told c.requires.stamp c.told-told.ensures.told c.in_ok-kept.ensures.sig c.in_ok-kept.ensures.value in
+    let reported = c.in_ok-kept.kept in
+    let may = reported_before (A.is_sig s) value m.stamp c.args.clock c.reported-reported.result.now reported c.requires.stamp c.reported-reported.ensures.reported c.in_ok-kept.ensures.sig c.in_ok-kept.ensures.value in
     let begun : inside.is_begun ≡ true = rw (← c.self.view_is) at c.requires.begun in
     let rows = inside.rows.items in
     let row_there : dest < length rows = subst (λ z. dest < z) (sym node.row_count) below in
@@ -166,19 +166,19 @@ invariant_of-self-2 g c =
     let late : inside.last < c.args.clock = rw (← c.self.view_is) at c.requires.last in
     let later : inside.last ≤ c.args.clock = omega (arith, late) in
     let is_entry = entry_there net n i place w dest came.0 heard came.1 node.placed.near.count node.has_heard.count below in
-    let heard_is = heard_put value net n i place w c.args.arc.0 dest came.0 heard told came.1 came.2 node.placed.near.count node.has_heard.count below in
+    let heard_is = heard_put value net n i place w c.args.arc.0 dest came.0 heard reported came.1 came.2 node.placed.near.count node.has_heard.count below in
     let best = subst (λ v. IsBest value net i (offers net dest i (λ a. heard_with (heard_by value net i heard) c.args.arc.0 dest v a dest)) next) (sym c.in_ok-kept.ensures.value)
-    (subst (λ h. IsBest value net i (offers net dest i (λ a. heard_with (heard_by value net i h) c.args.arc.0 dest (option_map value c.told-told.result.now) a dest)) next) c.deref-2.ensures.value (c.in_ok-settle_by.ensures.stays c.in-Stays.is)) in
+    (subst (λ h. IsBest value net i (offers net dest i (λ a. heard_with (heard_by value net i h) c.args.arc.0 dest (option_map value c.reported-reported.result.now) a dest)) next) c.deref-2.ensures.value (c.in_ok-settle_by.ensures.stays c.in-Stays.is)) in
     let sig = some_holds (λ r. A.is_sig s r.sig) next (λ r e. has.sigs dest r (entry ∙ e)) in (
       c.self.invariant.0,
       record {
         algebra = node.algebra;
         placed = node.placed;
-        has_heard = heard_more value net i (A.is_sig s) heard inside.last c.args.clock (dest * w + place) told node.has_heard later c.requires.early is_entry.inside may;
+        has_heard = heard_more value net i (A.is_sig s) heard inside.last c.args.clock (dest * w + place) reported node.has_heard later c.requires.early is_entry.inside may;
         silent = λ e. absurd (let z = sym begun ∙ e in cc);
         row_count = node.row_count;
         rowless = λ e. absurd (let z = sym begun ∙ e in cc);
-        has_rows = λ b. subst (HasRows (A.is_sig s) value net i (set heard (dest * w + place) told)) same (rows_more value net i (A.is_sig s) heard (set heard (dest * w + place) told) rows c.args.arc.0 dest (option_map value told) next has heard_is row_there sig best);
+        has_rows = λ b. subst (HasRows (A.is_sig s) value net i (set heard (dest * w + place) reported)) same (rows_more value net i (A.is_sig s) heard (set heard (dest * w + place) reported) rows c.args.arc.0 dest (option_map value reported) next has heard_is row_there sig best);
       },
     )
 
@@ -209,8 +209,8 @@ returns-clause-node g c =
     let below : dest < length net.dests = subst (λ z. z < length net.dests) (sym c.dest-dest.ensures) (fits_dest net m fits) in
     let listens : listener net c.args.arc.0 ≡ Some i = rw (← c.self.view_is) at c.requires.listens in
     let came = came_on net n i c.args.arc.0 place listens c.place_of-place.ensures in
-    let told = c.in_ok-kept.kept in
-    let may = told_before (A.is_sig s) value m.stamp c.args.clock c.told-told.result.now told c.requires.stamp c.told-told.ensures.told c.in_ok-kept.ensures.sig c.in_ok-kept.ensures.value in
+    let reported = c.in_ok-kept.kept in
+    let may = reported_before (A.is_sig s) value m.stamp c.args.clock c.reported-reported.result.now reported c.requires.stamp c.reported-reported.ensures.reported c.in_ok-kept.ensures.sig c.in_ok-kept.ensures.value in
     let begun : inside.is_begun ≡ true = rw (← c.self.view_is) at c.requires.begun in
     let rows = inside.rows.items in
     let row_there : dest < length rows = subst (λ z. dest < z) (sym node.row_count) below in
@@ -222,11 +222,11 @@ returns-clause-node g c =
     let late : inside.last < c.args.clock = rw (← c.self.view_is) at c.requires.last in
     let later : inside.last ≤ c.args.clock = omega (arith, late) in
     let is_entry = entry_there net n i place w dest came.0 heard came.1 node.placed.near.count node.has_heard.count below in
-    let heard_is = heard_put value net n i place w c.args.arc.0 dest came.0 heard told came.1 came.2 node.placed.near.count node.has_heard.count below in
+    let heard_is = heard_put value net n i place w c.args.arc.0 dest came.0 heard reported came.1 came.2 node.placed.near.count node.has_heard.count below in
     let best = subst (λ v. IsBest value net i (offers net dest i (λ a. heard_with (heard_by value net i heard) c.args.arc.0 dest v a dest)) next) (sym c.in_ok-kept.ensures.value)
-    (subst (λ h. IsBest value net i (offers net dest i (λ a. heard_with (heard_by value net i h) c.args.arc.0 dest (option_map value c.told-told.result.now) a dest)) next) c.deref-2.ensures.value (c.in_ok-settle_by.ensures.stays c.in-Stays.is)) in
-    ap (λ z. state_of (node_with value net i inside.is_begun (set heard (dest * w + place) told) z c.args.clock)) (sym same)
-    ∙ (taken_is value net i heard (set heard (dest * w + place) told) rows inside.last c.args.arc.0 dest c.args.clock told next m c.dest-dest.ensures (c.in_ok-kept.ensures.value ∙ c.told-told.ensures.value) heard_is row_there best inside.is_begun
+    (subst (λ h. IsBest value net i (offers net dest i (λ a. heard_with (heard_by value net i h) c.args.arc.0 dest (option_map value c.reported-reported.result.now) a dest)) next) c.deref-2.ensures.value (c.in_ok-settle_by.ensures.stays c.in-Stays.is)) in
+    ap (λ z. state_of (node_with value net i inside.is_begun (set heard (dest * w + place) reported) z c.args.clock)) (sym same)
+    ∙ (taken_is value net i heard (set heard (dest * w + place) reported) rows inside.last c.args.arc.0 dest c.args.clock reported next m c.dest-dest.ensures (c.in_ok-kept.ensures.value ∙ c.reported-reported.ensures.value) heard_is row_there best inside.is_begun
     ∙ ap (λ z. (taken (state_of z) c.args.arc.0 m c.args.clock).0) c.self.view_is)
 
 pub returns-clause-out : goal.returns-clause-out
@@ -247,8 +247,8 @@ returns-clause-out g c =
     let below : dest < length net.dests = subst (λ z. z < length net.dests) (sym c.dest-dest.ensures) (fits_dest net m fits) in
     let listens : listener net c.args.arc.0 ≡ Some i = rw (← c.self.view_is) at c.requires.listens in
     let came = came_on net n i c.args.arc.0 place listens c.place_of-place.ensures in
-    let told = c.in_ok-kept.kept in
-    let may = told_before (A.is_sig s) value m.stamp c.args.clock c.told-told.result.now told c.requires.stamp c.told-told.ensures.told c.in_ok-kept.ensures.sig c.in_ok-kept.ensures.value in
+    let reported = c.in_ok-kept.kept in
+    let may = reported_before (A.is_sig s) value m.stamp c.args.clock c.reported-reported.result.now reported c.requires.stamp c.reported-reported.ensures.reported c.in_ok-kept.ensures.sig c.in_ok-kept.ensures.value in
     let begun : inside.is_begun ≡ true = rw (← c.self.view_is) at c.requires.begun in
     let rows = inside.rows.items in
     let row_there : dest < length rows = subst (λ z. dest < z) (sym node.row_count) below in
@@ -260,12 +260,12 @@ returns-clause-out g c =
     let late : inside.last < c.args.clock = rw (← c.self.view_is) at c.requires.last in
     let later : inside.last ≤ c.args.clock = omega (arith, late) in
     let is_entry = entry_there net n i place w dest came.0 heard came.1 node.placed.near.count node.has_heard.count below in
-    let heard_is = heard_put value net n i place w c.args.arc.0 dest came.0 heard told came.1 came.2 node.placed.near.count node.has_heard.count below in
+    let heard_is = heard_put value net n i place w c.args.arc.0 dest came.0 heard reported came.1 came.2 node.placed.near.count node.has_heard.count below in
     let best = subst (λ v. IsBest value net i (offers net dest i (λ a. heard_with (heard_by value net i heard) c.args.arc.0 dest v a dest)) next) (sym c.in_ok-kept.ensures.value)
-    (subst (λ h. IsBest value net i (offers net dest i (λ a. heard_with (heard_by value net i h) c.args.arc.0 dest (option_map value c.told-told.result.now) a dest)) next) c.deref-2.ensures.value (c.in_ok-settle_by.ensures.stays c.in-Stays.is)) in
-    let same_value = ap (λ b. cond b [] (told_on (arcs_to net i) (record { dest = dest; value = told_of value next; stamp = c.args.clock }))) (sym (same_told_self (told_of value next))) in
-    let sent = subst (λ r. map noted c.args.out.now ≡ cond (same_told (told_of value next) (told_of value r)) []
-    (told_on (arcs_to net i) (record { dest = dest; value = told_of value next; stamp = c.args.clock }))) (sym entry) (ap (map noted) c.requires.out ∙ same_value) in
-    told_is_taken value net i heard (set heard (dest * w + place) told) rows inside.last c.args.arc.0 dest c.args.clock told next m c.dest-dest.ensures (c.in_ok-kept.ensures.value ∙ c.told-told.ensures.value) heard_is row_there best inside.is_begun
+    (subst (λ h. IsBest value net i (offers net dest i (λ a. heard_with (heard_by value net i h) c.args.arc.0 dest (option_map value c.reported-reported.result.now) a dest)) next) c.deref-2.ensures.value (c.in_ok-settle_by.ensures.stays c.in-Stays.is)) in
+    let same_value = ap (λ b. cond b [] (reported_on (arcs_to net i) (record { dest = dest; value = reported_of value next; stamp = c.args.clock }))) (sym (same_reported_self (reported_of value next))) in
+    let sent = subst (λ r. map noted c.args.out.now ≡ cond (same_reported (reported_of value next) (reported_of value r)) []
+    (reported_on (arcs_to net i) (record { dest = dest; value = reported_of value next; stamp = c.args.clock }))) (sym entry) (ap (map noted) c.requires.out ∙ same_value) in
+    reported_is_taken value net i heard (set heard (dest * w + place) reported) rows inside.last c.args.arc.0 dest c.args.clock reported next m c.dest-dest.ensures (c.in_ok-kept.ensures.value ∙ c.reported-reported.ensures.value) heard_is row_there best inside.is_begun
     (map noted c.args.out.now) sent
     ∙ ap (λ z. (taken (state_of z) c.args.arc.0 m c.args.clock).1) c.self.view_is

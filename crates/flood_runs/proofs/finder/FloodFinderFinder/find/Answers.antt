@@ -2,7 +2,7 @@ use Rattle.std.proofs.Common.{map, subst}
 use Rattle.std.specs.List.{AllByRecursion}
 use Rattle.std.proofs.lemmas.List.{map-id}
 use Rattle.flood_node.specs.Node.{FloodState}
-use Rattle.flood_node.specs.Told.{AreBegun, AreTrueCards}
+use Rattle.flood_node.specs.Reported.{AreBegun, AreTrueCards}
 use Rattle.flood_runs.proofs.finder.FloodFinderFinder.find.Goals as goal
 
 pub flood_rows-requires-clause-nodes : goal.flood_rows-requires-clause-nodes

@@ -1,8 +1,0 @@
-use Rattle.std.proofs.Common.{◌≡◌, [], take}
-use Rattle.flood_node.specs.Rows.{is_placed}
-use Rattle.flood_node.proofs.ToldNets.{told_arcs}
-use Rattle.flood_node.proofs.told.add_arcs.Given as goal
-
--- the arcs of the network so far whose tails have a card
-abbrev pub invariant-loop-number : goal.invariant-loop-number
-invariant-loop-number l = l.draft ≡ record l.fn.net { arcs = told_arcs (is_placed l.fn.cards) (take l.number l.fn.net.arcs); origins = [] }
