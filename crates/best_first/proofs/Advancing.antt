@@ -1,5 +1,5 @@
 -- The step from one state to the next, as the code makes it.
-use Rattle.std.proofs.Common.{◌≡◌, ℕ, ◌<◌, List, [], Option, Some, None, Bool, true, false, ◌==◌, if◌then◌else◌, option_map, Ok, Err, IfOk, length, replicate, refl, ap, ◌∙◌, arith}
+use Rattle.std.proofs.Common.{◌≡◌, ℕ, ◌<◌, List, [], Option, Some, None, Bool, true, false, ◌==◌, if◌then◌else◌, option_map, length, replicate, refl, ap, ◌∙◌, arith}
 use Rattle.std.proofs.Math.Path.{fun_ext}
 use Rattle.std.proofs.lemmas.List.{length-map, length-replicate}
 use Rattle.std.proofs.lemmas.Bool.Decides.{nat_tests}
@@ -7,11 +7,7 @@ use Rattle.meta_base.specs.declared.ids.NodeId.{NodeId}
 use Rattle.alg_model.specs.Expressions.{PureValue}
 use Rattle.net_graph.specs.Nets.{PureNet, IsNet}
 use Rattle.net_graph.specs.Routes.{PureRoute}
-use Rattle.std.specs.declared.result.Result.{Result}
-use Rattle.meta_base.specs.declared.errors.NoMemory.{NoMemory}
-use Rattle.net_graph.specs.declared.route.DestTable.{DestTable}
-use Rattle.net_graph.specs.Views.{rows_of}
-use Rattle.net_graph.specs.Tables.{Reported, PureRow, BestFirst, carrier}
+use Rattle.net_graph.specs.Tables.{Reported, carrier}
 use Rattle.best_first.specs.declared.fixed.FixedRoute.{FixedRoute}
 use Rattle.best_first.specs.declared.route.OpenRoute.{OpenRoute}
 use Rattle.best_first.specs.Found.{found-map, found_at, arc_offer, own_offer}
@@ -104,7 +100,3 @@ module _ {S : Type 0} (value : S → PureValue) (net : PureNet) (dest : ℕ) (ro
             by false e =
                 let kept : reported_by value new_paths new_rows k ≡ reported_by value paths rows k = fixes.rows_at k ∙ rw e refl in
                 rw (kept, reported_next) refl
-
-pub table_made : (net : PureNet) (dest : ℕ) (r : Result DestTable NoMemory) (rows : List PureRow) → IfOk r (λ table. rows_of table ≡ rows) → BestFirst net dest rows → IfOk r (λ table. BestFirst net dest (rows_of table))
-table_made net dest (Ok table) rows e b = rw e b
-table_made net dest (Err fault) rows e b = tt

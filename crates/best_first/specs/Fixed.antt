@@ -5,10 +5,11 @@ use Rattle.meta_base.specs.NodePaths.{numbers}
 use Rattle.path_store.specs.PathOf.{path_of}
 use Rattle.alg_model.specs.Expressions.{PureCarrier, PureValue}
 use Rattle.net_graph.specs.Routes.{PureRoute}
-use Rattle.net_graph.specs.Tables.{Reported}
+use Rattle.net_graph.specs.Tables.{PureRow, Reported}
+use Rattle.best_first.specs.declared.fixed.Fixed.{Fixed}
 use Rattle.best_first.specs.declared.fixed.FixedRoute.{FixedRoute}
 use Rattle.best_first.specs.declared.route.OpenRoute.{OpenRoute}
-use Rattle.best_first.specs.Found.{found_at, AllFound, none_count, IsBestOf}
+use Rattle.best_first.specs.Found.{found_at, AllFound, none_count, rows_from, IsBestOf}
 use Rattle.best_first.specs.Keys.{best_of, routes_of}
 
 -- the route of a node that is fixed, by the value and the path that stand for it
@@ -18,6 +19,10 @@ fixed_route value paths f = record { value = value f.sig; path = numbers (path_o
 -- the same of the route or none of each node
 abbrev pub fixed_routes : {S : Type 0} → (S → PureValue) → List (List NodeId) → List (Option (FixedRoute S)) → List (Option PureRoute)
 fixed_routes value paths rows = map (option_map (fixed_route value paths)) rows
+
+-- the rows of a destination that these are
+abbrev pub fixed_rows : {S : Type 0} → (S → PureValue) → ℕ → Fixed S → List PureRow
+fixed_rows value dest fixed = rows_from dest 0 (fixed_routes value fixed.paths fixed.rows.items)
 
 -- what the rows tell
 abbrev pub reported_by : {S : Type 0} → (S → PureValue) → List (List NodeId) → List (Option (FixedRoute S)) → Reported

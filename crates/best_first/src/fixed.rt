@@ -9,23 +9,25 @@ use meta_base::{NoMemory, NodeId};
 use path_store::{PathId, Paths};
 use std::alloc::Global;
 
-// The route of a node that is fixed: its value in the algebra's own form, and its path.
+/// The route of a node that is fixed: its value in the algebra's own form, and its path.
 #[derive(Drop)]
-pub(crate) struct FixedRoute<S> {
+pub struct FixedRoute<S> {
     pub sig: S,
     pub path: PathId,
 }
 
-// The routes of the nodes that are fixed, and their paths.
+/// The routes of the nodes that are fixed, by number of node, and their paths.
 #[derive(Drop)]
-pub(crate) struct Fixed<S> {
+pub struct Fixed<S> {
+    /// One for each node: its route, or none.
     pub rows: Vec<Option<FixedRoute<S>>>,
+    /// The paths of these routes.
     pub paths: Paths,
 }
 
 impl<S: Drop> Fixed<S> {
-    /// So many nodes, none of which is fixed.
-    pub fn new(alloc: Global, count: usize) -> Result<Fixed<S>, NoMemory>
+    // So many nodes, none of which is fixed.
+    pub(crate) fn new(alloc: Global, count: usize) -> Result<Fixed<S>, NoMemory>
         ensures rows { IfOk result (λ fixed. fixed.rows.items ≡ replicate count None) }
         ensures paths { IfOk result (λ fixed. fixed.paths ≡ []) }
     {
@@ -37,8 +39,8 @@ impl<S: Drop> Fixed<S> {
         Ok(Fixed { rows, paths })
     }
 
-    /// Fixes the node of the route.
-    pub fn fix(&mut self, route: OpenRoute<S>) -> Result<(), NoMemory>
+    // Fixes the node of the route.
+    pub(crate) fn fix(&mut self, route: OpenRoute<S>) -> Result<(), NoMemory>
         requires node { route.place.node.0 < vec_len self.old.rows }
         requires next { route.place.next.0 < vec_len self.old.rows }
         requires few { HasNumber (length self.old.paths) }
@@ -55,8 +57,8 @@ impl<S: Drop> Fixed<S> {
         Ok(())
     }
 
-    /// Lends the route of a node that is fixed.
-    pub fn route(&self, node: NodeId) -> &FixedRoute<S>
+    // Lends the route of a node that is fixed.
+    pub(crate) fn route(&self, node: NodeId) -> &FixedRoute<S>
         requires { is_some (found_at self.now.rows.items node.0) ≡ true }
         ensures { found_at self.now.rows.items node.0 ≡ Some result.now }
     {

@@ -3,7 +3,7 @@ ghost use Rattle.net_graph.specs.Nets.{CanBeNumbered};
 ghost use Rattle.net_graph.specs.Tables.{BestFirst};
 ghost use Rattle.net_graph.specs.Views.{rows_of, pure_row};
 ghost use Rattle.best_first.specs.Found.{row_from, rows_from};
-ghost use Rattle.best_first.specs.Fixed.{fixed_route, fixed_routes, AreFixedBy};
+ghost use Rattle.best_first.specs.Fixed.{fixed_route, fixed_routes, fixed_rows, AreFixedBy};
 ghost use Rattle.arc_labels.specs.Neighbours.{AreListenerLabels};
 
 use crate::fixed::{Fixed, FixedRoute};
@@ -42,8 +42,9 @@ fn row_of<A: Algebra>(
     Ok(RouteRow { node, dest, route })
 }
 
-// The table of these rows.
-fn into_table<A: Algebra>(
+/// The table of the destination whose rows are these routes, which may come from [`fixed_with`]: the values are those
+/// of the algebra, and each path is copied out of the store. It is refused for want of memory alone.
+pub fn table_of_fixed<A: Algebra>(
     alloc: Global,
     algebra: &A,
     dest: DestId,
@@ -105,26 +106,50 @@ pub fn solve_with<A: Algebra>(
     ensures rows { IfOk result (λ table. BestFirst net.now dest.0 (rows_of table)) }
     ensures dest { IfOk result (λ table. table.dest ≡ dest) }
 {
-    solve_counted::<A, Brand>(alloc, algebra, net, labels, dest, Blank::new(1))
+    let fixed = fixed_with(alloc, algebra, net, labels, dest)?;
+    table_of_fixed(alloc, algebra, dest, fixed)
 }
 
-// What `solve_with` gives, where the comparisons of the search are counted in the blank's ledger.
-fn solve_counted<A: Algebra, L: Ledger>(
+/// The routes that [`solve_with`] puts into a table, with values in the algebra's own form, and all paths in one store.
+pub fn fixed_with<A: Algebra>(
+    alloc: Global,
+    algebra: &A,
+    net: &Net,
+    labels: &NeighbourLabels<'_, A::Lab>,
+    dest: DestId,
+) -> Result<Fixed<A::Sig>, NoMemory>
+    requires algebra { A.expression algebra.now ≡ net.now.alg.expression }
+    requires labels { AreListenerLabels (A.stands_for algebra.now) net.now labels.now }
+    requires dest { dest.0 < length net.now.dests }
+    ensures rows { IfOk result (λ fixed.
+        BestFirst net.now dest.0 (fixed_rows (A.sig_value algebra.now) dest.0 fixed)) }
+    ensures fixed { IfOk result (λ fixed. AreFixedBy (A.is_sig algebra.now) fixed.rows.items fixed.paths) }
+    ensures count { IfOk result (λ fixed. vec_len fixed.rows ≡ length net.now.nodes) }
+    ensures few { CanBeNumbered (length net.now.nodes) }
+{
+    fixed_counted::<A, Brand>(alloc, algebra, net, labels, dest, Blank::new(1))
+}
+
+// What `fixed_with` gives, where the comparisons of the search are counted in the blank's ledger.
+fn fixed_counted<A: Algebra, L: Ledger>(
     alloc: Global,
     algebra: &A,
     net: &Net,
     labels: &NeighbourLabels<'_, A::Lab>,
     dest: DestId,
     blank: Blank,
-) -> Result<DestTable, NoMemory>
+) -> Result<Fixed<A::Sig>, NoMemory>
     requires algebra { A.expression algebra.now ≡ net.now.alg.expression }
     requires labels { AreListenerLabels (A.stands_for algebra.now) net.now labels.now }
     requires dest { dest.0 < length net.now.dests }
     requires name { blank.name ≡ L.name }
     requires parts { blank.parts ≡ L.parts }
     requires some { 0 < L.parts }
-    ensures rows { IfOk result (λ table. BestFirst net.now dest.0 (rows_of table)) }
-    ensures dest { IfOk result (λ table. table.dest ≡ dest) }
+    ensures rows { IfOk result (λ fixed.
+        BestFirst net.now dest.0 (fixed_rows (A.sig_value algebra.now) dest.0 fixed)) }
+    ensures fixed { IfOk result (λ fixed. AreFixedBy (A.is_sig algebra.now) fixed.rows.items fixed.paths) }
+    ensures count { IfOk result (λ fixed. vec_len fixed.rows ≡ length net.now.nodes) }
+    ensures few { CanBeNumbered (length net.now.nodes) }
 {
     let count = net.node_count();
     let mut fixed = Fixed::new(alloc, count)?;
@@ -133,5 +158,5 @@ fn solve_counted<A: Algebra, L: Ledger>(
     while let Some(node) = fix_next(algebra, &mut fixed, &mut search)? {
         relax(alloc, algebra, net, labels, &fixed, &mut search, node)?;
     }
-    into_table(alloc, algebra, dest, fixed)
+    Ok(fixed)
 }

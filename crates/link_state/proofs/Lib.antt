@@ -1,3 +1,4 @@
 pub mod Placed
+pub mod Made
 pub mod Unique
 pub mod Sent

@@ -2,7 +2,7 @@ use Rattle.std.proofs.Common.{◌≡◌, length, map}
 use Rattle.net_graph.specs.Views.{pure_row}
 use Rattle.best_first.specs.Found.{rows_from}
 use Rattle.best_first.specs.Fixed.{fixed_routes}
-use Rattle.best_first.proofs.solution.into_table.Given as goal
+use Rattle.best_first.proofs.solution.table_of_fixed.Given as goal
 
 -- the rows of the nodes so far
 abbrev pub invariant-loop-row : goal.invariant-loop-row

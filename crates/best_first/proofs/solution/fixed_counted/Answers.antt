@@ -1,13 +1,12 @@
 use Rattle.std.proofs.Common.{◌≡◌, Option, None, length, ap, ◌∙◌, arith}
 use Rattle.std.proofs.lemmas.List.{length-replicate}
-use Rattle.best_first.specs.Found.{rows_from}
 use Rattle.best_first.specs.declared.fixed.FixedRoute.{FixedRoute}
 use Rattle.best_first.specs.Fixed.{reported_by, fixed_routes, open_routes}
 use Rattle.best_first.proofs.Places.{found-none}
 use Rattle.best_first.proofs.Steps.{last_state}
 use Rattle.best_first.proofs.Speaking.{nothing_found}
-use Rattle.best_first.proofs.Advancing.{reported_before, fixed_before, state_before, reported_next, node_in, speaks, state_next, table_made}
-use Rattle.best_first.proofs.solution.solve_counted.Goals as goal
+use Rattle.best_first.proofs.Advancing.{reported_before, fixed_before, state_before, reported_next, node_in, speaks, state_next}
+use Rattle.best_first.proofs.solution.fixed_counted.Goals as goal
 
 pub offer_own-requires-clause-best : goal.offer_own-requires-clause-best
 offer_own-requires-clause-best g c = λ k. rw c.in_ok-search.ensures.best (found-none c.node_count-count.result k)
@@ -110,6 +109,5 @@ returns-clause-rows g c =
     let paths = c.loop-search.fixed.paths in
     let best = c.loop-search.search.best.items in
     let done = rw c.in_default.is at c.in_ok-node.ensures.none in
-    let made = rw (done.rows_same, done.paths_same) at c.into_table.ensures.rows in
-    table_made net dest c.into_table.result (rows_from dest 0 (fixed_routes value paths rows)) made
+    rw (done.rows_same, done.paths_same)
     (last_state net dest (fixed_routes value paths rows) (open_routes value paths rows best) c.node_count-count.ensures.net c.loop-search.invariant.state (nothing_found value (reported_by value paths rows) best done.none))

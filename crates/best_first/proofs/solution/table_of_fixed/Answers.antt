@@ -1,7 +1,7 @@
 use Rattle.std.proofs.Common.{◌∷◌, [], length-append, arith}
 use Rattle.best_first.specs.Fixed.{fixed_route}
 use Rattle.best_first.proofs.Places.{table-push}
-use Rattle.best_first.proofs.solution.into_table.Goals as goal
+use Rattle.best_first.proofs.solution.table_of_fixed.Goals as goal
 
 pub loop-row-preserved : goal.loop-row-preserved
 loop-row-preserved g c =

@@ -4,7 +4,7 @@ use Rattle.best_first.specs.Found.{none_count}
 use Rattle.best_first.specs.State.{IsState}
 use Rattle.best_first.specs.Fixed.{reported_by, fixed_routes, open_routes, AreFixedBy}
 use Rattle.best_first.specs.Queue.{IsOpen}
-use Rattle.best_first.proofs.solution.solve_counted.Given as goal
+use Rattle.best_first.proofs.solution.fixed_counted.Given as goal
 
 -- what holds between two nodes that are fixed
 abbrev pub invariant-loop-search : goal.invariant-loop-search
@@ -18,7 +18,7 @@ invariant-loop-search g l =
       best_count : vec_len l.search.best ≡ length l.net.nodes;
       fixed : AreFixedBy is_sig rows paths;
       queue : IsOpen value is_sig (carrier l.net) (reported_by value paths rows) l.search.best.items l.search.standing;
-      state : IsState l.net l.dest.0 (fixed_routes value paths rows) (open_routes value paths rows l.search.best.items);
+      state : IsState l.net l.fn.dest.0 (fixed_routes value paths rows) (open_routes value paths rows l.search.best.items);
     }
 
 abbrev pub decreases-loop-search : goal.decreases-loop-search
