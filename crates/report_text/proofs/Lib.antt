@@ -1,4 +1,3 @@
 pub mod Summaries
 pub mod CodeLines
 mod Appended
-mod PathNames

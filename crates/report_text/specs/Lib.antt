@@ -7,5 +7,3 @@ pub mod RunTexts
 pub mod SummaryTexts
 pub mod CodeTexts
 pub mod TableTexts
-pub mod PathNames
-pub mod RowLines

@@ -6,9 +6,7 @@
 mod code;
 mod hop_rows;
 mod judged;
-mod line;
 mod refusals;
-mod row_lines;
 mod rows;
 mod runs;
 mod summary;
@@ -19,7 +17,6 @@ pub use code::{Operation, arc_line, code_lines, operation_line, order_line};
 pub use hop_rows::push_hop_row_line;
 pub use judged::{hops_line, judgement_lines, push_hops_line};
 pub use refusals::{Refusal, misses_line, refusal_line};
-pub use row_lines::RowLines;
 pub use rows::{push_row_line, row_line};
 pub use runs::{end_line, phase_line, push_delivery_line};
 pub use summary::{

@@ -53,7 +53,7 @@ pub(crate) fn push_route(out: &mut String, net: &Net, route: Option<&Route>) -> 
     }
 }
 
-/// For lines in a text; the program writes rows by [`crate::RowLines`]. Appends the line of a row of a network: the
+/// For lines in a text; the program writes rows by row_lines::RowLines. Appends the line of a row of a network: the
 /// node, the destination, and the value and the path of the route, or `none`. It is refused for want of memory alone;
 /// what the text holds then isn't said.
 pub fn push_row_line(out: &mut String, net: &Net, row: &RouteRow) -> Result<(), NoMemory>
@@ -71,7 +71,7 @@ pub fn push_row_line(out: &mut String, net: &Net, row: &RouteRow) -> Result<(), 
 // As many bytes as most rows have, so that few lines grow.
 const USUAL_ROW: usize = 256;
 
-/// For a line alone; the program writes rows by [`crate::RowLines`]. The line of a row alone, as [`push_row_line`]
+/// For a line alone; the program writes rows by row_lines::RowLines. The line of a row alone, as [`push_row_line`]
 /// appends it. It is refused for want of memory alone.
 pub fn row_line(alloc: Global, net: &Net, row: &RouteRow) -> Result<Text, NoMemory>
     requires { IsRowOf net.now (pure_row row.now) }

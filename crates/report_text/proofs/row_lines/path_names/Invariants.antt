@@ -1,7 +1,0 @@
-use Rattle.std.proofs.Common.{◌≡◌, ◌++◌, drop, map}
-use Rattle.report_text.specs.PathNames.{after_space, name_text}
-use Rattle.report_text.proofs.row_lines.path_names.Given as goal
-
--- with those that are left they are the names of all nodes
-abbrev pub invariant-loop-node : goal.invariant-loop-node
-invariant-loop-node l = map name_text l.names.items ++ map after_space (drop l.node l.net.nodes) ≡ map after_space l.net.nodes

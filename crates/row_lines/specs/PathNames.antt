@@ -1,0 +1,13 @@
+-- The names of the nodes on paths, each after a space.
+use Rattle.std.specs.Prelude.{ℕ, List, ◌++◌, codes}
+use Rattle.row_lines.specs.declared.line.PathName.{PathName}
+use Rattle.row_lines.specs.declared.line.PathName.TheVariants.{Short, Long}
+
+-- the bytes of a name with its space
+abbrev pub name_text : PathName → List ℕ
+name_text (Short text) = text
+name_text (Long text) = text.items
+
+-- a space and the name
+abbrev pub after_space : List ℕ → List ℕ
+after_space name = codes " " ++ name

@@ -1,0 +1,20 @@
+-- The lines of rows that are written one after another in the same room.
+use Rattle.std.specs.Prelude.{ℕ, List, ◌++◌, codes, string_bytes}
+use Rattle.net_graph.specs.Nets.{PureNet}
+use Rattle.net_graph.specs.RowTexts.{dest_text, node_text}
+use Rattle.row_lines.specs.declared.row_lines.RowLines.{RowLines}
+
+-- the network of the rows, and the line that was written last
+abbrev pub net_of : RowLines → PureNet
+net_of lines = lines.net.now
+
+abbrev pub line_of : RowLines → List ℕ
+line_of lines = lines.line
+
+-- the text in its room of values
+abbrev pub value_of : RowLines → List ℕ
+value_of lines = string_bytes lines.value
+
+-- the names of a node and of a destination, each before a space
+abbrev pub names_text : PureNet → ℕ → ℕ → List ℕ
+names_text net node dest = node_text net node ++ codes " " ++ dest_text net dest ++ codes " "

@@ -1,0 +1,9 @@
+//! The lines of the rows of a network, written one after another in the same room: of rows, and of rows that a table
+//! with values as words lends. It stands on `sig_text` and `word_text`, which print values, and on `word_tables`, whose
+//! rows these are. It writes to no sink.
+#![tactic(auto)]
+
+mod line;
+mod row_lines;
+
+pub use row_lines::RowLines;

@@ -1,0 +1,153 @@
+// A line that is written as bytes, and the names of the nodes on a path in it.
+ghost use Rattle.std.specs.Prelude.{◌≡◌, ◌≤◌, ◌++◌, [], length, IfOk, OnOk};
+ghost use Rattle.row_lines.specs.PathNames.{name_text};
+
+use meta_base::NoMemory;
+use std::alloc::Global;
+use std::marker::Model;
+
+// As many bytes as most lines have, so that the room seldom grows.
+const USUAL_LINE: usize = 256;
+
+// A line, which contracts see as its bytes, in room that stays when it is emptied.
+#[derive(Debug, Drop)]
+pub(crate) struct Line {
+    room: Vec<u8>,
+    len: usize,
+}
+
+impl Model for Line {
+    ghost use Rattle.std.specs.Prelude.{◌≤◌, List, ℕ, take, vec_len};
+
+    ghost Value = { List ℕ };
+
+    ghost view = { λ line. take line.len line.room.items };
+
+    ghost invariant = { λ line. line.len ≤ vec_len line.room };
+}
+
+impl Line {
+    // A line of no bytes.
+    pub(crate) fn new(alloc: Global) -> Result<Line, NoMemory>
+        ensures { IfOk result (λ line. line ≡ []) }
+    {
+        Ok(Line {
+            room: vec![in alloc; 0; USUAL_LINE]?,
+            len: 0,
+        })
+    }
+
+    pub(crate) fn as_bytes(&self) -> &[u8]
+        ensures { result.now ≡ self.now }
+    {
+        &self.room[..self.len]
+    }
+
+    pub(crate) fn clear(&mut self)
+        ensures { self.new ≡ [] }
+    {
+        self.len = 0;
+    }
+
+    pub(crate) fn push_bytes(&mut self, bytes: &[u8]) -> Result<(), NoMemory>
+        ensures { OnOk result (self.new ≡ self.old ++ bytes.now) }
+    {
+        let start = self.len;
+        if self.room.len() - start < bytes.len() {
+            return self.push_beyond(bytes);
+        }
+        self.room[start..start + bytes.len()].copy_from_slice(bytes);
+        self.len = start + bytes.len();
+        Ok(())
+    }
+
+    // Appends bytes for which the room may be too small.
+    #[inline(never)]
+    fn push_beyond(&mut self, bytes: &[u8]) -> Result<(), NoMemory>
+        ensures { OnOk result (self.new ≡ self.old ++ bytes.now) }
+    {
+        self.room.truncate(self.len);
+        self.room.extend_from_slice(bytes)?;
+        self.len = self.room.len();
+        Ok(())
+    }
+
+    #[inline(always)]
+    fn push_short(&mut self, name: &ShortName) -> Result<(), NoMemory>
+        ensures { OnOk result (self.new ≡ self.old ++ name.now) }
+    {
+        let start = self.len;
+        if self.room.len() - start < SHORT {
+            return self.push_beyond(&name.bytes[..name.len]);
+        }
+        // A copy of a fixed length takes few instructions. What follows the name is written over.
+        self.room[start..start + SHORT].copy_from_slice(&name.bytes);
+        self.len = start + name.len;
+        Ok(())
+    }
+
+    #[inline(always)]
+    pub(crate) fn push_name(&mut self, name: &PathName) -> Result<(), NoMemory>
+        ensures { OnOk result (self.new ≡ self.old ++ name_text name.now) }
+    {
+        match name {
+            PathName::Short(short) => self.push_short(short),
+            PathName::Long(long) => self.push_bytes(long.as_slice()),
+        }
+    }
+}
+
+// The room of a name that is copied with a fixed length.
+const SHORT: usize = 16;
+
+// A text in such room, which contracts see as its bytes.
+#[derive(Debug, Drop)]
+pub(crate) struct ShortName {
+    bytes: [u8; SHORT],
+    len: usize,
+}
+
+impl Model for ShortName {
+    ghost use Rattle.std.specs.Prelude.{◌≤◌, List, ℕ, take};
+
+    ghost Value = { List ℕ };
+
+    ghost view = { λ name. take name.len name.bytes };
+
+    ghost invariant = { λ name. name.len ≤ 16 };
+}
+
+impl ShortName {
+    fn of(text: &[u8]) -> ShortName
+        requires { length text.now ≤ SHORT }
+        ensures { result ≡ text.now }
+    {
+        let mut bytes = [0; SHORT];
+        bytes[..text.len()].copy_from_slice(text);
+        ShortName {
+            bytes,
+            len: text.len(),
+        }
+    }
+}
+
+// The name of a node, after a space.
+#[derive(Debug, Drop)]
+pub(crate) enum PathName {
+    Short(ShortName),
+    Long(Vec<u8>),
+}
+
+impl PathName {
+    // That of this text.
+    pub(crate) fn of(alloc: Global, text: &[u8]) -> Result<PathName, NoMemory>
+        ensures { IfOk result (λ name. name_text name ≡ text.now) }
+    {
+        if text.len() <= SHORT {
+            return Ok(PathName::Short(ShortName::of(text)));
+        }
+        let mut long = Vec::new(alloc);
+        long.extend_from_slice(text)?;
+        Ok(PathName::Long(long))
+    }
+}

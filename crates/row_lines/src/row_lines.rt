@@ -1,0 +1,202 @@
+// The lines of the rows of a network, written one after another.
+ghost use Rattle.std.specs.Prelude.{◌≡◌, ◌<◌, ◌++◌, codes, length, map, IfOk, IfSome, OnOk};
+ghost use Rattle.meta_base.specs.NodePaths.{numbers};
+ghost use Rattle.alg_model.specs.Carriers.{In};
+ghost use Rattle.alg_model.specs.Formation.{IsCarrier};
+ghost use Rattle.alg_model.specs.Texts.{value_text};
+ghost use Rattle.alg_model.specs.Views.{pure_carrier, pure_value};
+ghost use Rattle.code_gen.specs.Encoding.{IsEncoded, decoded};
+ghost use Rattle.net_graph.specs.Tables.{carrier as net_carrier};
+ghost use Rattle.net_graph.specs.Views.{pure_row};
+ghost use Rattle.net_graph.specs.RowTexts.{AreNodesOf, IsRowOf, node_text, path_text, row_text};
+ghost use Rattle.word_tables.specs.Routes.{lent_row};
+ghost use Rattle.row_lines.specs.PathNames.{after_space, name_text};
+
+use crate::line::{Line, PathName};
+use alg_model::{Carrier, Value};
+use label_code::Word;
+use meta_base::{DestId, NoMemory, NodeId};
+use net_graph::{Net, RouteRow};
+use sig_text::push_value;
+use std::alloc::Global;
+use word_tables::LentRow;
+use word_text::push_words;
+
+/// The lines of rows of a network, which are written one after another in the same room. The names of the nodes on
+/// paths are prepared for all of them.
+#[derive(Drop)]
+pub struct RowLines<'a> {
+    net: &'a Net,
+    names: Vec<PathName>,
+    value: String,
+    line: Line,
+    ghost names_are: { map name_text names.items ≡ map after_space net.now.nodes },
+}
+
+// The names of all nodes of a network.
+fn path_names(alloc: Global, net: &Net) -> Result<Vec<PathName>, NoMemory>
+    ensures { IfOk result (λ names. map name_text names.items ≡ map after_space net.now.nodes) }
+{
+    let mut names = Vec::with_capacity(alloc, net.node_count())?;
+    let mut text = Line::new(alloc)?;
+    for node in 0..net.node_count() {
+        text.clear();
+        text.push_bytes(b" ")?;
+        text.push_bytes(net.node_text(NodeId(node as u32)).as_bytes())?;
+        names.push(PathName::of(alloc, text.as_bytes())?)?;
+    }
+    Ok(names)
+}
+
+impl<'a> RowLines<'a> {
+    ghost use Rattle.row_lines.specs.RowLines.{line_of, names_text, net_of, value_of};
+
+    /// Where no line is written yet. It is refused for want of memory alone.
+    pub fn new(alloc: Global, net: &'a Net) -> Result<RowLines<'a>, NoMemory>
+        ensures { IfOk result (λ lines. net_of lines ≡ net.now) }
+    {
+        Ok(RowLines {
+            net,
+            names: path_names(alloc, net)?,
+            value: String::new(alloc),
+            line: Line::new(alloc)?,
+        })
+    }
+
+    /// Lends the line that was written last.
+    pub fn line(&self) -> &[u8]
+        ensures { result.now ≡ line_of self.now }
+    {
+        self.line.as_bytes()
+    }
+
+    /// Writes the line of a row in place of the one before: the node, the destination, and the value and the path of
+    /// the route, or `none`. It is refused for want of memory alone; which line is lent then isn't said.
+    pub fn write(&mut self, row: &RouteRow) -> Result<(), NoMemory>
+        requires { IsRowOf (net_of self.now) (pure_row row.now) }
+        ensures line { OnOk result (line_of self.new ≡ row_text (net_of self.old) (pure_row row.now)) }
+        ensures net { net_of self.new ≡ net_of self.old }
+    {
+        match &row.route {
+            None => self.put_none(row.node, row.dest),
+            Some(route) => {
+                self.put_value(&route.value)?;
+                self.put_line(row.node, row.dest, route.path.as_slice())
+            }
+        }
+    }
+
+    /// Writes the line of a row that is lent in place of the one before, as [`RowLines::write`] does: its value's words
+    /// are of this carrier, which is the network's. It is refused for want of memory alone; which line is lent then
+    /// isn't said.
+    pub fn write_lent(&mut self, carrier: &Carrier, row: LentRow<'_>) -> Result<(), NoMemory>
+        requires carrier { pure_carrier carrier.now ≡ net_carrier (net_of self.now) }
+        requires may_be { IsCarrier (pure_carrier carrier.now) }
+        requires row { IsRowOf (net_of self.now) (lent_row (pure_carrier carrier.now) row) }
+        requires words { IfSome row.route (λ r. IsEncoded (pure_carrier carrier.now) r.words.now) }
+        ensures line { OnOk result (line_of self.new
+            ≡ row_text (net_of self.old) (lent_row (pure_carrier carrier.now) row.entry)) }
+        ensures net { net_of self.new ≡ net_of self.old }
+    {
+        match row.route {
+            None => self.put_none(row.node, row.dest),
+            Some(route) => {
+                self.put_words(carrier, route.words)?;
+                self.put_line(row.node, row.dest, route.path)
+            }
+        }
+    }
+
+    // The text of a value, in the room of values.
+    fn put_value(&mut self, value: &Value) -> Result<(), NoMemory>
+        requires { In (net_carrier (net_of self.now)) (pure_value value.now) }
+        ensures value { OnOk result (value_of self.new
+            ≡ value_text (net_carrier (net_of self.old)) (pure_value value.now)) }
+        ensures net { net_of self.new ≡ net_of self.old }
+    {
+        self.value.clear();
+        push_value(&mut self.value, self.net.alg(), value)
+    }
+
+    // The same of a value whose words are given.
+    fn put_words(&mut self, carrier: &Carrier, words: &[Word]) -> Result<(), NoMemory>
+        requires may_be { IsCarrier (pure_carrier carrier.now) }
+        requires words { IsEncoded (pure_carrier carrier.now) words.now }
+        ensures value { OnOk result (value_of self.new
+            ≡ value_text (pure_carrier carrier.now) (decoded (pure_carrier carrier.now) words.now)) }
+        ensures net { net_of self.new ≡ net_of self.old }
+    {
+        self.value.clear();
+        push_words(&mut self.value, carrier, words)
+    }
+
+    // The line of a row without a route.
+    fn put_none(&mut self, node: NodeId, dest: DestId) -> Result<(), NoMemory>
+        requires node { node.0 < length (net_of self.now).nodes }
+        requires dest { dest.0 < length (net_of self.now).dests }
+        ensures line { OnOk result (line_of self.new
+            ≡ names_text (net_of self.old) node.0 dest.0 ++ codes "none" ++ codes "\n") }
+        ensures net { net_of self.new ≡ net_of self.old }
+    {
+        self.put_names(node, dest)?;
+        self.line.push_bytes(b"none\n")
+    }
+
+    // The line of a row with a route of this path, whose value's text is in the room of values.
+    fn put_line(&mut self, node: NodeId, dest: DestId, path: &[NodeId]) -> Result<(), NoMemory>
+        requires node { node.0 < length (net_of self.now).nodes }
+        requires dest { dest.0 < length (net_of self.now).dests }
+        requires path { AreNodesOf (net_of self.now) (numbers path.now) }
+        ensures line { OnOk result (line_of self.new ≡ names_text (net_of self.old) node.0 dest.0
+            ++ (value_of self.old ++ path_text (net_of self.old) (numbers path.now)) ++ codes "\n") }
+        ensures net { net_of self.new ≡ net_of self.old }
+    {
+        self.put_names(node, dest)?;
+        self.line.push_bytes(self.value.as_bytes())?;
+        self.push_path(path)?;
+        self.line.push_bytes(b"\n")
+    }
+
+    // The names of a row and the space after each, in place of the line before.
+    fn put_names(&mut self, node: NodeId, dest: DestId) -> Result<(), NoMemory>
+        requires node { node.0 < length (net_of self.now).nodes }
+        requires dest { dest.0 < length (net_of self.now).dests }
+        ensures line { OnOk result (line_of self.new ≡ names_text (net_of self.old) node.0 dest.0) }
+        ensures value { value_of self.new ≡ value_of self.old }
+        ensures net { net_of self.new ≡ net_of self.old }
+    {
+        self.line.clear();
+        self.line.push_bytes(self.net.node_text(node).as_bytes())?;
+        self.line.push_bytes(b" ")?;
+        self.line.push_bytes(self.net.dest_text(dest).as_bytes())?;
+        self.line.push_bytes(b" ")
+    }
+
+    // The name of a node, after a space.
+    #[inline(always)]
+    #[tactic(auto, using(crate::proofs::PathNames::name_at))]
+    fn push_node(&mut self, node: NodeId) -> Result<(), NoMemory>
+        requires { node.0 < length (net_of self.now).nodes }
+        ensures line { OnOk result (line_of self.new ≡ line_of self.old
+            ++ after_space (node_text (net_of self.old) node.0)) }
+        ensures net { net_of self.new ≡ net_of self.old }
+    {
+        self.line.push_name(&self.names[node.0 as usize])
+    }
+
+    // The names of the nodes of a path, each after a space.
+    fn push_path(&mut self, path: &[NodeId]) -> Result<(), NoMemory>
+        requires { AreNodesOf (net_of self.now) (numbers path.now) }
+        ensures line { OnOk result (line_of self.new ≡ line_of self.old
+            ++ path_text (net_of self.old) (numbers path.now)) }
+        ensures net { net_of self.new ≡ net_of self.old }
+    {
+        match path {
+            [] => Ok(()),
+            [node, rest @ ..] => {
+                self.push_node(*node)?;
+                self.push_path(rest)
+            }
+        }
+    }
+}

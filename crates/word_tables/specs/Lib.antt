@@ -1,0 +1,4 @@
+pub mod Routes
+pub mod Tables
+pub mod Joined
+pub mod Rows

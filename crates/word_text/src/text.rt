@@ -1,0 +1,189 @@
+ghost use Rattle.std.specs.Prelude.{◌≡◌, ◌≢◌, ◌++◌, ◌∷◌, ◌≤◌, ◌<◌, [], length, OnOk, Some, None, string_bytes, decimal, codes, slice_index_or};
+ghost use Rattle.meta_base.specs.Appending.{Gains};
+ghost use Rattle.alg_model.specs.Application.{has_mark};
+ghost use Rattle.alg_model.specs.Expressions.{pairs, sides, symbols};
+ghost use Rattle.alg_model.specs.Formation.{IsCarrier};
+ghost use Rattle.alg_model.specs.Texts.{numbers_text, members, value_text};
+ghost use Rattle.alg_model.specs.Views.{pure_carrier};
+ghost use Rattle.alg_model.specs.declared.alg.TheConstants.{MAX_MARKS};
+ghost use Rattle.code_gen.specs.Encoding.{Dec, decoded, IsEncoded, symbols_front};
+ghost use Rattle.sig_text.specs.Listed.{separator};
+ghost use Rattle.word_text.specs.Fronts.{front_text, Leaves};
+
+use alg_model::Carrier;
+use label_code::Word;
+use meta_base::{NoMemory, Text, push_number};
+
+/// Appends the printed text of the value of the carrier whose words these are, as `sig_text` prints the value. After a
+/// refusal, which is for want of memory alone, a front of it may be there.
+pub fn push_words(out: &mut String, carrier: &Carrier, words: &[Word]) -> Result<(), NoMemory>
+    requires carrier { IsCarrier (pure_carrier carrier.now) }
+    requires words { IsEncoded (pure_carrier carrier.now) words.now }
+    ensures { OnOk result (Gains out.old
+        (value_text (pure_carrier carrier.now) (decoded (pure_carrier carrier.now) words.now)) out.new) }
+{
+    let mut rest = words;
+    push_front(out, carrier, &mut rest)
+}
+
+// Takes the words of a value of the carrier from the front of the row, and appends its text.
+#[cycle(push_front)]
+fn push_front(out: &mut String, carrier: &Carrier, row: &mut &[Word]) -> Result<(), NoMemory>
+    requires carrier { IsCarrier (pure_carrier carrier.now) }
+    requires there { Dec (pure_carrier carrier.now) row.old.now ≢ None }
+    ensures row { OnOk result (Leaves (pure_carrier carrier.now) row.old.now row.new.now) }
+    ensures text { OnOk result (Gains out.old (front_text (pure_carrier carrier.now) row.old.now) out.new) }
+{
+    match carrier {
+        Carrier::Whole | Carrier::UpTo(_) | Carrier::DownFrom(_) => {
+            push_number(out, take_word(row))
+        }
+        Carrier::Seqs(count) | Carrier::SimSeqs(count) => {
+            push_symbols(out, take_symbols(row, *count))
+        }
+        Carrier::Sets(count) => push_set(out, *count, take_word(row)),
+        Carrier::One => push_word(out, "unit"),
+        Carrier::Named(names, _) => push_name(out, names.as_slice(), take_word(row)),
+        Carrier::Pair(c, d) => push_pair(out, c, d, row),
+        Carrier::Side(c, d) => push_side(out, c, d, row),
+    }
+}
+
+// The same of a pair.
+#[cycle(push_front)]
+fn push_pair(out: &mut String, c: &Carrier, d: &Carrier, row: &mut &[Word]) -> Result<(), NoMemory>
+    requires first { IsCarrier (pure_carrier c.now) }
+    requires second { IsCarrier (pure_carrier d.now) }
+    requires there { Dec (pairs (pure_carrier c.now) (pure_carrier d.now)) row.old.now ≢ None }
+    ensures row { OnOk result (Leaves (pairs (pure_carrier c.now) (pure_carrier d.now)) row.old.now row.new.now) }
+    ensures text { OnOk result (Gains out.old
+        (front_text (pairs (pure_carrier c.now) (pure_carrier d.now)) row.old.now) out.new) }
+{
+    out.push('(')?;
+    push_front(out, c, row)?;
+    out.push(',')?;
+    push_front(out, d, row)?;
+    Ok(out.push(')')?)
+}
+
+// The same of a value of either side.
+#[cycle(push_front)]
+fn push_side(out: &mut String, c: &Carrier, d: &Carrier, row: &mut &[Word]) -> Result<(), NoMemory>
+    requires first { IsCarrier (pure_carrier c.now) }
+    requires second { IsCarrier (pure_carrier d.now) }
+    requires there { Dec (sides (pure_carrier c.now) (pure_carrier d.now)) row.old.now ≢ None }
+    ensures row { OnOk result (Leaves (sides (pure_carrier c.now) (pure_carrier d.now)) row.old.now row.new.now) }
+    ensures text { OnOk result (Gains out.old
+        (front_text (sides (pure_carrier c.now) (pure_carrier d.now)) row.old.now) out.new) }
+{
+    match take_word(row) {
+        0 => {
+            out.push_str("l:")?;
+            push_front(out, c, row)
+        }
+        1 => {
+            out.push_str("r:")?;
+            push_front(out, d, row)
+        }
+        _ => unreachable!(),
+    }
+}
+
+fn take_word(row: &mut &[Word]) -> Word
+    requires { row.old.now ≢ [] }
+    ensures { row.old.now ≡ result ∷ row.new.now }
+{
+    let whole = *row;
+    let Some((word, rest)) = whole.split_first() else {
+        unreachable!()
+    };
+    *row = rest;
+    *word
+}
+
+fn push_word(out: &mut String, word: &str) -> Result<(), NoMemory>
+    ensures { OnOk result (Gains out.old word.now out.new) }
+{
+    out.push_str(word)?;
+    Ok(())
+}
+
+fn push_name(out: &mut String, names: &[Text], place: Word) -> Result<(), NoMemory>
+    requires { place < length names.now }
+    ensures { OnOk result (Gains out.old (slice_index_or names.now place []) out.new) }
+{
+    push_word(out, names[place as usize].as_str())
+}
+
+// Takes a length from the front of the row, and so many symbols.
+fn take_symbols<'a>(row: &mut &'a [Word], count: u64) -> &'a [Word]
+    requires { symbols_front count row.old.now ≢ None }
+    ensures { Some (symbols result.now, row.new.now) ≡ symbols_front count row.old.now }
+{
+    let length = take_word(row);
+    let whole = *row;
+    let (words, rest) = whole.split_at(length as usize);
+    *row = rest;
+    words
+}
+
+fn push_symbols(out: &mut String, words: &[Word]) -> Result<(), NoMemory>
+    ensures { OnOk result (Gains out.old (codes "[" ++ numbers_text words.now ++ codes "]") out.new) }
+{
+    out.push('[')?;
+    push_numbers(out, words)?;
+    Ok(out.push(']')?)
+}
+
+#[tactic(auto, using(sig_text::proofs::Printed::listed_at))]
+fn push_numbers(out: &mut String, words: &[Word]) -> Result<(), NoMemory>
+    ensures { OnOk result (Gains out.old (numbers_text words.now) out.new) }
+{
+    let mut follows = false;
+    for word in words {
+        push_next(out, follows, *word)?;
+        follows = true;
+    }
+    Ok(())
+}
+
+// Appends a number that stands alone, or follows others.
+fn push_next(out: &mut String, follows: bool, n: u128) -> Result<(), NoMemory>
+    ensures { OnOk result (string_bytes out.new ≡ (string_bytes out.old ++ separator follows) ++ decimal n) }
+{
+    if follows {
+        out.push(',')?;
+    }
+    push_number(out, n)
+}
+
+fn push_set(out: &mut String, count: u64, word: Word) -> Result<(), NoMemory>
+    requires { count ≤ MAX_MARKS }
+    ensures { OnOk result (Gains out.old (codes "{" ++ numbers_text (members count word) ++ codes "}") out.new) }
+{
+    out.push('{')?;
+    push_members(out, count, word)?;
+    Ok(out.push('}')?)
+}
+
+// The numbers below the count that are in the set, ascending.
+fn push_members(out: &mut String, count: u64, word: Word) -> Result<(), NoMemory>
+    requires { count ≤ MAX_MARKS }
+    ensures { OnOk result (Gains out.old (numbers_text (members count word)) out.new) }
+{
+    let mut follows = false;
+    for k in 0..count {
+        if is_in(word, k) {
+            push_next(out, follows, u128::from(k))?;
+            follows = true;
+        }
+    }
+    Ok(())
+}
+
+fn is_in(word: Word, k: u64) -> bool
+    requires { k < MAX_MARKS }
+    ensures { result ≡ has_mark word k }
+{
+    (word >> k) & 1 == 1
+}
