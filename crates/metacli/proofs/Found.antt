@@ -1,6 +1,5 @@
 -- The rows of tables, one table after another.
-use Rattle.std.proofs.Common.{◌≡◌, ℕ, ◌+◌, ◌<◌, ◌≤◌, List, [], ◌∷◌, ◌++◌, length, map, refl, sym, ap, ◌∙◌, arith, append_assoc, append-nil}
-use Rattle.std.proofs.lemmas.List.{length-map, map-append}
+use Rattle.std.proofs.Common.{◌≡◌, ℕ, ◌+◌, ◌<◌, ◌≤◌, List, [], ◌∷◌, ◌++◌, length, map, refl, arith}
 use Rattle.std.specs.List.{AllByRecursion}
 use Rattle.link_state.specs.Tables as link
 use Rattle.net_graph.specs.declared.route.DestTable.{DestTable}
@@ -8,8 +7,7 @@ use Rattle.net_graph.specs.Nets.{PureNet}
 use Rattle.alg_model.specs.Properties.{monotone, isotone, strict}
 use Rattle.net_graph.specs.Tables.{PureRow, NetHas, BestFirst, Optimal, Stable, OnTablesFrom, AreRowsOfTables, AreSettledRows, AreStableRows, joined_rows}
 use Rattle.net_graph.specs.RowTexts.{IsRowOf}
-use Rattle.net_graph.specs.declared.route.RouteRow.{RouteRow}
-use Rattle.net_graph.specs.Views.{rows_of, pure_row}
+use Rattle.net_graph.specs.Views.{rows_of}
 use Rattle.metacli.specs.Outcome.{AreRoutesOn, IsFit}
 use Rattle.metacli.specs.declared.routing.Solution.{Solution}
 use Rattle.metacli.specs.declared.routing.Solution.TheVariants.{Unbeaten, Settled, AllStable}
@@ -29,47 +27,37 @@ pub tables_from : (net : PureNet) (Holds : ℕ → List PureRow → Type 0) → 
 tables_from net Holds each dest [] h = tt
 tables_from net Holds each dest (t ∷ ts) h = (each dest (rows_of t) h.0.best_first, tables_from net Holds each (dest + 1) ts h.1)
 
-rows_are : (net : PureNet) (Holds : ℕ → List PureRow → Type 0) → ((dest : ℕ) (t : List PureRow) → BestFirst net dest t → Holds dest t) → (tables : List DestTable) → link.AreTablesOf net tables
-    → AreRowsOfTables net Holds (joined_rows (map rows_of tables))
-rows_are net Holds each tables h = record {
-  tables = map rows_of tables;
-  hold = tables_from net Holds each 0 tables h.tables_from;
-  count = length-map tables rows_of ∙ h.count;
-  joined = refl;
-}
+-- and where each of these tables is made best first
+on_each : (net : PureNet) (Holds : ℕ → List PureRow → Type 0) → ((dest : ℕ) (t : List PureRow) → BestFirst net dest t → Holds dest t) → (dest : ℕ) (tables : List (List PureRow)) → OnTablesFrom (BestFirst net) dest tables
+    → OnTablesFrom Holds dest tables
+on_each net Holds each dest [] h = tt
+on_each net Holds each dest (t ∷ ts) h = (each dest t h.0, on_each net Holds each (dest + 1) ts h.1)
 
-settled_on : (net : PureNet) → Laws net → NetHas monotone net → (tables : List DestTable) → link.AreTablesOf net tables → AreSettledRows net (joined_rows (map rows_of tables))
-settled_on net laws all tables h = laws.settled (joined_rows (map rows_of tables)) (rows_are net (Stable net) (laws.stable all) tables h)
+module _ (net : PureNet) (laws : Laws net) (tables : List (List PureRow)) (best : OnTablesFrom (BestFirst net) 0 tables) (count : length tables ≡ length net.dests) where
+  rows_are : (Holds : ℕ → List PureRow → Type 0) → ((dest : ℕ) (t : List PureRow) → BestFirst net dest t → Holds dest t) → AreRowsOfTables net Holds (joined_rows tables)
+  rows_are Holds each = record { tables = tables; hold = on_each net Holds each 0 tables best; count = count; joined = refl }
 
-pub routes_on : (solution : Solution) (net : PureNet) → Laws net → IsFit solution net → (tables : List DestTable) → link.AreTablesOf net tables → AreRoutesOn solution net (joined_rows (map rows_of tables))
-routes_on Unbeaten net laws fit tables h = (
-  rows_are net (λ dest t. BestFirst net dest t × Optimal net dest t) (λ dest t best. (best, laws.optimal fit.0 fit.1.0 dest t best)) tables h,
-  settled_on net laws fit.0 tables h,
-)
-routes_on Settled net laws fit tables h = (rows_are net (BestFirst net) (λ dest t best. best) tables h, settled_on net laws (laws.monotone fit.0) tables h)
-routes_on AllStable net laws fit tables h = (rows_are net (BestFirst net) (λ dest t best. best) tables h, settled_on net laws fit.0 tables h)
+  settled_on : NetHas monotone net → AreSettledRows net (joined_rows tables)
+  settled_on all = laws.settled (joined_rows tables) (rows_are (Stable net) (laws.stable all))
+
+  pub routes_on : (solution : Solution) → IsFit solution net → AreRoutesOn solution net (joined_rows tables)
+  routes_on Unbeaten fit = (
+    rows_are (λ dest t. BestFirst net dest t × Optimal net dest t) (λ dest t best. (best, laws.optimal fit.0 fit.1.0 dest t best)),
+    settled_on fit.0,
+  )
+  routes_on Settled fit = (rows_are (BestFirst net) (λ dest t best. best), settled_on (laws.monotone fit.0))
+  routes_on AllStable fit = (rows_are (BestFirst net) (λ dest t best. best), settled_on fit.0)
 
 pub all_append : {X : Type 0} (P : X → Type 0) (xs ys : List X) → AllByRecursion P xs → AllByRecursion P ys → AllByRecursion P (xs ++ ys)
 all_append P [] ys h k = k
 all_append P (x ∷ xs) ys h k = (h.0, all_append P xs ys h.1 k)
 
-rows_from : (net : PureNet) → Laws net → (dest : ℕ) (tables : List DestTable) → dest + length tables ≤ length net.dests → link.AreTablesFrom net dest tables
-    → AllByRecursion (IsRowOf net) (joined_rows (map rows_of tables))
+rows_from : (net : PureNet) → Laws net → (dest : ℕ) (tables : List (List PureRow)) → dest + length tables ≤ length net.dests → OnTablesFrom (BestFirst net) dest tables
+    → AllByRecursion (IsRowOf net) (joined_rows tables)
 rows_from net laws dest [] within h = tt
 rows_from net laws dest (t ∷ ts) within h =
-    all_append (IsRowOf net) (rows_of t) (joined_rows (map rows_of ts)) (laws.rows dest (rows_of t) (omega arith) h.0.best_first)
+    all_append (IsRowOf net) t (joined_rows ts) (laws.rows dest t (omega arith) h.0)
     (rows_from net laws (dest + 1) ts (omega arith) h.1)
 
-pub rows_on : (net : PureNet) → Laws net → (tables : List DestTable) → link.AreTablesOf net tables → AllByRecursion (IsRowOf net) (joined_rows (map rows_of tables))
-rows_on net laws tables h = rows_from net laws 0 tables (omega (arith, h.count)) h.tables_from
-
--- one table more
-pub joined_more : (tables : List (List PureRow)) (table : List PureRow) → joined_rows (tables ++ table ∷ []) ≡ joined_rows tables ++ table
-joined_more [] table = append-nil table
-joined_more (t ∷ ts) table = ap (λ x. t ++ x) (joined_more ts table) ∙ sym (append_assoc t (joined_rows ts) table)
-
--- the rows of one table more
-pub joined_next : (rows more : List RouteRow) (tables : List DestTable) (table : DestTable) → map pure_row rows ≡ joined_rows (map rows_of tables) → more ≡ table.rows
-    → map pure_row (rows ++ more) ≡ joined_rows (map rows_of (tables ++ table ∷ []))
-joined_next rows more tables table e f =
-    rw (f, map-append, map-append, e) (sym (joined_more (map rows_of tables) (rows_of table)))
+pub rows_on : (net : PureNet) → Laws net → (tables : List (List PureRow)) → OnTablesFrom (BestFirst net) 0 tables → length tables ≡ length net.dests → AllByRecursion (IsRowOf net) (joined_rows tables)
+rows_on net laws tables best count = rows_from net laws 0 tables (omega (arith, count)) best

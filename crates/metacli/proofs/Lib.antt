@@ -5,13 +5,13 @@ mod Completeness
 mod Floods
 mod Exchanges
 mod Found
+mod Lent
 mod Missing
 mod NetsAfter
 mod Printable
 mod RowsAfter
 mod Written
 mod Demos
-mod Tables
 mod Wedges
 mod Tasks
 mod NextHops

@@ -9,6 +9,8 @@ use Rattle.net_graph.specs.Changes.{PureChange, changed, after_all}
 use Rattle.net_graph.specs.Routes.{PureRoute}
 use Rattle.net_graph.specs.Tables.{PureRow}
 use Rattle.net_graph.specs.RowTexts.{IsRouteIn, IsRowOf}
+use Rattle.word_tables.specs.Rows.{HasWordsOn}
+use Rattle.word_tables.specs.declared.rows.WordRows.{WordRows}
 
 route_after : (net : PureNet) (c : PureChange) (o : Option PureRoute) → IfSome o (IsRouteIn (changed net c)) → IfSome o (IsRouteIn net)
 route_after net c None h = tt
@@ -23,6 +25,13 @@ rows_after net c (row ∷ rows) h =
 pub rows_after_all : (net : PureNet) (changes : List PureChange) (rows : List PureRow) → AllByRecursion (IsRowOf (after_all net changes)) rows → AllByRecursion (IsRowOf net) rows
 rows_after_all net [] rows h = h
 rows_after_all net (c ∷ changes) rows h = rows_after net c rows (rows_after_all (changed net c) changes rows h)
+
+-- and the words of rows
+pub words_after_all : (net : PureNet) (changes : List PureChange) (rows : WordRows) → HasWordsOn (after_all net changes) rows → HasWordsOn net rows
+words_after_all net [] rows h = h
+words_after_all net (c ∷ changes) rows h =
+    let words = words_after_all (changed net c) changes rows h in
+    record { carrier_is = words.carrier_is; may_be = words.may_be; words = words.words; nodes = words.nodes; count = words.count }
 
 -- and the algebra
 pub same_algebra : (net : PureNet) (changes : List PureChange) → (after_all net changes).alg ≡ net.alg

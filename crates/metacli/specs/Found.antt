@@ -12,7 +12,6 @@ use Rattle.net_facts.specs.declared.missing.Missing.{Missing}
 use Rattle.net_graph.specs.Nets.{PureNet}
 use Rattle.net_graph.specs.RowTexts.{IsRowOf}
 use Rattle.net_graph.specs.Views.{pure_row}
-use Rattle.net_graph.specs.declared.route.RouteRow.{RouteRow}
 use Rattle.net_graph.specs.Tables.{PureRow}
 use Rattle.report_check.specs.Judged.{Judged, PureJudgement}
 use Rattle.report_check.specs.ReportText.{ReportText}
@@ -21,14 +20,16 @@ use Rattle.report_check.specs.declared.hops.ManyHops.{ManyHops}
 use Rattle.report_text.specs.JudgedTexts.{CanPrintHops, CanPrintJudgement}
 use Rattle.report_text.specs.Refusals.{PureRefusal, CanMiss}
 use Rattle.topology_file.specs.NetText.{PureNetFile, changed_net}
+use Rattle.word_tables.specs.Rows.{pure_word_rows, HasWordsOn}
+use Rattle.word_tables.specs.declared.rows.WordRows.{WordRows}
 use Rattle.metacli.specs.Reading.{IsReportOf}
 use Rattle.metacli.specs.Outcome.{PureOutcome, AreHopsOn, AreRoutesOn, GoesOnWith, IsExchange, IsFit, IsFitForExchange, IsFlood, asked_of, asked_of_exchange}
 use Rattle.metacli.specs.declared.routing.Solution.{Solution}
 use Rattle.metacli.specs.declared.routing.Solution.TheVariants.{Unbeaten}
 
 -- rows that can be printed, or an instance that can
-abbrev pub IsFoundOn : Solution → PureNet → Result (List RouteRow) Missing → Type 0
-IsFoundOn solution net (Ok rows) = IsFit solution net × AreRoutesOn solution net (map pure_row rows) × AllByRecursion (IsRowOf net) (map pure_row rows)
+abbrev pub IsFoundOn : Solution → PureNet → Result WordRows Missing → Type 0
+IsFoundOn solution net (Ok rows) = IsFit solution net × AreRoutesOn solution net (pure_word_rows rows) × AllByRecursion (IsRowOf net) (pure_word_rows rows) × HasWordsOn net rows
 IsFoundOn solution net (Err missing) = IsFirstMissing (asked_of solution) net missing.arc.0 (pure_instance missing.instance) × CanMiss missing.arc.0 (pure_instance missing.instance) (Some net)
 
 -- next hops that can be printed, or an instance that can

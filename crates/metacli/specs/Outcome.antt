@@ -18,7 +18,7 @@ use Rattle.net_graph.specs.Tables.{PureRow, BestFirst, NetHas, OnTablesFrom, Opt
 use Rattle.report_check.specs.Hops.{PureHops, hops_of}
 use Rattle.report_check.specs.Judged.{Judged, PureJudgement}
 use Rattle.net_graph.specs.Changes.{PureChange}
-use Rattle.net_graph.specs.Views.{pure_change, pure_row, rows_of}
+use Rattle.net_graph.specs.Views.{pure_change, rows_of}
 use Rattle.report_check.specs.Views.{pure_hops, pure_judgement}
 use Rattle.topology_file.specs.NetText.{PureNetFile, NetText, changed_net}
 use Rattle.net_gen.specs.Generated.{Generated}
@@ -31,6 +31,7 @@ use Rattle.distance_runs.specs.Runs.{AreAsGoodRows, AreBestHops, IsDistanceRun}
 use Rattle.flood_node.specs.Reach.{cards_sent}
 use Rattle.flood_runs.specs.Floods.{IsFloodRun}
 use Rattle.report_text.specs.Refusals as refusal
+use Rattle.metacli.specs.Rows.{pure_rows}
 use Rattle.net_facts.specs.Misses.{IsFirstMissing, NetHasAll}
 use Rattle.report_text.specs.Refusals.{PureRefusal, misses, memory}
 use Rattle.metacli.specs.Answers.{PureAnswer, done, refused, spent, unmet, pure_answer}
@@ -189,7 +190,7 @@ pub record Shows (e : Ended) (asked : Option Command) (o : PureOutcome) : Type 0
   pub report : option_map (map rows_of) e.report ≡ report_in o
   pub judgement : option_map pure_judgement e.judgement ≡ judgement_in o
   pub many : map pure_hops e.many ≡ many_in o
-  pub rows : map pure_row e.rows ≡ rows_in o
+  pub rows : pure_rows e.rows ≡ rows_in o
   pub hops : map pure_hop_row e.hops ≡ hops_in o
   pub journal : e.journal ≡ journal_in o
   pub past : map pure_phase e.past ≡ past_in o

@@ -41,6 +41,10 @@ tables_text net (dest ∷ dests) rows =
     stable_text net dest 1
     ++ (table_text 1 ++ (rows_text net (take (length net.nodes) rows) ++ tables_text net dests (drop (length net.nodes) rows)))
 
+-- of one of them
+abbrev pub one_table_text : PureNet → ℕ → List PureRow → List ℕ
+one_table_text net dest rows = stable_text net dest 1 ++ (table_text 1 ++ rows_text net rows)
+
 -- routes, or stable tables
 abbrev pub routes_text : Solution → PureNet → List PureRow → List ℕ
 routes_text Unbeaten net rows = rows_text net rows

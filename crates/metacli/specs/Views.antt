@@ -12,6 +12,8 @@ use Rattle.topology_file.specs.NetText.{changed_net}
 use Rattle.metacli.specs.After.{last_of, nets_after}
 use Rattle.report_text.specs.Refusals.{PureRefusal, misses}
 use Rattle.vector_runs.specs.Runs.{pure_phase}
+use Rattle.word_tables.specs.Rows.{pure_word_rows, HasWordsOn}
+use Rattle.metacli.specs.Rows.{pure_rows}
 use Rattle.metacli.specs.Answers.{pure_answer, pure_stop}
 use Rattle.metacli.specs.Texts.{IsPrintable}
 use Rattle.metacli.specs.Outcome.{PureOutcome, stopped, checked, coded, routed, hopped, judged, wedged, ran, flooded, exchanged, shown, algebra_in, answer_in, file_in, gadget_in, hops_in, journal_in, judgement_in, listing_in, many_in, past_in, report_in, rows_in, verdicts_in}
@@ -26,7 +28,7 @@ pure_outcome (outcome.Stopped a f r) = stopped a (option_map pure_file f) (pure_
 pure_outcome (outcome.Unfit it) = stopped (Some it.alg) (Some (pure_file it.file)) (misses it.missing.arc.0 (pure_instance it.missing.instance))
 pure_outcome (outcome.Checked it) = checked it.alg (option_map pure_file it.file) (pure_verdicts it.verdicts) (option_map pure_property it.unmet)
 pure_outcome (outcome.Coded it) = coded it.alg (option_map pure_file it.file) it.listing
-pure_outcome (outcome.Routed it) = routed it.solution it.alg (pure_file it.file) (map pure_row it.rows)
+pure_outcome (outcome.Routed it) = routed it.solution it.alg (pure_file it.file) (pure_word_rows it.rows)
 pure_outcome (outcome.Hopped it) = hopped it.alg (pure_file it.file) (map pure_hops it.many)
 pure_outcome (outcome.Judged it) = judged it.alg (pure_file it.file) (map rows_of it.tables) (pure_judgement it.judgement)
 pure_outcome (outcome.Wedged it) = wedged it.alg (pure_verdict it.verdict)
@@ -43,7 +45,7 @@ pub record IsMadeIn (made : Made) (o : PureOutcome) : Type 0 where
   pub report : option_map (map rows_of) made.report ≡ report_in o
   pub judgement : option_map pure_judgement made.judgement ≡ judgement_in o
   pub many : map pure_hops made.many ≡ many_in o
-  pub rows : map pure_row made.rows ≡ rows_in o
+  pub rows : pure_rows made.rows ≡ rows_in o
   pub hops : map pure_hop_row made.hops ≡ hops_in o
   pub journal : made.journal ≡ journal_in o
   pub past : map pure_phase made.past ≡ past_in o
@@ -61,11 +63,12 @@ IsListedOn None after = Unit {0}
 IsListedOn (Some f) after = last_of after f.net ≡ changed_net (pure_file f)
 
 -- the network of an arc that doesn't have a property is that of the file after its changes; those of the phases after
--- the first are those after the first change, the first two, and so on
+-- the first are those after the first change, the first two, and so on; and the words of routes are of the network
 abbrev pub IsAfter : Outcome → Type 0
 IsAfter (outcome.Unfit it) = last_of it.after it.file.net ≡ changed_net (pure_file it.file)
 IsAfter (outcome.Judged it) = last_of it.after it.file.net ≡ changed_net (pure_file it.file)
 IsAfter (outcome.Coded it) = IsListedOn it.file it.after
+IsAfter (outcome.Routed it) = HasWordsOn it.file.net it.rows
 IsAfter (outcome.Ran it) = it.changed ≡ nets_after it.file.net (pure_file it.file).changes
 IsAfter _ = Unit {0}
 

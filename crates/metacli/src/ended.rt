@@ -1,13 +1,13 @@
 ghost use Rattle.std.specs.Prelude.{◌≡◌};
 ghost use Rattle.metacli.specs.Answers.{status_of};
 
-use crate::{Command, WordsFault};
+use crate::{Command, Rows, WordsFault};
 use alg_classes::{Instance, Property};
 use alg_model::Alg;
 use code_gen::Listing;
 use distance_runs::HopRow;
 use meta_base::{ArcId, List, Which};
-use net_graph::{Change, DestTable, Net, RouteRow};
+use net_graph::{Change, DestTable, Net};
 use property_infer::{Verdict, Verdicts};
 use raml_syntax::ExprFault;
 use report_check::{Judgement, ManyHops, ReportFault};
@@ -72,7 +72,7 @@ pub struct Ended {
     pub many: List<ManyHops>,
     /// The routes, where `route`, `settle`, `stable` or `flood` was carried out, on the network after all changes; those
     /// of the last phase, where `run` or `trace` was: for each destination in order, each node in order.
-    pub rows: List<RouteRow>,
+    pub rows: Rows,
     /// The rows of distance-vector nodes with their next hops, where `distance` was carried out, on the network after all
     /// changes: for each destination in order, each node in order.
     pub hops: List<HopRow>,

@@ -2,6 +2,7 @@
 ghost use Rattle.std.specs.Prelude.{◌≡◌, Ok, map, IfOk};
 ghost use Rattle.alg_model.specs.Carriers.{carrier_of};
 ghost use Rattle.code_gen.specs.Widths.{HoldValues};
+ghost use Rattle.command_words.specs.Words.{AreWorkers};
 ghost use Rattle.link_state.specs.Tables.{AreTablesOf};
 ghost use Rattle.net_graph.specs.Changes.{AreChanges};
 ghost use Rattle.net_graph.specs.Views.{pure_change, rows_of};
@@ -16,12 +17,13 @@ ghost use Rattle.metacli.specs.declared.routing.Solution.TheVariants.{Unbeaten};
 
 use crate::after::{last_of, net_after};
 use crate::outcome::{Hopped, Outcome, Stop, Unfit};
-use crate::routing::{Solution, tables_of};
+use crate::routing::Solution;
 use alg_model::Alg;
 use arc_labels::{label_forms, speaker_labels};
 use best_first::best_first_is_optimal;
 use code_gen::{CodeAlgebra, row_width, rows_have_their_width};
 use label_code::{FixedRow, HeldRow, Words};
+use link_state::all_tables;
 use meta_base::{List, NoMemory};
 use net_facts::{Missing, first_missing};
 use net_graph::{DestTable, Net};
@@ -121,6 +123,40 @@ fn best_hops_on<R: AllocGlobal + Threads + Sync>(
     let tables = tables_of(rt, net, ONE_WORKER)?;
     let room = net.node_count().saturating_mul(net.dest_count());
     hops_of(rt.alloc(), net, tables, room)
+}
+
+// The tables of all destinations, over rows that are as narrow as the algebra allows.
+fn tables_of<R: AllocGlobal + Threads + Sync>(
+    rt: &R,
+    net: &Net,
+    workers: u32,
+) -> Result<List<DestTable>, NoMemory>
+    requires { AreWorkers workers }
+    ensures { IfOk result (AreTablesOf net.now) }
+{
+    rows_have_their_width();
+    match row_width(net.alg()) {
+        Some(1) => tables_over::<FixedRow<1>, R>(rt, net, workers),
+        Some(2) => tables_over::<FixedRow<2>, R>(rt, net, workers),
+        Some(3) => tables_over::<FixedRow<3>, R>(rt, net, workers),
+        Some(4) => tables_over::<FixedRow<4>, R>(rt, net, workers),
+        _ => tables_over::<Words, R>(rt, net, workers),
+    }
+}
+
+// The same over rows of this kind.
+fn tables_over<W: HeldRow + Send + Sync, R: AllocGlobal + Threads + Sync>(
+    rt: &R,
+    net: &Net,
+    workers: u32,
+) -> Result<List<DestTable>, NoMemory>
+    requires workers { AreWorkers workers }
+    requires rows { HoldValues W.can_hold (carrier_of net.now.alg.expression) }
+    ensures { IfOk result (AreTablesOf net.now) }
+{
+    let algebra = CodeAlgebra::<W>::new(rt.alloc(), net.alg())?;
+    let tables = all_tables(rt, &algebra, net, workers)?;
+    Ok(tables)
 }
 
 // The next hops of the tables, by code over rows that are as narrow as the algebra allows.

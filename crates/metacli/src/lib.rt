@@ -12,11 +12,13 @@ mod generating;
 mod hopping;
 mod judging;
 mod laws;
+mod lending;
 mod outcome;
 mod phases;
 mod putting;
 mod reading;
 mod routing;
+mod rows;
 mod running;
 mod summing;
 mod tabling;
@@ -31,5 +33,6 @@ pub use laws::{
     nothing_is_given_up, quiet_exchanges_are_as_good_as_route, quiet_floods_have_the_rows_of_route,
     quiet_runs_end_alike, quiet_runs_have_the_stable_rows, summaries_are_determined,
 };
+pub use rows::Rows;
 pub use top::run_meta;
 pub use vector_runs::Phase;

@@ -10,7 +10,7 @@ ghost use Rattle.alg_classes.specs.Instances.{pure_instance, pure_property};
 ghost use Rattle.report_text.specs.Refusals.{misses, pure_refusal};
 
 use crate::routing::Solution;
-use crate::{Answer, Command, Ended, WordsFault};
+use crate::{Answer, Command, Ended, Rows, WordsFault};
 use alg_classes::Property;
 use alg_model::Alg;
 use code_gen::Listing;
@@ -18,7 +18,7 @@ use distance_runs::{DistanceRun, HopRow};
 use flood_runs::FloodRun;
 use meta_base::{List, NoMemory, Which};
 use net_facts::Missing;
-use net_graph::{DestTable, Net, RouteRow};
+use net_graph::{DestTable, Net};
 use property_infer::{Verdict, Verdicts};
 use raml_syntax::ExprFault;
 use report_check::{Judgement, ManyHops, ReportFault};
@@ -26,6 +26,7 @@ use report_text::Refusal;
 use std::alloc::Global;
 use topology_file::{NetFault, NetFile};
 use vector_runs::{Journal, Phase, PhasedRun};
+use word_tables::WordRows;
 
 /// Why a command isn't carried out.
 #[derive(Clone, Copy, Debug)]
@@ -135,7 +136,7 @@ pub struct Routed {
     pub solution: Solution,
     pub alg: Alg,
     pub file: NetFile,
-    pub rows: List<RouteRow>,
+    pub rows: WordRows,
 }
 
 /// All equally good next hops on a network over an algebra, after its changes.
@@ -336,7 +337,7 @@ impl Routed {
         ensures { AreParts result (pure_outcome (Outcome.Routed self)) }
     {
         let mut made = Made::nothing(alloc);
-        made.rows = self.rows;
+        made.rows = Rows::Words(self.rows);
         Parts {
             alg: Some(self.alg),
             file: Some(self.file),
@@ -421,7 +422,7 @@ impl Flooded {
             is_quiet,
         } = self.run;
         let mut made = Made::nothing(alloc);
-        made.rows = rows;
+        made.rows = Rows::Listed(rows);
         made.journal = journal;
         Parts {
             alg: Some(self.alg),
@@ -475,7 +476,7 @@ pub struct Made {
     report: Option<List<DestTable>>,
     judgement: Option<Judgement>,
     many: List<ManyHops>,
-    rows: List<RouteRow>,
+    rows: Rows,
     hops: List<HopRow>,
     journal: Journal,
     past: List<Phase>,
@@ -483,6 +484,7 @@ pub struct Made {
 
 impl Made {
     ghost use Rattle.std.specs.Prelude.{[]};
+    ghost use Rattle.metacli.specs.declared.rows.Rows.TheVariants as Rows;
 
     // Nothing yet.
     fn nothing(alloc: Global) -> Made
@@ -493,7 +495,7 @@ impl Made {
           report = None;
           judgement = None;
           many = [];
-          rows = [];
+          rows = Rows.Listed [];
           hops = [];
           journal = [];
           past = [];
@@ -506,7 +508,7 @@ impl Made {
             report: None,
             judgement: None,
             many: List::new(alloc),
-            rows: List::new(alloc),
+            rows: Rows::Listed(List::new(alloc)),
             hops: List::new(alloc),
             journal: Journal::new(alloc),
             past: List::new(alloc),
@@ -522,7 +524,7 @@ impl Made {
           report = None;
           judgement = None;
           many = [];
-          rows = last.rows;
+          rows = Rows.Listed last.rows;
           hops = [];
           journal = last.journal;
           past = past;
@@ -535,7 +537,7 @@ impl Made {
             report: None,
             judgement: None,
             many: List::new(alloc),
-            rows: last.rows,
+            rows: Rows::Listed(last.rows),
             hops: List::new(alloc),
             journal: last.journal,
             past,

@@ -3,12 +3,12 @@ ghost use Rattle.std.specs.Prelude.{◌≡◌, IfOk, map};
 ghost use Rattle.std.specs.List.{AllByRecursion};
 ghost use Rattle.alg_model.specs.Carriers.{carrier_of};
 ghost use Rattle.code_gen.specs.Widths.{HoldValues};
-ghost use Rattle.link_state.specs.Tables.{AreTablesOf};
 ghost use Rattle.command_words.specs.Words.{AreWorkers};
 ghost use Rattle.net_graph.specs.Changes.{AreChanges};
-ghost use Rattle.net_graph.specs.Views.{pure_change, pure_row, rows_of};
+ghost use Rattle.net_graph.specs.Views.{pure_change};
 ghost use Rattle.net_graph.specs.RowTexts.{IsRowOf};
-ghost use Rattle.net_graph.specs.Tables.{joined_rows};
+ghost use Rattle.net_graph.specs.Tables.{BestFirst, OnTablesFrom};
+ghost use Rattle.word_tables.specs.Rows.{pure_word_rows, table_rows, HasWordsOn};
 ghost use Rattle.topology_file.specs.Views.{pure_file};
 ghost use Rattle.topology_file.specs.NetText.{changed_net};
 ghost use Rattle.metacli.specs.After.{last_of};
@@ -20,18 +20,19 @@ ghost use Rattle.metacli.specs.Views.{CanBeWritten, pure_outcome};
 use crate::after::{last_of, net_after};
 use crate::outcome::{Outcome, Routed, Stop, Unfit};
 use alg_classes::Property;
-use alg_model::Alg;
+use alg_model::{Alg, carrier_of};
 use best_first::{best_first_is_optimal, best_first_rows_are_the_networks};
 use code_gen::{CodeAlgebra, row_width, rows_have_their_width};
 use label_code::{FixedRow, HeldRow, Words};
-use link_state::all_tables;
-use meta_base::{List, NoMemory};
+use link_state::all_fixed;
+use meta_base::NoMemory;
 use net_facts::{Missing, first_missing};
-use net_graph::{DestTable, Net, RouteRow};
+use net_graph::Net;
 use settled_laws::{best_first_is_stable, stable_rows_are_settled, strict_is_monotone};
-use std::alloc::{AllocGlobal, Global};
+use std::alloc::AllocGlobal;
 use std::thread::Threads;
 use topology_file::NetFile;
+use word_tables::WordRows;
 
 /// Which routes of a network are asked for.
 #[derive(Clone, Copy, Debug)]
@@ -88,7 +89,7 @@ fn outcome_of(
     file: NetFile,
     solution: Solution,
     after: Option<Net>,
-    found: Result<List<RouteRow>, Missing>,
+    found: Result<WordRows, Missing>,
 ) -> Outcome
     requires over { file.net.alg ≡ alg }
     requires after { last_of after file.net ≡ changed_net (pure_file file) }
@@ -121,7 +122,7 @@ fn found_after<R: AllocGlobal + Threads + Sync>(
     file: &NetFile,
     solution: Solution,
     workers: u32,
-) -> Result<(Option<Net>, Result<List<RouteRow>, Missing>), NoMemory>
+) -> Result<(Option<Net>, Result<WordRows, Missing>), NoMemory>
     requires workers { AreWorkers workers }
     requires changes { AreChanges file.now.net (map pure_change file.now.changes) }
     ensures after { IfOk result (λ found. last_of found.0 file.now.net ≡ changed_net (pure_file file.now)) }
@@ -143,7 +144,7 @@ fn found_on<R: AllocGlobal + Threads + Sync>(
     net: &Net,
     solution: Solution,
     workers: u32,
-) -> Result<Result<List<RouteRow>, Missing>, NoMemory>
+) -> Result<Result<WordRows, Missing>, NoMemory>
     requires { AreWorkers workers }
     ensures { IfOk result (IsFoundOn solution net.now) }
 {
@@ -160,63 +161,58 @@ fn all_routes<R: AllocGlobal + Threads + Sync>(
     net: &Net,
     solution: Solution,
     workers: u32,
-) -> Result<List<RouteRow>, NoMemory>
+) -> Result<WordRows, NoMemory>
     requires workers { AreWorkers workers }
     requires fit { IsFit solution net.now }
-    ensures routes { IfOk result (λ rows. AreRoutesOn solution net.now (map pure_row rows)) }
-    ensures rows { IfOk result (λ rows. AllByRecursion (IsRowOf net.now) (map pure_row rows)) }
+    ensures routes { IfOk result (λ rows. AreRoutesOn solution net.now (pure_word_rows rows)) }
+    ensures rows { IfOk result (λ rows. AllByRecursion (IsRowOf net.now) (pure_word_rows rows)) }
+    ensures words { IfOk result (HasWordsOn net.now) }
 {
     best_first_is_optimal();
     best_first_is_stable();
     stable_rows_are_settled();
     strict_is_monotone();
     best_first_rows_are_the_networks();
-    let tables = tables_of(rt, net, workers)?;
-    let room = net.node_count().saturating_mul(net.dest_count());
-    joined(rt.alloc(), tables, room)
+    let _nodes = net.node_count();
+    let rows = rows_of(rt, net, workers)?;
+    Ok(rows)
 }
 
-// The tables of all destinations, over rows that are as narrow as the algebra allows.
-pub(crate) fn tables_of<R: AllocGlobal + Threads + Sync>(
+// The rows of all destinations, each made best first, as words that are as few as the algebra allows.
+fn rows_of<R: AllocGlobal + Threads + Sync>(
     rt: &R,
     net: &Net,
     workers: u32,
-) -> Result<List<DestTable>, NoMemory>
+) -> Result<WordRows, NoMemory>
     requires { AreWorkers workers }
-    ensures { IfOk result (AreTablesOf net.now) }
+    ensures best { IfOk result (λ rows. OnTablesFrom (BestFirst net.now) 0 (table_rows rows)) }
+    ensures words { IfOk result (HasWordsOn net.now) }
 {
     rows_have_their_width();
     match row_width(net.alg()) {
-        Some(1) => tables_over::<FixedRow<1>, R>(rt, net, workers),
-        Some(2) => tables_over::<FixedRow<2>, R>(rt, net, workers),
-        Some(3) => tables_over::<FixedRow<3>, R>(rt, net, workers),
-        Some(4) => tables_over::<FixedRow<4>, R>(rt, net, workers),
-        _ => tables_over::<Words, R>(rt, net, workers),
+        Some(1) => rows_over::<FixedRow<1>, R>(rt, net, workers),
+        Some(2) => rows_over::<FixedRow<2>, R>(rt, net, workers),
+        Some(3) => rows_over::<FixedRow<3>, R>(rt, net, workers),
+        Some(4) => rows_over::<FixedRow<4>, R>(rt, net, workers),
+        _ => rows_over::<Words, R>(rt, net, workers),
     }
 }
 
-// The same over rows of this kind.
-fn tables_over<W: HeldRow + Send + Sync, R: AllocGlobal + Threads + Sync>(
+// The same by rows of words of this kind.
+fn rows_over<W: HeldRow + Send + Sync, R: AllocGlobal + Threads + Sync>(
     rt: &R,
     net: &Net,
     workers: u32,
-) -> Result<List<DestTable>, NoMemory>
+) -> Result<WordRows, NoMemory>
     requires workers { AreWorkers workers }
     requires rows { HoldValues W.can_hold (carrier_of net.now.alg.expression) }
-    ensures { IfOk result (AreTablesOf net.now) }
+    ensures best { IfOk result (λ rows. OnTablesFrom (BestFirst net.now) 0 (table_rows rows)) }
+    ensures words { IfOk result (HasWordsOn net.now) }
 {
     let algebra = CodeAlgebra::<W>::new(rt.alloc(), net.alg())?;
-    let tables = all_tables(rt, &algebra, net, workers)?;
-    Ok(tables)
-}
-
-// The rows of all tables, one table after another, in a list that has room for so many at once.
-fn joined(alloc: Global, tables: List<DestTable>, room: usize) -> Result<List<RouteRow>, NoMemory>
-    ensures { IfOk result (λ rows. map pure_row rows ≡ joined_rows (map rows_of tables)) }
-{
-    let mut rows = Vec::with_capacity(alloc, room)?;
-    for table in tables.into_vec() {
-        rows.append(&mut table.rows.into_vec())?;
-    }
-    Ok(List::from_vec(rows))
+    let found = all_fixed(rt, &algebra, net, workers)?;
+    let _dests = net.dest_count();
+    let carrier = carrier_of(rt.alloc(), net.alg())?;
+    let rows = WordRows::of(rt.alloc(), carrier, found)?;
+    Ok(rows)
 }

@@ -17,6 +17,7 @@ ghost use Rattle.report_text.specs.Refusals.{CanMiss, misses, misses_text, refus
 ghost use Rattle.report_text.specs.SummaryTexts.{AreSummed, summary_text};
 ghost use Rattle.vector_runs.specs.Runs.{AreOfNetworks, pure_phase};
 ghost use Rattle.wedge_nets.specs.GadgetTexts.{gadget_text};
+ghost use Rattle.word_tables.specs.Rows.{pure_word_rows, HasWordsOn};
 ghost use Rattle.wedge_nets.specs.Gadgets.{HasGadget};
 ghost use Rattle.metacli.specs.After.{last_of};
 ghost use Rattle.metacli.specs.Answers.{pure_answer, pure_stop, refused, write_fault};
@@ -26,6 +27,7 @@ ghost use Rattle.metacli.specs.Views.{CanBeWritten, IsListedOn, pure_outcome};
 
 use crate::Answer;
 use crate::after::last_of;
+use crate::lending::put_word_rows;
 use crate::outcome::{
     Checked, Coded, Judged, Outcome, Ran, Routed, Shown, Stop, Wedged, checked_answer, end_answer,
 };
@@ -33,7 +35,7 @@ use crate::phases::{put_exchange, put_flood, put_phases};
 use crate::putting::{Cut, answered, put_line, put_room, room_for_lines};
 use crate::routing::Solution;
 use crate::summing::put_summary;
-use crate::tabling::put_tables;
+use crate::tabling::put_all_tables;
 use alg_classes::{Instance, Property};
 use alg_model::{Alg, Value};
 use meta_base::{Failed, NoMemory, Sink, Text, put_all};
@@ -42,9 +44,10 @@ use net_graph::{Net, RouteRow};
 use property_infer::Verdicts;
 use report_check::ManyHops;
 use report_text::{
-    RowLines, code_lines, judgement_lines, misses_line, push_hops_line, refusal_line,
-    required_line, verdict_line,
+    code_lines, judgement_lines, misses_line, push_hops_line, refusal_line, required_line,
+    verdict_line,
 };
+use row_lines::RowLines;
 use std::alloc::Global;
 use topology_file::NetFile;
 use wedge_nets::gadget_lines;
@@ -285,16 +288,16 @@ fn put_unmet<K: Sink>(alloc: Global, out: &mut K, unmet: Option<Property>) -> Re
 
 // Puts routes, or stable tables.
 fn put_routes<K: Sink>(alloc: Global, out: &mut K, routed: &Routed) -> Result<(), Cut>
-    requires { AllByRecursion (IsRowOf routed.now.file.net) (map pure_row routed.now.rows) }
+    requires words { HasWordsOn routed.now.file.net routed.now.rows }
+    requires rows { AllByRecursion (IsRowOf routed.now.file.net) (pure_word_rows routed.now.rows) }
     ensures { PutsText (K.holds out.old)
-        (routes_text routed.now.solution routed.now.file.net (map pure_row routed.now.rows))
+        (routes_text routed.now.solution routed.now.file.net (pure_word_rows routed.now.rows))
         result (K.holds out.new) }
 {
     let net = &routed.file.net;
-    let rows = routed.rows.as_slice();
     match routed.solution {
-        Solution::Unbeaten | Solution::Settled => put_rows(alloc, out, net, rows),
-        Solution::AllStable => put_tables(alloc, out, net, 0, rows),
+        Solution::Unbeaten | Solution::Settled => put_word_rows(alloc, out, net, &routed.rows),
+        Solution::AllStable => put_all_tables(alloc, out, net, &routed.rows),
     }
 }
 

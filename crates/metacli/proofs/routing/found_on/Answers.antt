@@ -15,4 +15,4 @@ returns-in-Some g c =
 pub returns-in_ok-all_routes-in-None : goal.returns-in_ok-all_routes-in-None
 returns-in_ok-all_routes-in-None g c =
     let fit : IsFit c.args.solution c.args.net.now = rw (c.in-None.is, c.properties.ensures) at c.in_ok-missing.ensures.none in
-    (fit, c.in_ok-all_routes-in-None.ensures.routes, c.in_ok-all_routes-in-None.ensures.rows)
+    (fit, c.in_ok-all_routes-in-None.ensures.routes, c.in_ok-all_routes-in-None.ensures.rows, c.in_ok-all_routes-in-None.ensures.words)

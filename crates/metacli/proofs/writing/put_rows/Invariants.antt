@@ -1,6 +1,6 @@
 use Rattle.std.proofs.Common.{◌≡◌, map, drop}
 use Rattle.net_graph.specs.Views.{pure_row}
-use Rattle.report_text.specs.RowLines.{net_of}
+use Rattle.row_lines.specs.RowLines.{net_of}
 use Rattle.metacli.specs.Texts.{HasLines, rows_text}
 use Rattle.metacli.proofs.writing.put_rows.Given as goal
 
