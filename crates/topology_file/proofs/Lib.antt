@@ -1,7 +1,9 @@
 pub mod Splits
+pub mod Keys
 pub mod QuickForms
 pub mod NameLists
 pub mod NameBytes
+pub mod KnownNames
 pub mod SpelledLabels
 pub mod Steps
 pub mod Runs

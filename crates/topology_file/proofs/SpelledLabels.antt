@@ -9,13 +9,14 @@ use Rattle.std.specs.Map.{lookup as entry_of}
 use Rattle.indexmap.specs.IndexMap.{insert_entry}
 use Rattle.meta_base.specs.declared.ids.ArcId.{ArcId}
 use Rattle.net_graph.specs.Lines.{with_arc}
-use Rattle.net_graph.specs.NetLaws.{all_weaker}
 use Rattle.net_graph.specs.Limits.{max_arcs}
 use Rattle.net_graph.specs.Nets.{PureArc, PureNet, has_arc, is_arc_between}
 use Rattle.net_graph.specs.declared.limits.TheConstants.{MAX_ARCS}
 use Rattle.alg_model.specs.Expressions.{PureLabel}
 use Rattle.sig_text.specs.Spelled.{spelled}
-use Rattle.topology_file.specs.LabelTexts.{IsSpelledBy, AreSpelled, IsLinked, HasSameArcs, has_room_for_arcs}
+use Rattle.topology_file.specs.KnownTexts.{IsSpelledBy, AreSpelled, IsLinked, Knows, has_room_for_arcs}
+use Rattle.topology_file.specs.declared.known.KnownTexts.{KnownTexts}
+use Rattle.topology_file.proofs.KnownNames.{knows_still}
 use Rattle.topology_file.specs.LineErrors.{IsRefusedAs}
 use Rattle.topology_file.specs.NetText.{and_then, if_room, ends_in, label_in, after_link, after_both}
 use Rattle.topology_file.specs.declared.errors.LineError.{LineError}
@@ -64,18 +65,13 @@ stands_last [] y = refl
 stands_last (x ∷ xs) y = stands_last xs y
 
 -- an arc more changes no label
-pub spelled_more : (net : PureNet) (tail head : ℕ) (l : PureLabel) (es : List Entry) → AreSpelled net es → AreSpelled (with_arc net tail head l) es
-spelled_more net tail head l es all =
-    all_weaker (λ (t : Entry). IsSpelledBy net t.0.now t.1.0) (λ (t : Entry). IsSpelledBy (with_arc net tail head l) t.0.now t.1.0) es (λ t s. (s.0, stands_still net.arcs _ t.1.0 s.0 s.1, s.2)) all
-
--- nor does what is no arc
-pub spelled_same : (old new : PureNet) (es : List Entry) → HasSameArcs old new → AreSpelled old es → AreSpelled new es
-spelled_same old new es h all =
-    all_weaker (λ (t : Entry). IsSpelledBy old t.0.now t.1.0) (λ (t : Entry). IsSpelledBy new t.0.now t.1.0) es (λ t s. (s.0, rw h.1 s.1, rw h.0 s.2)) all
+pub knows_more : (net : PureNet) (tail head : ℕ) (l : PureLabel) (known : KnownTexts) → Knows net known → Knows (with_arc net tail head l) known
+knows_more net tail head l known k =
+    knows_still net (with_arc net tail head l) known (λ text arc s. (s.0, stands_still net.arcs _ arc s.0 s.1, s.2)) (λ name node e. e) k
 
 -- an arc that is added with the label that a text spells
-pub spelled_linked : (old new : PureNet) (text : List ℕ) (tail head count : ℕ) (es : List Entry) → IsLinked old text tail head count new → AreSpelled old es → AreSpelled new es
-spelled_linked old new text tail head count es s all = rw (s.3) (spelled_more old tail head s.0 es all)
+pub knows_linked : (old new : PureNet) (text : List ℕ) (tail head count : ℕ) (known : KnownTexts) → IsLinked old text tail head count new → Knows old known → Knows new known
+knows_linked old new text tail head count known s k = rw (s.3) (knows_more old tail head s.0 known k)
 
 pub last_spelled : (old new : PureNet) (text : List ℕ) (tail head count : ℕ) → IsLinked old text tail head count new → IsSpelledBy new text (length old.arcs)
 last_spelled old new text tail head count s =
@@ -88,10 +84,10 @@ pub linked_like : (old new : PureNet) (text : List ℕ) (tail head count like : 
 linked_like old new text tail head count like s room made = (s.0.label, s.2, room, rw (s.1) at made)
 
 -- an arc more with the label of an arc that the text spells changes no label
-pub spelled_like : (old new : PureNet) (text : List ℕ) (tail head like : ℕ) (es : List Entry) → IsSpelledBy old text like → IfSome (slice_get old.arcs like) (λ arc. new ≡ with_arc old tail head arc.label) → AreSpelled old es → AreSpelled new es
-spelled_like old new text tail head like es s made all =
+pub knows_like : (old new : PureNet) (text : List ℕ) (tail head like : ℕ) (known : KnownTexts) → IsSpelledBy old text like → IfSome (slice_get old.arcs like) (λ arc. new ≡ with_arc old tail head arc.label) → Knows old known → Knows new known
+knows_like old new text tail head like known s made k =
     let is : new ≡ with_arc old tail head s.0.label = rw (s.1) at made in
-    rw is (spelled_more old tail head s.0.label es all)
+    rw is (knows_more old tail head s.0.label known k)
 
 pub like_within : (net : PureNet) (text : List ℕ) (like : ℕ) → IsSpelledBy net text like → like < length net.arcs
 like_within net text like s = slice_get_within net.arcs like s.0 s.1

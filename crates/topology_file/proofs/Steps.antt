@@ -20,13 +20,15 @@ use Rattle.topology_file.specs.declared.faults.NetKind.TheVariants.{AfterThen, B
 use Rattle.topology_file.specs.declared.faults.What.TheVariants.{Arcs}
 use Rattle.topology_file.specs.declared.errors.LineError.{LineError}
 use Rattle.topology_file.specs.declared.errors.LineError.TheVariants.{Bad, NoMemory}
+use Rattle.topology_file.specs.declared.forms.Ways.{Ways}
+use Rattle.topology_file.specs.declared.forms.Ways.TheVariants.{One, Both}
 use Rattle.topology_file.specs.declared.forms.NetLine.{NetLine}
 use Rattle.topology_file.specs.declared.forms.NetLine.TheVariants as lines
 use Rattle.topology_file.specs.Texts.{words_of}
 use Rattle.topology_file.specs.Forms.{nodes, bad}
 use Rattle.topology_file.specs.NetText.{PureNetFile, changed_net, and_then, ends_in, label_in, has_room_to_link, with_change, with_net, after_nodes, after_then_link, after_then_drop, after_form}
-use Rattle.topology_file.specs.LineErrors.{IsRefusedAs, AreEnds, after_net_line, late_fault}
-use Rattle.topology_file.specs.Views.{IsDraft, file_with, pure_net_line}
+use Rattle.topology_file.specs.LineErrors.{IsRefusedAs, AreEnds, after_arcs, after_net_line, late_fault}
+use Rattle.topology_file.specs.Views.{IsDraft, file_with, arc_form, pure_net_line}
 
 -- a destination that was just added has no origin
 pub new_dest_has_none : (net : PureNet) (name : List ℕ) (dest node : ℕ) → IsNet net → dest ≡ length net.dests → has_origin (with_dest net name) dest node ≡ false
@@ -106,8 +108,11 @@ late f c cs (lines.Nodes names) e = by (list_all is_name (words_of names.now))
     by : (b : Bool) → after_form spelled f (cond b (nodes (words_of names.now)) bad) ≡ Err (cond b AfterThen BadLine)
     by true = rw e refl
     by false = refl
-late f c cs (lines.Link listener speaker label) e = rw e refl
-late f c cs (lines.Both listener speaker label) e = rw e refl
+late f c cs (lines.Arc line) e = by line.ways
+  where
+    by : (ways : Ways) → after_form spelled f (arc_form ways line.listener line.speaker line.label) ≡ Err AfterThen
+    by One = rw e refl
+    by Both = rw e refl
 late f c cs (lines.Origin dest node value) e = rw e refl
 
 -- and before all of them
@@ -117,8 +122,12 @@ early f (lines.Nodes names) e = by (list_all is_name (words_of names.now))
     by : (b : Bool) → after_form spelled f (cond b (nodes (words_of names.now)) bad) ≡ and_then (cond b (after_nodes f.net (words_of names.now)) (Err BadLine)) (with_net f)
     by true = rw e refl
     by false = refl
-early f (lines.Link listener speaker label) e = rw e refl
-early f (lines.Both listener speaker label) e = rw e refl
+early f (lines.Arc line) e = by line.ways
+  where
+    by : (ways : Ways) → after_form spelled f (arc_form ways line.listener line.speaker line.label)
+        ≡ and_then (after_arcs f.net ways line.listener line.speaker line.label) (with_net f)
+    by One = rw e refl
+    by Both = rw e refl
 early f (lines.Origin dest node value) e = rw e refl
 
 pub early_ok : (f : PureNetFile) (line : NetLine) (net : PureNet) → f.changes ≡ [] → after_net_line f.net line ≡ Ok net → after_form spelled f (pure_net_line line) ≡ Ok (record f { net = net })

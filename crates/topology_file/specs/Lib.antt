@@ -6,6 +6,8 @@ pub mod Faults
 pub mod NetText
 pub mod LineErrors
 pub mod Views
-pub mod LabelTexts
+pub mod Keys
+pub mod TextSpots
+pub mod KnownTexts
 pub mod LineTexts
 pub mod LineLaws

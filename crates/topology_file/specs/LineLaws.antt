@@ -87,7 +87,7 @@ no_return line h =
     let last = passes_at (is_not 13) line (length line - 1) refl (all_pass is_plain (is_not 13) line (λ c k. (plain_is c k).1) h) in
     rw (not_true (eqb (get_or line (length line - 1) 0) 13) last) refl
 
-says_itself : (line : List ℕ) → list_all is_plain line ≡ true → said_of line ≡ line
+pub says_itself : (line : List ℕ) → list_all is_plain line ≡ true → said_of line ≡ line
 says_itself line h =
     ap (front (is_not 35)) (no_return line h ∙ sym (append-nil line))
     ∙ front_through (is_not 35) line [] (all_pass is_plain (is_not 35) line (λ c k. (plain_is c k).2) h) ∙ append-nil line

@@ -11,14 +11,24 @@ use Rattle.topology_file.specs.Forms.{PureLine, silent, link, both, origin, then
 use Rattle.topology_file.specs.NetText.{PureNetFile, changed_net}
 use Rattle.topology_file.specs.declared.forms.Line.{Line}
 use Rattle.topology_file.specs.declared.forms.Line.TheVariants as lines
+use Rattle.topology_file.specs.declared.forms.ArcLine.{ArcLine}
+use Rattle.topology_file.specs.declared.forms.Ways.{Ways}
+use Rattle.topology_file.specs.declared.forms.Ways.TheVariants.{One, Both}
 use Rattle.topology_file.specs.declared.forms.NetLine.{NetLine}
 use Rattle.topology_file.specs.declared.forms.NetLine.TheVariants as net_lines
 use Rattle.topology_file.specs.declared.network.NetFile.{NetFile}
 
+-- what lines of these arcs ask for
+abbrev pub arc_form : Ways → List ℕ → List ℕ → List ℕ → PureLine
+arc_form One listener speaker label = link listener speaker label
+arc_form Both listener speaker label = both listener speaker label
+
+abbrev pub pure_arc_line : ArcLine → PureLine
+pure_arc_line line = arc_form line.ways line.listener line.speaker line.label
+
 abbrev pub pure_net_line : NetLine → PureLine
 pure_net_line (net_lines.Nodes names) = named_nodes (words_of names.now)
-pure_net_line (net_lines.Link listener speaker label) = link listener.now speaker.now label.now
-pure_net_line (net_lines.Both listener speaker label) = both listener.now speaker.now label.now
+pure_net_line (net_lines.Arc line) = pure_arc_line line
 pure_net_line (net_lines.Origin dest node value) = origin dest.now node.now value.now
 
 abbrev pub pure_line : Line → PureLine
@@ -31,8 +41,7 @@ pure_line lines.Bad = bad
 -- the destination that the line may add has a name
 abbrev pub NamesDest : NetLine → Type 0
 NamesDest (net_lines.Nodes names) = Unit {0}
-NamesDest (net_lines.Link listener speaker label) = Unit {0}
-NamesDest (net_lines.Both listener speaker label) = Unit {0}
+NamesDest (net_lines.Arc line) = Unit {0}
 NamesDest (net_lines.Origin dest node value) = is_name dest.now ≡ true
 
 abbrev pub HasDestName : Line → Type 0

@@ -1,5 +1,5 @@
 // A network file that is being read.
-ghost use Rattle.std.specs.Prelude.{◌≡◌, true, false, length, map, Ok, IfOk, IfErr, OnOk, OnErr};
+ghost use Rattle.std.specs.Prelude.{◌≡◌, ◌<◌, true, false, length, map, Ok, IfOk, IfErr, OnOk, OnErr};
 ghost use Rattle.alg_model.specs.Expressions.{PureLabel};
 ghost use Rattle.net_graph.specs.Nets.{IsNet, has_arc};
 ghost use Rattle.net_graph.specs.Changes.{AreChanges, MayChange, changed, link};
@@ -7,7 +7,7 @@ ghost use Rattle.net_graph.specs.ChangeSteps.{is_there_after, is_there_after_all
 ghost use Rattle.net_graph.specs.Views.{pure_change};
 ghost use Rattle.sig_text.specs.Spelled.{spelled};
 ghost use Rattle.topology_file.specs.NetText.{changed_net, empty_file, has_room_to_link, with_change, after_then_link, after_then_drop, after_form, after_line};
-ghost use Rattle.topology_file.specs.LineErrors.{IsRefusedAs, late_fault as late_fault_of};
+ghost use Rattle.topology_file.specs.LineErrors.{IsFirstAdded, IsFirstRefused, IsRefusedAs, late_fault as late_fault_of};
 ghost use Rattle.topology_file.specs.Views.{NamesDest, pure_net_line, pure_file};
 ghost use Rattle.topology_file.specs.declared.errors.LineError.TheVariants.{Bad};
 ghost use Rattle.topology_file.specs.declared.faults.NetKind.TheVariants.{TooMany};
@@ -15,9 +15,10 @@ ghost use Rattle.topology_file.specs.declared.faults.What.TheVariants.{Arcs};
 
 use crate::errors::{LineError, label_of};
 use crate::forms::{Line, NetLine, line_form};
-use crate::label_texts::LabelTexts;
+use crate::known::KnownTexts;
 use crate::lines::{add_net_line, fault_after, nodes_of};
-use crate::texts::said;
+use crate::quick_forms::arc_line;
+use crate::texts::{first_line, said};
 use crate::{MAX_LINE_BYTES, NetFile, NetKind, What};
 use alg_model::Alg;
 use meta_base::{List, NoMemory, NodeId};
@@ -34,7 +35,7 @@ const ARC_LINE_BYTES: usize = 16;
 pub struct FileDraft<'a> {
     alloc: Global,
     draft: NetDraft,
-    texts: LabelTexts<'a>,
+    known: KnownTexts<'a>,
     changes: List<Change>,
     // How many arcs there are after the changes.
     arc_count: usize,
@@ -42,7 +43,7 @@ pub struct FileDraft<'a> {
 
 impl<'a> Model for FileDraft<'a> {
     ghost use Rattle.topology_file.specs.NetText.{PureNetFile};
-    ghost use Rattle.topology_file.specs.LabelTexts.{AreSpelled};
+    ghost use Rattle.topology_file.specs.KnownTexts.{Knows};
     ghost use Rattle.topology_file.specs.Views.{coded_file, file_with, IsDraft};
 
     ghost Value = { PureNetFile };
@@ -52,7 +53,7 @@ impl<'a> Model for FileDraft<'a> {
     ghost view = { λ d. file_with d.draft d.changes };
 
     ghost invariant = { λ d. IsDraft (file_with d.draft d.changes) d.arc_count
-        × AreSpelled d.draft d.texts.arcs.entries };
+        × Knows d.draft d.known };
 }
 
 impl<'a> FileDraft<'a> {
@@ -63,16 +64,17 @@ impl<'a> FileDraft<'a> {
         FileDraft {
             alloc,
             draft: NetDraft::new(alloc, alg),
-            texts: LabelTexts::new(alloc),
+            known: KnownTexts::new(alloc),
             changes: List::new(alloc),
             arc_count: 0,
         }
     }
 
-    /// Makes room for the arcs of so many bytes of lines. Nothing is added.
+    /// Makes room for the arcs, and the texts, of so many bytes of lines. Nothing is added.
     pub fn reserve(&mut self, bytes: usize) -> Result<(), NoMemory>
         ensures { self.new ≡ self.old }
     {
+        self.known.make_spots(self.alloc, bytes);
         self.draft
             .reserve_arcs((bytes / ARC_LINE_BYTES).min(MAX_ARCS))
     }
@@ -89,8 +91,26 @@ impl<'a> FileDraft<'a> {
         })
     }
 
-    /// Adds what the line asks for. After an error some of it may have been added.
-    pub fn add_line(&mut self, line: &'a [u8]) -> Result<(), LineError>
+    /// Adds what the first line of the text asks for, and gives the text of the other lines. After an error some of it may
+    /// have been added.
+    pub fn add_first_line(&mut self, text: &'a [u8]) -> Result<&'a [u8], LineError>
+        requires { 0 < length text.now }
+        ensures ok { IfOk result (λ others. IsFirstAdded self.old text.now self.new others.now) }
+        ensures bad { IfErr result (IsFirstRefused self.old text.now) }
+    {
+        let first = arc_line(text);
+        if let Some((line, others)) = &first {
+            self.add_to_network(line)?;
+            return Ok(*others);
+        }
+        let (line, others) = first_line(text);
+        self.add_line(line)?;
+        Ok(others)
+    }
+
+    // Adds what the line asks for.
+    #[inline(never)]
+    fn add_line(&mut self, line: &'a [u8]) -> Result<(), LineError>
         ensures ok { OnOk result (after_line spelled self.old line.now ≡ Ok self.new) }
         ensures bad { IfErr result (IsRefusedAs (after_line spelled self.old line.now)) }
     {
@@ -99,7 +119,7 @@ impl<'a> FileDraft<'a> {
         }
         match line_form(said(line)) {
             Line::Silent => Ok(()),
-            Line::Network(line) => self.add_to_network(line),
+            Line::Network(line) => self.add_to_network(&line),
             Line::ThenLink {
                 listener,
                 speaker,
@@ -112,16 +132,16 @@ impl<'a> FileDraft<'a> {
 
     // A line of the network, which stands before all changes.
     #[tactic(auto, using(crate::proofs::Steps::late, crate::proofs::Steps::early_ok, crate::proofs::Steps::early_bad))]
-    fn add_to_network(&mut self, line: NetLine<'a>) -> Result<(), LineError>
-        requires { NamesDest line }
-        ensures ok { OnOk result (after_form spelled self.old (pure_net_line line.entry) ≡ Ok self.new) }
-        ensures bad { IfErr result (IsRefusedAs (after_form spelled self.old (pure_net_line line.entry))) }
+    fn add_to_network(&mut self, line: &NetLine<'a>) -> Result<(), LineError>
+        requires { NamesDest line.now }
+        ensures ok { OnOk result (after_form spelled self.old (pure_net_line line.now) ≡ Ok self.new) }
+        ensures bad { IfErr result (IsRefusedAs (after_form spelled self.old (pure_net_line line.now))) }
     {
         if !self.changes.as_slice().is_empty() {
             return Err(late_fault(line));
         }
         // The arcs are counted after a refusal too: of two, one may have been added.
-        let added = add_net_line(self.alloc, &mut self.draft, &mut self.texts, line);
+        let added = add_net_line(self.alloc, &mut self.draft, &mut self.known, line);
         self.arc_count = self.draft.arc_count();
         added
     }
@@ -234,13 +254,11 @@ fn is_there_after(is_there: bool, change: &Change, tail: NodeId, head: NodeId) -
 }
 
 // The fault of a line of the network after a change: a word that is no name comes before it.
-fn late_fault(line: NetLine<'_>) -> LineError
-    ensures { result ≡ Bad (late_fault_of line.entry) }
+fn late_fault(line: &NetLine<'_>) -> LineError
+    ensures { result ≡ Bad (late_fault_of line.now) }
 {
     match line {
         NetLine::Nodes(names) => fault_after(NetKind::AfterThen, names),
-        NetLine::Link { .. } | NetLine::Both { .. } | NetLine::Origin { .. } => {
-            LineError::Bad(NetKind::AfterThen)
-        }
+        NetLine::Arc(_) | NetLine::Origin { .. } => LineError::Bad(NetKind::AfterThen),
     }
 }

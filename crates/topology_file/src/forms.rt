@@ -1,17 +1,16 @@
-ghost use Rattle.std.specs.Prelude.{◌≡◌, [], ◌∷◌, true};
+ghost use Rattle.std.specs.Prelude.{◌≡◌, [], ◌∷◌};
 ghost use Rattle.std.specs.Str.{bytes_eq};
-ghost use Rattle.net_graph.specs.Nets.{is_name as is_name_of};
 ghost use Rattle.topology_file.specs.Texts.{words_of};
 ghost use Rattle.topology_file.specs.Forms.{line_of, plain_line as plain_line_of, node_line as node_line_of, drop_line as drop_line_of, colon_line as colon_line_of, short_line as short_line_of, long_line as long_line_of, origin_line as origin_line_of, then_line as then_line_of};
-ghost use Rattle.topology_file.specs.Views.{pure_line, HasDestName};
+ghost use Rattle.topology_file.specs.Views.{arc_form, pure_line, HasDestName};
 
 use crate::names::is_name;
-use crate::quick_forms::arc_words;
 use crate::texts::{split_at_byte, split_word};
+use crate::word::Word;
 
 /// What a line asks for, by its form alone. Its parts are slices of the line. All names in it are names,
 /// but for those of nodes, which are looked at as they are added.
-#[derive(Clone, Copy, Debug)]
+#[derive(Debug, Drop)]
 pub enum Line<'a> {
     /// Nothing.
     Silent,
@@ -33,22 +32,12 @@ pub enum Line<'a> {
 }
 
 /// What a line adds to the network.
-#[derive(Clone, Copy, Debug)]
+#[derive(Debug, Drop)]
 pub enum NetLine<'a> {
     /// Nodes, by the text of the words after the first, of which there is one at least.
     Nodes(&'a [u8]),
-    /// An arc, by the names of its listener and its speaker and the text of its label.
-    Link {
-        listener: &'a [u8],
-        speaker: &'a [u8],
-        label: &'a [u8],
-    },
-    /// That arc, and the one back.
-    Both {
-        listener: &'a [u8],
-        speaker: &'a [u8],
-        label: &'a [u8],
-    },
+    /// An arc, or two.
+    Arc(ArcLine<'a>),
     /// An origin, by the names of its destination and its node and the text of its value.
     Origin {
         dest: &'a [u8],
@@ -57,20 +46,27 @@ pub enum NetLine<'a> {
     },
 }
 
-/// What a line asks for that says this. The colon is the first one.
-pub fn line_form(said: &[u8]) -> Line<'_>
-    ensures form { pure_line result ≡ line_of said.now }
-    ensures names { HasDestName result }
-{
-    match arc_words(said) {
-        Some(line) => named_line(line.word, line.listener, line.speaker, line.label),
-        None => any_line(said),
-    }
+/// The names of an arc's listener and speaker, and the text of its label.
+#[derive(Debug, Drop)]
+pub struct ArcLine<'a> {
+    pub ways: Ways,
+    pub listener: Word<'a>,
+    pub speaker: Word<'a>,
+    pub label: Word<'a>,
 }
 
-// The same of any line, word by word.
+/// Which arcs a line asks for.
+#[derive(Clone, Copy, Debug)]
+pub enum Ways {
+    /// The one from the listener to the speaker: `link`.
+    One,
+    /// That arc, and the one back: `both`.
+    Both,
+}
+
+/// What a line asks for that says this. The colon is the first one.
 #[inline(never)]
-fn any_line(said: &[u8]) -> Line<'_>
+pub fn line_form(said: &[u8]) -> Line<'_>
     ensures form { pure_line result ≡ line_of said.now }
     ensures names { HasDestName result }
 {
@@ -159,29 +155,23 @@ fn short_line<'a>(word: &[u8], listener: &'a [u8], speaker: &'a [u8], label: &'a
     if !is_name(listener) || !is_name(speaker) {
         return Line::Bad;
     }
-    named_line(word, listener, speaker, label)
-}
-
-// A line of three words before its colon, of which the last two are names.
-fn named_line<'a>(word: &[u8], listener: &'a [u8], speaker: &'a [u8], label: &'a [u8]) -> Line<'a>
-    requires listener { is_name_of listener.now ≡ true }
-    requires speaker { is_name_of speaker.now ≡ true }
-    ensures form { pure_line result ≡ short_line_of word.now listener.now speaker.now label.now }
-    ensures names { HasDestName result }
-{
     match word {
-        b"link" => Line::Network(NetLine::Link {
-            listener,
-            speaker,
-            label,
-        }),
-        b"both" => Line::Network(NetLine::Both {
-            listener,
-            speaker,
-            label,
-        }),
+        b"link" => arc_of(Ways::One, listener, speaker, label),
+        b"both" => arc_of(Ways::Both, listener, speaker, label),
         _ => Line::Bad,
     }
+}
+
+fn arc_of<'a>(ways: Ways, listener: &'a [u8], speaker: &'a [u8], label: &'a [u8]) -> Line<'a>
+    ensures form { pure_line result ≡ arc_form ways listener.now speaker.now label.now }
+    ensures names { HasDestName result }
+{
+    Line::Network(NetLine::Arc(ArcLine {
+        ways,
+        listener: Word::of(listener),
+        speaker: Word::of(speaker),
+        label: Word::of(label),
+    }))
 }
 
 // A line of four words before its colon.

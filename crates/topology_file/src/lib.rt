@@ -7,13 +7,15 @@ mod draft;
 mod errors;
 mod faults;
 mod forms;
-mod label_texts;
+mod known;
 mod laws;
 mod lines;
 mod names;
 mod network;
 mod quick_forms;
+mod text_spots;
 mod texts;
+mod word;
 
 pub use faults::{NetError, NetFault, NetKind, What};
 pub use laws::{changes_of_texts_may_be_made, networks_keep_their_algebra, one_text_one_network};

@@ -8,19 +8,20 @@ ghost use Rattle.net_graph.specs.Nets.{PureNet, number_of, is_name, has_arc};
 ghost use Rattle.net_graph.specs.Limits.{max_nodes};
 ghost use Rattle.sig_text.specs.Spelled.{spelled};
 ghost use Rattle.topology_file.specs.Texts.{words_of};
-ghost use Rattle.topology_file.specs.LabelTexts.{AreSpelled, HasSameArcs, IsLinked, has_room_for_arcs};
+ghost use Rattle.topology_file.specs.KnownTexts.{HasSameArcs, IsLinked, KeepsNodes, Knows, has_room_for_arcs};
 ghost use Rattle.topology_file.specs.NetText.{and_then, if_room, label_in, ends_in, node_in, names_twice, has_origin_of, one_origin, after_link, after_both, after_origin};
-ghost use Rattle.topology_file.specs.LineErrors.{AreEnds, IsRefusedAs, fault_after as fault_after_names, after_names, after_net_line};
+ghost use Rattle.topology_file.specs.LineErrors.{AreEnds, IsRefusedAs, fault_after as fault_after_names, after_names, after_arc_line, after_net_line};
 ghost use Rattle.topology_file.specs.Views.{NamesDest};
 ghost use Rattle.topology_file.specs.declared.errors.LineError.TheVariants.{Bad};
 ghost use Rattle.topology_file.specs.declared.faults.NetKind.TheVariants.{TooMany};
 ghost use Rattle.topology_file.specs.declared.faults.What.TheVariants.{Arcs};
 
 use crate::errors::{LineError, label_of, value_of};
-use crate::forms::NetLine;
-use crate::label_texts::LabelTexts;
+use crate::forms::{ArcLine, NetLine, Ways};
+use crate::known::KnownTexts;
 use crate::names::{are_all_names, has_word, is_name};
 use crate::texts::split_word;
+use crate::word::Word;
 use crate::{NetKind, What};
 use alg_model::Value;
 use meta_base::{ArcId, DestId, NodeId};
@@ -31,27 +32,18 @@ use std::alloc::Global;
 pub fn add_net_line<'a>(
     alloc: Global,
     draft: &mut NetDraft,
-    texts: &mut LabelTexts<'a>,
-    line: NetLine<'a>,
+    known: &mut KnownTexts<'a>,
+    line: &NetLine<'a>,
 ) -> Result<(), LineError>
-    requires dest { NamesDest line }
-    requires texts { AreSpelled draft.old texts.old.arcs.entries }
-    ensures texts { AreSpelled draft.new texts.new.arcs.entries }
-    ensures ok { OnOk result (after_net_line draft.old line.entry ≡ Ok draft.new) }
-    ensures bad { IfErr result (IsRefusedAs (after_net_line draft.old line.entry)) }
+    requires dest { NamesDest line.now }
+    requires known { Knows draft.old known.old }
+    ensures known { Knows draft.new known.new }
+    ensures ok { OnOk result (after_net_line draft.old line.now ≡ Ok draft.new) }
+    ensures bad { IfErr result (IsRefusedAs (after_net_line draft.old line.now)) }
 {
     match line {
         NetLine::Nodes(names) => add_nodes(draft, names),
-        NetLine::Link {
-            listener,
-            speaker,
-            label,
-        } => add_link(alloc, draft, texts, listener, speaker, label),
-        NetLine::Both {
-            listener,
-            speaker,
-            label,
-        } => add_both(alloc, draft, texts, listener, speaker, label),
+        NetLine::Arc(line) => add_arcs(alloc, draft, known, line),
         NetLine::Origin { dest, node, value } => add_origin(alloc, draft, dest, node, value),
     }
 }
@@ -69,6 +61,44 @@ fn node_of(draft: &NetDraft, name: &[u8]) -> Result<NodeId, LineError>
     }
 }
 
+// The same, where names that were met before are at hand.
+#[inline]
+#[tactic(auto, using(crate::proofs::KnownNames::node_within))]
+fn known_node<'a>(
+    draft: &NetDraft,
+    known: &mut KnownTexts<'a>,
+    name: &Word<'a>,
+) -> Result<NodeId, LineError>
+    requires known { Knows draft.now known.old }
+    ensures known { Knows draft.now known.new }
+    ensures node { IfOk result (λ node. node_in draft.now name.now ≡ Ok node.0) }
+    ensures within { IfOk result (λ node. node.0 < length draft.now.nodes) }
+    ensures bad { IfErr result (IsRefusedAs (node_in draft.now name.now)) }
+{
+    match known.node_of(name) {
+        Some(node) => Ok(node),
+        None => new_node(draft, known, name),
+    }
+}
+
+// The same of a name that isn't at hand, but is from now on.
+#[inline(never)]
+fn new_node<'a>(
+    draft: &NetDraft,
+    known: &mut KnownTexts<'a>,
+    name: &Word<'a>,
+) -> Result<NodeId, LineError>
+    requires known { Knows draft.now known.old }
+    ensures known { Knows draft.now known.new }
+    ensures node { IfOk result (λ node. node_in draft.now name.now ≡ Ok node.0) }
+    ensures within { IfOk result (λ node. node.0 < length draft.now.nodes) }
+    ensures bad { IfErr result (IsRefusedAs (node_in draft.now name.now)) }
+{
+    let node = node_of(draft, name.text())?;
+    known.note_node(name.copy(), node);
+    Ok(node)
+}
+
 /// The nodes of two names, which differ.
 pub fn nodes_of(
     draft: &NetDraft,
@@ -81,6 +111,27 @@ pub fn nodes_of(
 {
     let tail = node_of(draft, listener)?;
     let head = node_of(draft, speaker)?;
+    if tail == head {
+        return Err(LineError::Bad(NetKind::SelfArc));
+    }
+    Ok((tail, head))
+}
+
+// The same, where names that were met before are at hand.
+fn known_nodes<'a>(
+    draft: &NetDraft,
+    known: &mut KnownTexts<'a>,
+    listener: &Word<'a>,
+    speaker: &Word<'a>,
+) -> Result<(NodeId, NodeId), LineError>
+    requires known { Knows draft.now known.old }
+    ensures known { Knows draft.now known.new }
+    ensures nodes { IfOk result (λ ends. ends_in draft.now listener.now speaker.now ≡ Ok (ends.0.0, ends.1.0)) }
+    ensures ends { IfOk result (λ ends. AreEnds draft.now ends.0.0 ends.1.0) }
+    ensures bad { IfErr result (IsRefusedAs (ends_in draft.now listener.now speaker.now)) }
+{
+    let tail = known_node(draft, known, listener)?;
+    let head = known_node(draft, known, speaker)?;
     if tail == head {
         return Err(LineError::Bad(NetKind::SelfArc));
     }
@@ -128,9 +179,10 @@ fn fault_of_full(draft: &NetDraft, name: &[u8], others: &[u8]) -> LineError
 }
 
 // Adds a node of the first name of a line. The others are those after it.
-#[tactic(auto, using(crate::proofs::NameLists::names_more, crate::proofs::NameLists::names_there))]
+#[tactic(auto, using(crate::proofs::NameLists::names_more, crate::proofs::NameLists::names_there, crate::proofs::KnownNames::nodes_more))]
 fn add_first(draft: &mut NetDraft, name: &[u8], others: &[u8]) -> Result<(), LineError>
     ensures arcs { HasSameArcs draft.old draft.new }
+    ensures nodes { KeepsNodes draft.old draft.new }
     ensures ok { OnOk result (
         after_names draft.old (name.now ∷ words_of others.now) ≡ after_names draft.new (words_of others.now)) }
     ensures bad { IfErr result (IsRefusedAs (after_names draft.old (name.now ∷ words_of others.now))) }
@@ -152,6 +204,7 @@ fn add_first(draft: &mut NetDraft, name: &[u8], others: &[u8]) -> Result<(), Lin
 #[inline(never)]
 fn add_nodes(draft: &mut NetDraft, names: &[u8]) -> Result<(), LineError>
     ensures arcs { HasSameArcs draft.old draft.new }
+    ensures nodes { KeepsNodes draft.old draft.new }
     ensures ok { OnOk result (after_names draft.old (words_of names.now) ≡ Ok draft.new) }
     ensures bad { IfErr result (IsRefusedAs (after_names draft.old (words_of names.now))) }
 {
@@ -170,16 +223,16 @@ fn add_nodes(draft: &mut NetDraft, names: &[u8]) -> Result<(), LineError>
 fn add_arc<'a>(
     alloc: Global,
     draft: &mut NetDraft,
-    texts: &mut LabelTexts<'a>,
+    known: &mut KnownTexts<'a>,
     ends: (NodeId, NodeId),
-    text: &'a [u8],
+    text: &Word<'a>,
     count: usize,
 ) -> Result<(), LineError>
     requires ends { AreEnds draft.old ends.0.0 ends.1.0 }
     requires absent { has_arc draft.old ends.0.0 ends.1.0 ≡ false }
     requires count { 0 < count × count ≤ 2 }
-    requires texts { AreSpelled draft.old texts.old.arcs.entries }
-    ensures texts { AreSpelled draft.new texts.new.arcs.entries }
+    requires known { Knows draft.old known.old }
+    ensures known { Knows draft.new known.new }
     ensures ok { OnOk result (IsLinked draft.old text.now ends.0.0 ends.1.0 count draft.new) }
     ensures bad { (made : PureLabel → PureNet) → IfErr result (IsRefusedAs
         (and_then (label_in spelled draft.old.alg text.now)
@@ -187,15 +240,16 @@ fn add_arc<'a>(
 {
     let (tail, head) = ends;
     let id = ArcId(draft.arc_count() as u32);
-    if let Some(like) = texts.arc_of(text) {
+    if let Some(like) = known.arc_of(text) {
         check_room(draft, count)?;
         draft.add_arc_like(tail, head, like)?;
         return Ok(());
     }
-    let label = label_of(alloc, draft.alg(), text)?;
+    let literal = text.text();
+    let label = label_of(alloc, draft.alg(), literal)?;
     check_room(draft, count)?;
     draft.add_arc(tail, head, label)?;
-    texts.note(text, id)?;
+    known.note_arc(literal, id)?;
     Ok(())
 }
 
@@ -212,25 +266,43 @@ fn check_room(draft: &NetDraft, count: usize) -> Result<(), LineError>
     Ok(())
 }
 
-// Adds an arc between the nodes of two names, with the label that the text spells.
+// Adds the arcs that a line asks for, with the label that its text spells.
+fn add_arcs<'a>(
+    alloc: Global,
+    draft: &mut NetDraft,
+    known: &mut KnownTexts<'a>,
+    line: &ArcLine<'a>,
+) -> Result<(), LineError>
+    requires known { Knows draft.old known.old }
+    ensures known { Knows draft.new known.new }
+    ensures ok { OnOk result (after_arc_line draft.old line.now ≡ Ok draft.new) }
+    ensures bad { IfErr result (IsRefusedAs (after_arc_line draft.old line.now)) }
+{
+    match line.ways {
+        Ways::One => add_link(alloc, draft, known, line),
+        Ways::Both => add_both(alloc, draft, known, line),
+    }
+}
+
+// Adds the arc between the nodes of two names.
 fn add_link<'a>(
     alloc: Global,
     draft: &mut NetDraft,
-    texts: &mut LabelTexts<'a>,
-    listener: &[u8],
-    speaker: &[u8],
-    label: &'a [u8],
+    known: &mut KnownTexts<'a>,
+    line: &ArcLine<'a>,
 ) -> Result<(), LineError>
-    requires texts { AreSpelled draft.old texts.old.arcs.entries }
-    ensures texts { AreSpelled draft.new texts.new.arcs.entries }
-    ensures ok { OnOk result (after_link spelled draft.old listener.now speaker.now label.now ≡ Ok draft.new) }
-    ensures bad { IfErr result (IsRefusedAs (after_link spelled draft.old listener.now speaker.now label.now)) }
+    requires known { Knows draft.old known.old }
+    ensures known { Knows draft.new known.new }
+    ensures ok { OnOk result (
+        after_link spelled draft.old line.now.listener line.now.speaker line.now.label ≡ Ok draft.new) }
+    ensures bad { IfErr result (IsRefusedAs (
+        after_link spelled draft.old line.now.listener line.now.speaker line.now.label)) }
 {
-    let (tail, head) = nodes_of(draft, listener, speaker)?;
+    let (tail, head) = known_nodes(draft, known, &line.listener, &line.speaker)?;
     if draft.has_arc(tail, head) {
         return Err(LineError::Bad(NetKind::ArcTwice));
     }
-    add_arc(alloc, draft, texts, (tail, head), label, 1)
+    add_arc(alloc, draft, known, (tail, head), &line.label, 1)
 }
 
 // Adds that arc, and the one back.
@@ -238,22 +310,22 @@ fn add_link<'a>(
 fn add_both<'a>(
     alloc: Global,
     draft: &mut NetDraft,
-    texts: &mut LabelTexts<'a>,
-    listener: &[u8],
-    speaker: &[u8],
-    label: &'a [u8],
+    known: &mut KnownTexts<'a>,
+    line: &ArcLine<'a>,
 ) -> Result<(), LineError>
-    requires texts { AreSpelled draft.old texts.old.arcs.entries }
-    ensures texts { AreSpelled draft.new texts.new.arcs.entries }
-    ensures ok { OnOk result (after_both spelled draft.old listener.now speaker.now label.now ≡ Ok draft.new) }
-    ensures bad { IfErr result (IsRefusedAs (after_both spelled draft.old listener.now speaker.now label.now)) }
+    requires known { Knows draft.old known.old }
+    ensures known { Knows draft.new known.new }
+    ensures ok { OnOk result (
+        after_both spelled draft.old line.now.listener line.now.speaker line.now.label ≡ Ok draft.new) }
+    ensures bad { IfErr result (IsRefusedAs (
+        after_both spelled draft.old line.now.listener line.now.speaker line.now.label)) }
 {
-    let (tail, head) = nodes_of(draft, listener, speaker)?;
+    let (tail, head) = known_nodes(draft, known, &line.listener, &line.speaker)?;
     if draft.has_arc(tail, head) || draft.has_arc(head, tail) {
         return Err(LineError::Bad(NetKind::ArcTwice));
     }
     let like = ArcId(draft.arc_count() as u32);
-    add_arc(alloc, draft, texts, (tail, head), label, 2)?;
+    add_arc(alloc, draft, known, (tail, head), &line.label, 2)?;
     draft.add_arc_like(head, tail, like)?;
     Ok(())
 }
@@ -269,6 +341,7 @@ fn add_origin(
 ) -> Result<(), LineError>
     requires { is_name dest.now ≡ true }
     ensures arcs { HasSameArcs draft.old draft.new }
+    ensures nodes { KeepsNodes draft.old draft.new }
     ensures ok { OnOk result (after_origin spelled draft.old dest.now node.now value.now ≡ Ok draft.new) }
     ensures bad { IfErr result (IsRefusedAs (after_origin spelled draft.old dest.now node.now value.now)) }
 {
@@ -308,6 +381,7 @@ fn add_first_origin(
     requires value { In (carrier_of draft.old.alg.expression) (pure_value value) }
     requires small { AtMost (greatest_number draft.old.alg.edition) (pure_value value) }
     ensures arcs { HasSameArcs draft.old draft.new }
+    ensures nodes { KeepsNodes draft.old draft.new }
     ensures ok { OnOk result (one_origin draft.old dest.now node.0 (pure_value value) ≡ Ok draft.new) }
     ensures bad { IfErr result (IsRefusedAs (one_origin draft.old dest.now node.0 (pure_value value))) }
 {

@@ -8,7 +8,6 @@ ghost use Rattle.topology_file.specs.Views.{pure_file};
 
 use crate::NetError;
 use crate::draft::FileDraft;
-use crate::texts::split_line;
 use alg_model::Alg;
 use meta_base::{List, MAX_FILE_BYTES};
 use net_graph::{Change, Net};
@@ -54,7 +53,6 @@ pub struct NetFile {
 /// The first line that breaks a rule is [`NetError::Bad`] with its number, from 1 on, and the first rule
 /// that it breaks, in the order of [`crate::NetKind`]. [`NetError::NoMemory`] comes where there is no
 /// memory for the network.
-#[tactic(auto, using(crate::proofs::Outcomes::read_to_end))]
 pub fn read_net(alloc: Global, alg: Alg, source: &[u8]) -> Result<NetFile, NetError>
     requires { length source.now ≤ MAX_FILE_BYTES }
     ensures network { IfOk result (λ file. NetText source.now alg (pure_file file)) }
@@ -67,12 +65,12 @@ pub fn read_net(alloc: Global, alg: Alg, source: &[u8]) -> Result<NetFile, NetEr
     file.reserve(source.len())?;
     let mut number: u32 = 1;
     let mut rest = source;
-    while let Some((line, others)) = split_line(rest) {
-        if let Err(error) = file.add_line(line) {
-            return Err(error.at(number));
+    while !rest.is_empty() {
+        match file.add_first_line(rest) {
+            Ok(others) => rest = others,
+            Err(error) => return Err(error.at(number)),
         }
         number += 1;
-        rest = others;
     }
     Ok(file.finish()?)
 }

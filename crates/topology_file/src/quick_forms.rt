@@ -1,52 +1,63 @@
-// Lines of arcs, read in one pass.
-ghost use Rattle.std.specs.Prelude.{◌≡◌, true, IfSome};
+// Lines of arcs at the front of a text, read in one pass.
+ghost use Rattle.std.specs.Prelude.{◌≡◌, ◌≤◌, true, length, take, drop, IfSome};
 ghost use Rattle.meta_base.specs.Bytes.{front, after_front};
-ghost use Rattle.net_graph.specs.Nets.{is_name, is_name_byte};
-ghost use Rattle.topology_file.specs.Forms.{line_of, short_line};
-ghost use Rattle.topology_file.specs.QuickForms.{begins_with_colon, ends_name, has_name_length, BeginsNamed, IsColonThen};
+ghost use Rattle.net_graph.specs.Nets.{is_name_byte};
+ghost use Rattle.topology_file.specs.Keys.{AreBytes, key_from};
+ghost use Rattle.topology_file.specs.Views.{pure_net_line, NamesDest};
+ghost use Rattle.topology_file.specs.QuickForms.{begins_with, ends_name, has_name_length, is_said_byte, word_of, BeginsNamed, IsColonThen, IsAfterEnd, EndsLine, BeginsWithLine};
 
+use crate::MAX_LINE_BYTES;
+use crate::forms::{ArcLine, NetLine, Ways};
 use crate::names::is_name_part;
-use crate::texts::after_one;
+use crate::texts::{after_one, split_at_byte};
+use crate::word::{Word, key_with};
 use meta_base::bytes::{after_blanks, is_blank};
 
-/// A line of three names and a literal after a colon, as `link A B : LABEL`. Its parts are slices of the line.
-#[derive(Clone, Copy, Debug)]
-pub struct ArcWords<'a> {
-    pub word: &'a [u8],
-    pub listener: &'a [u8],
-    pub speaker: &'a [u8],
-    pub label: &'a [u8],
-}
-
 // Kept out of the loop over lines, where there are too few registers for it.
-/// The parts of a line of three names and a literal. Where it is `None` the line may still be one.
+/// The first line of a text, if it is one of an arc, and the text of the other lines. Where it is `None` the first line
+/// may still be one.
 #[inline(never)]
-#[tactic(auto, using(crate::proofs::QuickForms::short_form))]
-pub fn arc_words(said: &[u8]) -> Option<ArcWords<'_>>
-    ensures form { IfSome result (λ line.
-        line_of said.now ≡ short_line line.word.now line.listener.now line.speaker.now line.label.now) }
-    ensures listener { IfSome result (λ line. is_name line.listener.now ≡ true) }
-    ensures speaker { IfSome result (λ line. is_name line.speaker.now ≡ true) }
+pub fn arc_line(text: &[u8]) -> Option<(NetLine<'_>, &[u8])>
+    ensures line { IfSome result (λ split. BeginsWithLine text.now split.1.now (pure_net_line split.0)) }
+    ensures dest { IfSome result (λ split. NamesDest split.0) }
 {
-    let (word, rest) = split_name(said)?;
+    let (ways, rest) = split_ways(text)?;
     let (listener, rest) = split_name(rest)?;
     let (speaker, rest) = split_name(rest)?;
-    let label = after_colon(rest)?;
-    Some(ArcWords {
-        word,
+    let (label, rest) = split_said(after_colon(rest)?);
+    let rest = after_end(rest);
+    let others = after_line(rest)?;
+    if text.len().saturating_sub(rest.len()) > MAX_LINE_BYTES {
+        return None;
+    }
+    let line = NetLine::Arc(ArcLine {
+        ways,
         listener,
         speaker,
         label,
-    })
+    });
+    Some((line, others))
+}
+
+// Which arcs the first word asks for, and the text after it.
+#[tactic(auto, using(crate::proofs::QuickForms::link_first, crate::proofs::QuickForms::both_first))]
+fn split_ways(text: &[u8]) -> Option<(Ways, &[u8])>
+    ensures { IfSome result (λ split. BeginsNamed text.now (word_of split.0) split.1.now) }
+{
+    match text {
+        [b'l', b'i', b'n', b'k', rest @ ..] if is_name_ended(rest) => Some((Ways::One, rest)),
+        [b'b', b'o', b't', b'h', rest @ ..] if is_name_ended(rest) => Some((Ways::Both, rest)),
+        _ => None,
+    }
 }
 
 // The first word, which is a name, and the text after it. Where it is `None` there may still be one.
-fn split_name(text: &[u8]) -> Option<(&[u8], &[u8])>
-    ensures { IfSome result (λ split. BeginsNamed text.now split.0.now split.1.now) }
+fn split_name(text: &[u8]) -> Option<(Word<'_>, &[u8])>
+    ensures { IfSome result (λ split. BeginsNamed text.now split.0 split.1.now) }
 {
     let text = after_blanks(text);
     let (name, rest) = split_after_name(text);
-    if !is_of_name_length(name) || !is_name_ended(rest) {
+    if !is_of_name_length(name.text()) || !is_name_ended(rest) {
         return None;
     }
     Some((name, rest))
@@ -57,34 +68,106 @@ fn after_colon(text: &[u8]) -> Option<&[u8]>
     ensures { IfSome result (λ literal. IsColonThen text.now literal.now) }
 {
     let rest = after_blanks(text);
-    if !is_colon_first(rest) {
+    if !begins_with(rest, b':') {
         return None;
     }
     Some(after_one(rest))
 }
 
-fn is_colon_first(rest: &[u8]) -> bool
-    ensures { result ≡ begins_with_colon rest.now }
+fn begins_with(text: &[u8], wanted: u8) -> bool
+    ensures { result ≡ begins_with wanted text.now }
 {
-    match rest {
+    match text {
         [] => false,
-        [byte, ..] => *byte == b':',
+        [byte, ..] => *byte == wanted,
     }
 }
 
 // The bytes up to the first that is in no name, and the text from there on.
-fn split_after_name(text: &[u8]) -> (&[u8], &[u8])
-    ensures front { result.0.now ≡ front is_name_byte text.now }
+fn split_after_name(text: &[u8]) -> (Word<'_>, &[u8])
+    ensures front { result.0 ≡ front is_name_byte text.now }
     ensures after_front { result.1.now ≡ after_front is_name_byte text.now }
 {
+    let (len, key) = name_front(text);
+    let (name, rest) = text.split_at(len);
+    (Word::keyed(name, key), rest)
+}
+
+// How many these bytes are, and their key.
+fn name_front(text: &[u8]) -> (usize, u64)
+    ensures within { result.0 ≤ length text.now }
+    ensures front { take result.0 text.now ≡ front is_name_byte text.now }
+    ensures after_front { drop result.0 text.now ≡ after_front is_name_byte text.now }
+    ensures key { key_from 0 (front is_name_byte text.now) ≡ result.1 }
+{
     let mut len = 0;
+    let mut key = 0;
     for byte in text {
         if !is_name_part(*byte) {
             break;
         }
+        key = key_with(key, *byte);
         len += 1;
     }
-    text.split_at(len)
+    (len, key)
+}
+
+// Kept apart for the same reason.
+// The bytes up to the first that may end what a line says, and the text from there on.
+#[inline(never)]
+fn split_said(text: &[u8]) -> (Word<'_>, &[u8])
+    ensures front { result.0 ≡ front is_said_byte text.now }
+    ensures after_front { result.1.now ≡ after_front is_said_byte text.now }
+{
+    let (len, key) = said_front(text);
+    let (said, rest) = text.split_at(len);
+    (Word::keyed(said, key), rest)
+}
+
+// How many these bytes are, and their key.
+fn said_front(text: &[u8]) -> (usize, u64)
+    ensures within { result.0 ≤ length text.now }
+    ensures front { take result.0 text.now ≡ front is_said_byte text.now }
+    ensures after_front { drop result.0 text.now ≡ after_front is_said_byte text.now }
+    ensures key { key_from 0 (front is_said_byte text.now) ≡ result.1 }
+    ensures bytes { AreBytes (front is_said_byte text.now) }
+{
+    let mut len = 0;
+    let mut key = 0;
+    for byte in text {
+        if matches!(*byte, b'\n' | b'\r' | b'#') {
+            break;
+        }
+        key = key_with(key, *byte);
+        len += 1;
+    }
+    (len, key)
+}
+
+// The text after a carriage return or a comment.
+#[tactic(auto, using(crate::proofs::QuickForms::after_return, crate::proofs::QuickForms::after_comment, crate::proofs::QuickForms::after_nothing))]
+fn after_end(text: &[u8]) -> &[u8]
+    ensures { IsAfterEnd text.now result.now }
+{
+    if begins_with(text, b'\r') {
+        return after_one(text);
+    }
+    if begins_with(text, b'#') {
+        let (_, rest) = split_at_byte(text, b'\n');
+        return rest;
+    }
+    text
+}
+
+// The text of the other lines, if a line ends here.
+fn after_line(rest: &[u8]) -> Option<&[u8]>
+    ensures { IfSome result (λ others. EndsLine rest.now others.now) }
+{
+    match rest {
+        [] => Some(rest),
+        [b'\n', others @ ..] => Some(others),
+        _ => None,
+    }
 }
 
 fn is_of_name_length(name: &[u8]) -> bool

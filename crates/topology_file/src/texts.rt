@@ -29,7 +29,6 @@ pub fn after_one(text: &[u8]) -> &[u8]
 }
 
 /// The first line, without its line feed, and the text of the other lines; `None` where there is no line.
-#[tactic(auto, using(crate::proofs::Splits::lines_first, crate::proofs::Splits::line_shorter))]
 pub fn split_line(text: &[u8]) -> Option<(&[u8], &[u8])>
     ensures lines { MatchOption result (lines_of text.now ≡ []) (λ split.
         lines_of text.now ≡ split.0.now ∷ lines_of split.1.now) }
@@ -38,8 +37,18 @@ pub fn split_line(text: &[u8]) -> Option<(&[u8], &[u8])>
     if text.is_empty() {
         return None;
     }
+    Some(first_line(text))
+}
+
+/// The first line of a text that isn't empty, without its line feed, and the text of the other lines.
+#[tactic(auto, using(crate::proofs::Splits::lines_first, crate::proofs::Splits::line_shorter))]
+pub fn first_line(text: &[u8]) -> (&[u8], &[u8])
+    requires { 0 < length text.now }
+    ensures lines { lines_of text.now ≡ result.0.now ∷ lines_of result.1.now }
+    ensures shorter { length result.1.now < length text.now }
+{
     let (line, rest) = split_at_byte(text, b'\n');
-    Some((line, after_one(rest)))
+    (line, after_one(rest))
 }
 
 /// The line without one carriage return at its end.

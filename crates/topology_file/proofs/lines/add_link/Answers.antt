@@ -12,4 +12,4 @@ returns-clause-bad c =
     let head = c.in_ok-tail.head.0 in
     let absent : has_arc net tail head ≡ false = grind arith in
     MatchResult-weaker c.add_arc.result (c.add_arc.ensures.bad (λ l. with_arc net tail head l)) (λ x p. p)
-    (λ e r. link_refused net c.args.listener.now c.args.speaker.now c.args.label.now tail head e c.in_ok-tail.ensures.nodes absent r)
+    (λ e r. link_refused net c.args.line.now.listener c.args.line.now.speaker c.args.line.now.label tail head e c.in_ok-tail.ensures.nodes absent r)
