@@ -220,6 +220,9 @@ fn good_lines_are_read(rt: HostRuntime) -> Result<(), Fail> {
         b"node a b c\nboth a b : 1\nboth c a : 2\n",
         b"node a b\nlink a b : 1\nthen link a b : 2\nthen drop a b\nthen link a b : 3",
         b"node a b\nlink a b : 1\nthen link b a : 2\nthen drop b a\n# end",
+        b"node a b\r\nlink a b : 1\r\nlink b a : 2 # back\r\n",
+        b"node a b\nboth a b : 1# there and back",
+        b"node first-12345678 other-12345678\nboth first-12345678 other-12345678 : 1",
     ];
     for net in cases {
         assert_eq!(rt; fault_of(rt.alloc(), ADD, *net)?, None);
@@ -240,6 +243,31 @@ fn long_lines_are_refused(rt: HostRuntime) -> Result<(), Fail> {
     };
     assert_eq!(rt; fault_of(alloc, ADD, &longer)?, Some(fault));
     Ok(())
+}
+
+// So is a line of an arc.
+#[test]
+fn long_arcs_are_refused(rt: HostRuntime) -> Result<(), Fail> {
+    let alloc = rt.alloc();
+    assert_eq!(rt; fault_of(alloc, ADD, &arc_of_bytes(alloc, 4096)?)?, None);
+    let fault = NetFault {
+        line: 2,
+        kind: BadLine,
+    };
+    assert_eq!(rt;
+        fault_of(alloc, ADD, &arc_of_bytes(alloc, 4097)?)?,
+        Some(fault)
+    );
+    Ok(())
+}
+
+// Two nodes, and an arc on a line of so many bytes.
+fn arc_of_bytes(alloc: Global, bytes: usize) -> Result<Vec<u8>, Fail> {
+    let nodes = b"node a b\n";
+    let mut net = Vec::from_slice(alloc, nodes)?;
+    net.extend_from_slice(b"link a b : 1 #")?;
+    net.resize(nodes.len() + bytes, b'c')?;
+    Ok(net)
 }
 
 // So many nodes, one on a line.
