@@ -1,9 +1,8 @@
--- The names of the nodes on paths, and the copies of them.
+-- The names of the nodes on paths.
 use Rattle.std.proofs.Common.{◌≡◌, ℕ, ◌+◌, ◌<◌, ◌≤◌, List, [], ◌∷◌, ◌++◌, length, get_or, drop, take, map, arith, sym, ap, ◌∙◌, append_assoc}
-use Rattle.std.proofs.Math.Seq.{take-append-add, take-take}
-use Rattle.std.proofs.lemmas.List.{at_drop_more, get_or-map, length-map, length-take-le, map-append, take-append-le}
-use Rattle.row_lines.specs.declared.line.PathName.{PathName}
-use Rattle.row_lines.specs.PathNames.{after_space, name_text}
+use Rattle.std.proofs.lemmas.List.{at_drop_more, get_or-map, length-map, map-append}
+use Rattle.word_text.specs.declared.line.PathName.{PathName}
+use Rattle.word_text.specs.PathNames.{after_space, name_text}
 
 -- one name more is prepared
 pub names_more : (names : List PathName) (name : PathName) (nodes : List (List ℕ)) (i : ℕ) (whole : List (List ℕ)) → i < length nodes → name_text name ≡ after_space (get_or nodes i [])
@@ -22,19 +21,3 @@ pub name_at : (names : List PathName) (nodes : List (List ℕ)) (i : ℕ) (name 
 name_at names nodes i name e h is =
     let same : length names ≡ length nodes = sym (length-map names name_text) ∙ ap length e ∙ length-map nodes after_space in
     ap name_text is ∙ sym (get_or-map name_text names i name [] (omega (arith, same))) ∙ ap (λ l. get_or l i []) e ∙ get_or-map after_space nodes i [] [] h
-
--- the front of a room over which bytes were written, of which n more are the line's
-copied_front : (room bytes rest : List ℕ) (start n : ℕ) → start ≤ length room → n ≤ length bytes
-    → take (start + n) (take start room ++ (bytes ++ rest)) ≡ take start room ++ take n bytes
-copied_front room bytes rest start n h k =
-    ap (λ m. take (m + n) (take start room ++ (bytes ++ rest))) (sym (length-take-le start room h))
-    ∙ take-append-add (take start room) (bytes ++ rest) n
-    ∙ ap (λ l. take start room ++ l) (take-append-le n bytes rest k)
-
--- the same of a room of so many bytes
-pub copied_short : (room bytes post rest : List ℕ) (start n size : ℕ) → start + n ≤ size → start ≤ length room → n ≤ length bytes
-    → take (start + n) (take size ((take start room ++ (bytes ++ post)) ++ rest)) ≡ take start room ++ take n bytes
-copied_short room bytes post rest start n size fits h k =
-    take-take (start + n) size ((take start room ++ (bytes ++ post)) ++ rest) fits
-    ∙ ap (take (start + n)) (append_assoc (take start room) (bytes ++ post) rest ∙ ap (λ l. take start room ++ l) (append_assoc bytes post rest))
-    ∙ copied_front room bytes (post ++ rest) start n h k

@@ -1,2 +1,1 @@
-pub mod PathNames
 pub mod RowLines

@@ -1,5 +1,5 @@
 -- The lines of rows that are written one after another in the same room.
-use Rattle.std.specs.Prelude.{ℕ, List, ◌++◌, codes, string_bytes}
+use Rattle.std.specs.Prelude.{ℕ, List, ◌++◌, codes}
 use Rattle.net_graph.specs.Nets.{PureNet}
 use Rattle.net_graph.specs.RowTexts.{dest_text, node_text}
 use Rattle.row_lines.specs.declared.row_lines.RowLines.{RowLines}
@@ -10,10 +10,6 @@ net_of lines = lines.net.now
 
 abbrev pub line_of : RowLines → List ℕ
 line_of lines = lines.line
-
--- the text in its room of values
-abbrev pub value_of : RowLines → List ℕ
-value_of lines = string_bytes lines.value
 
 -- the names of a node and of a destination, each before a space
 abbrev pub names_text : PureNet → ℕ → ℕ → List ℕ

@@ -3,7 +3,6 @@
 //! rows these are. It writes to no sink.
 #![tactic(auto)]
 
-mod line;
 mod row_lines;
 
 pub use row_lines::RowLines;

@@ -10,17 +10,15 @@ ghost use Rattle.net_graph.specs.Tables.{carrier as net_carrier};
 ghost use Rattle.net_graph.specs.Views.{pure_row};
 ghost use Rattle.net_graph.specs.RowTexts.{AreNodesOf, IsRowOf, node_text, path_text, row_text};
 ghost use Rattle.word_tables.specs.Routes.{lent_row};
-ghost use Rattle.row_lines.specs.PathNames.{after_space, name_text};
+ghost use Rattle.word_text.specs.PathNames.{after_space, name_text};
 
-use crate::line::{Line, PathName};
 use alg_model::{Carrier, Value};
-use label_code::Word;
 use meta_base::{DestId, NoMemory, NodeId};
 use net_graph::{Net, RouteRow};
 use sig_text::push_value;
 use std::alloc::Global;
 use word_tables::LentRow;
-use word_text::push_words;
+use word_text::{Line, PathName, push_words};
 
 /// The lines of rows of a network, which are written one after another in the same room. The names of the nodes on
 /// paths are prepared for all of them.
@@ -49,7 +47,7 @@ fn path_names(alloc: Global, net: &Net) -> Result<Vec<PathName>, NoMemory>
 }
 
 impl<'a> RowLines<'a> {
-    ghost use Rattle.row_lines.specs.RowLines.{line_of, names_text, net_of, value_of};
+    ghost use Rattle.row_lines.specs.RowLines.{line_of, names_text, net_of};
 
     /// Where no line is written yet. It is refused for want of memory alone.
     pub fn new(alloc: Global, net: &'a Net) -> Result<RowLines<'a>, NoMemory>
@@ -80,8 +78,9 @@ impl<'a> RowLines<'a> {
         match &row.route {
             None => self.put_none(row.node, row.dest),
             Some(route) => {
-                self.put_value(&route.value)?;
-                self.put_line(row.node, row.dest, route.path.as_slice())
+                self.put_names(row.node, row.dest)?;
+                self.push_value(&route.value)?;
+                self.push_end(route.path.as_slice())
             }
         }
     }
@@ -101,33 +100,23 @@ impl<'a> RowLines<'a> {
         match row.route {
             None => self.put_none(row.node, row.dest),
             Some(route) => {
-                self.put_words(carrier, route.words)?;
-                self.put_line(row.node, row.dest, route.path)
+                self.put_names(row.node, row.dest)?;
+                push_words(&mut self.line, carrier, route.words)?;
+                self.push_end(route.path)
             }
         }
     }
 
-    // The text of a value, in the room of values.
-    fn put_value(&mut self, value: &Value) -> Result<(), NoMemory>
+    // The text of a value.
+    fn push_value(&mut self, value: &Value) -> Result<(), NoMemory>
         requires { In (net_carrier (net_of self.now)) (pure_value value.now) }
-        ensures value { OnOk result (value_of self.new
-            ≡ value_text (net_carrier (net_of self.old)) (pure_value value.now)) }
+        ensures line { OnOk result (line_of self.new
+            ≡ line_of self.old ++ value_text (net_carrier (net_of self.old)) (pure_value value.now)) }
         ensures net { net_of self.new ≡ net_of self.old }
     {
         self.value.clear();
-        push_value(&mut self.value, self.net.alg(), value)
-    }
-
-    // The same of a value whose words are given.
-    fn put_words(&mut self, carrier: &Carrier, words: &[Word]) -> Result<(), NoMemory>
-        requires may_be { IsCarrier (pure_carrier carrier.now) }
-        requires words { IsEncoded (pure_carrier carrier.now) words.now }
-        ensures value { OnOk result (value_of self.new
-            ≡ value_text (pure_carrier carrier.now) (decoded (pure_carrier carrier.now) words.now)) }
-        ensures net { net_of self.new ≡ net_of self.old }
-    {
-        self.value.clear();
-        push_words(&mut self.value, carrier, words)
+        push_value(&mut self.value, self.net.alg(), value)?;
+        self.line.push_bytes(self.value.as_bytes())
     }
 
     // The line of a row without a route.
@@ -142,17 +131,13 @@ impl<'a> RowLines<'a> {
         self.line.push_bytes(b"none\n")
     }
 
-    // The line of a row with a route of this path, whose value's text is in the room of values.
-    fn put_line(&mut self, node: NodeId, dest: DestId, path: &[NodeId]) -> Result<(), NoMemory>
-        requires node { node.0 < length (net_of self.now).nodes }
-        requires dest { dest.0 < length (net_of self.now).dests }
-        requires path { AreNodesOf (net_of self.now) (numbers path.now) }
-        ensures line { OnOk result (line_of self.new ≡ names_text (net_of self.old) node.0 dest.0
-            ++ (value_of self.old ++ path_text (net_of self.old) (numbers path.now)) ++ codes "\n") }
+    // The path of a route, and the end of the line.
+    fn push_end(&mut self, path: &[NodeId]) -> Result<(), NoMemory>
+        requires { AreNodesOf (net_of self.now) (numbers path.now) }
+        ensures line { OnOk result (line_of self.new
+            ≡ line_of self.old ++ path_text (net_of self.old) (numbers path.now) ++ codes "\n") }
         ensures net { net_of self.new ≡ net_of self.old }
     {
-        self.put_names(node, dest)?;
-        self.line.push_bytes(self.value.as_bytes())?;
         self.push_path(path)?;
         self.line.push_bytes(b"\n")
     }
@@ -162,7 +147,6 @@ impl<'a> RowLines<'a> {
         requires node { node.0 < length (net_of self.now).nodes }
         requires dest { dest.0 < length (net_of self.now).dests }
         ensures line { OnOk result (line_of self.new ≡ names_text (net_of self.old) node.0 dest.0) }
-        ensures value { value_of self.new ≡ value_of self.old }
         ensures net { net_of self.new ≡ net_of self.old }
     {
         self.line.clear();

@@ -1,7 +1,9 @@
-//! The printed texts of values whose words stand in a row. It stands on `code_gen`, which says what words stand for,
-//! and makes no value.
+//! Lines, and in them the printed texts of values whose words stand in a row. It stands on `code_gen`, which says what
+//! words stand for, and makes no value.
 #![tactic(auto)]
 
+mod line;
 mod text;
 
+pub use line::{Line, PathName};
 pub use text::push_words;

@@ -1,5 +1,4 @@
-ghost use Rattle.std.specs.Prelude.{◌≡◌, ◌≢◌, ◌++◌, ◌∷◌, ◌≤◌, ◌<◌, [], length, OnOk, Some, None, string_bytes, decimal, codes, slice_index_or};
-ghost use Rattle.meta_base.specs.Appending.{Gains};
+ghost use Rattle.std.specs.Prelude.{◌≡◌, ◌≢◌, ◌++◌, ◌∷◌, ◌≤◌, ◌<◌, [], length, OnOk, Some, None, decimal, codes, slice_index_or};
 ghost use Rattle.alg_model.specs.Application.{has_mark};
 ghost use Rattle.alg_model.specs.Expressions.{pairs, sides, symbols};
 ghost use Rattle.alg_model.specs.Formation.{IsCarrier};
@@ -10,17 +9,17 @@ ghost use Rattle.code_gen.specs.Encoding.{Dec, decoded, IsEncoded, symbols_front
 ghost use Rattle.sig_text.specs.Listed.{separator};
 ghost use Rattle.word_text.specs.Fronts.{front_text, Leaves};
 
+use crate::line::Line;
 use alg_model::Carrier;
 use label_code::Word;
-use meta_base::{NoMemory, Text, push_number};
+use meta_base::{NoMemory, Text};
 
-/// Appends the printed text of the value of the carrier whose words these are, as `sig_text` prints the value. After a
-/// refusal, which is for want of memory alone, a front of it may be there.
-pub fn push_words(out: &mut String, carrier: &Carrier, words: &[Word]) -> Result<(), NoMemory>
+/// Appends the printed text of the value of the carrier whose words these are to a line, as `sig_text` prints the value.
+/// After a refusal, which is for want of memory alone, it isn't said what the line has.
+pub fn push_words(out: &mut Line, carrier: &Carrier, words: &[Word]) -> Result<(), NoMemory>
     requires carrier { IsCarrier (pure_carrier carrier.now) }
     requires words { IsEncoded (pure_carrier carrier.now) words.now }
-    ensures { OnOk result (Gains out.old
-        (value_text (pure_carrier carrier.now) (decoded (pure_carrier carrier.now) words.now)) out.new) }
+    ensures { OnOk result (out.new ≡ out.old ++ (value_text (pure_carrier carrier.now) (decoded (pure_carrier carrier.now) words.now))) }
 {
     let mut rest = words;
     push_front(out, carrier, &mut rest)
@@ -28,21 +27,21 @@ pub fn push_words(out: &mut String, carrier: &Carrier, words: &[Word]) -> Result
 
 // Takes the words of a value of the carrier from the front of the row, and appends its text.
 #[cycle(push_front)]
-fn push_front(out: &mut String, carrier: &Carrier, row: &mut &[Word]) -> Result<(), NoMemory>
+fn push_front(out: &mut Line, carrier: &Carrier, row: &mut &[Word]) -> Result<(), NoMemory>
     requires carrier { IsCarrier (pure_carrier carrier.now) }
     requires there { Dec (pure_carrier carrier.now) row.old.now ≢ None }
     ensures row { OnOk result (Leaves (pure_carrier carrier.now) row.old.now row.new.now) }
-    ensures text { OnOk result (Gains out.old (front_text (pure_carrier carrier.now) row.old.now) out.new) }
+    ensures text { OnOk result (out.new ≡ out.old ++ (front_text (pure_carrier carrier.now) row.old.now)) }
 {
     match carrier {
         Carrier::Whole | Carrier::UpTo(_) | Carrier::DownFrom(_) => {
-            push_number(out, take_word(row))
+            out.push_number(take_word(row))
         }
         Carrier::Seqs(count) | Carrier::SimSeqs(count) => {
             push_symbols(out, take_symbols(row, *count))
         }
         Carrier::Sets(count) => push_set(out, *count, take_word(row)),
-        Carrier::One => push_word(out, "unit"),
+        Carrier::One => out.push_bytes(b"unit"),
         Carrier::Named(names, _) => push_name(out, names.as_slice(), take_word(row)),
         Carrier::Pair(c, d) => push_pair(out, c, d, row),
         Carrier::Side(c, d) => push_side(out, c, d, row),
@@ -51,38 +50,36 @@ fn push_front(out: &mut String, carrier: &Carrier, row: &mut &[Word]) -> Result<
 
 // The same of a pair.
 #[cycle(push_front)]
-fn push_pair(out: &mut String, c: &Carrier, d: &Carrier, row: &mut &[Word]) -> Result<(), NoMemory>
+fn push_pair(out: &mut Line, c: &Carrier, d: &Carrier, row: &mut &[Word]) -> Result<(), NoMemory>
     requires first { IsCarrier (pure_carrier c.now) }
     requires second { IsCarrier (pure_carrier d.now) }
     requires there { Dec (pairs (pure_carrier c.now) (pure_carrier d.now)) row.old.now ≢ None }
     ensures row { OnOk result (Leaves (pairs (pure_carrier c.now) (pure_carrier d.now)) row.old.now row.new.now) }
-    ensures text { OnOk result (Gains out.old
-        (front_text (pairs (pure_carrier c.now) (pure_carrier d.now)) row.old.now) out.new) }
+    ensures text { OnOk result (out.new ≡ out.old ++ (front_text (pairs (pure_carrier c.now) (pure_carrier d.now)) row.old.now)) }
 {
-    out.push('(')?;
+    out.push_bytes(b"(")?;
     push_front(out, c, row)?;
-    out.push(',')?;
+    out.push_bytes(b",")?;
     push_front(out, d, row)?;
-    Ok(out.push(')')?)
+    out.push_bytes(b")")
 }
 
 // The same of a value of either side.
 #[cycle(push_front)]
-fn push_side(out: &mut String, c: &Carrier, d: &Carrier, row: &mut &[Word]) -> Result<(), NoMemory>
+fn push_side(out: &mut Line, c: &Carrier, d: &Carrier, row: &mut &[Word]) -> Result<(), NoMemory>
     requires first { IsCarrier (pure_carrier c.now) }
     requires second { IsCarrier (pure_carrier d.now) }
     requires there { Dec (sides (pure_carrier c.now) (pure_carrier d.now)) row.old.now ≢ None }
     ensures row { OnOk result (Leaves (sides (pure_carrier c.now) (pure_carrier d.now)) row.old.now row.new.now) }
-    ensures text { OnOk result (Gains out.old
-        (front_text (sides (pure_carrier c.now) (pure_carrier d.now)) row.old.now) out.new) }
+    ensures text { OnOk result (out.new ≡ out.old ++ (front_text (sides (pure_carrier c.now) (pure_carrier d.now)) row.old.now)) }
 {
     match take_word(row) {
         0 => {
-            out.push_str("l:")?;
+            out.push_bytes(b"l:")?;
             push_front(out, c, row)
         }
         1 => {
-            out.push_str("r:")?;
+            out.push_bytes(b"r:")?;
             push_front(out, d, row)
         }
         _ => unreachable!(),
@@ -101,18 +98,11 @@ fn take_word(row: &mut &[Word]) -> Word
     *word
 }
 
-fn push_word(out: &mut String, word: &str) -> Result<(), NoMemory>
-    ensures { OnOk result (Gains out.old word.now out.new) }
-{
-    out.push_str(word)?;
-    Ok(())
-}
-
-fn push_name(out: &mut String, names: &[Text], place: Word) -> Result<(), NoMemory>
+fn push_name(out: &mut Line, names: &[Text], place: Word) -> Result<(), NoMemory>
     requires { place < length names.now }
-    ensures { OnOk result (Gains out.old (slice_index_or names.now place []) out.new) }
+    ensures { OnOk result (out.new ≡ out.old ++ (slice_index_or names.now place [])) }
 {
-    push_word(out, names[place as usize].as_str())
+    out.push_bytes(names[place as usize].as_str().as_bytes())
 }
 
 // Takes a length from the front of the row, and so many symbols.
@@ -127,17 +117,17 @@ fn take_symbols<'a>(row: &mut &'a [Word], count: u64) -> &'a [Word]
     words
 }
 
-fn push_symbols(out: &mut String, words: &[Word]) -> Result<(), NoMemory>
-    ensures { OnOk result (Gains out.old (codes "[" ++ numbers_text words.now ++ codes "]") out.new) }
+fn push_symbols(out: &mut Line, words: &[Word]) -> Result<(), NoMemory>
+    ensures { OnOk result (out.new ≡ out.old ++ (codes "[" ++ numbers_text words.now ++ codes "]")) }
 {
-    out.push('[')?;
+    out.push_bytes(b"[")?;
     push_numbers(out, words)?;
-    Ok(out.push(']')?)
+    out.push_bytes(b"]")
 }
 
 #[tactic(auto, using(sig_text::proofs::Printed::listed_at))]
-fn push_numbers(out: &mut String, words: &[Word]) -> Result<(), NoMemory>
-    ensures { OnOk result (Gains out.old (numbers_text words.now) out.new) }
+fn push_numbers(out: &mut Line, words: &[Word]) -> Result<(), NoMemory>
+    ensures { OnOk result (out.new ≡ out.old ++ (numbers_text words.now)) }
 {
     let mut follows = false;
     for word in words {
@@ -148,28 +138,28 @@ fn push_numbers(out: &mut String, words: &[Word]) -> Result<(), NoMemory>
 }
 
 // Appends a number that stands alone, or follows others.
-fn push_next(out: &mut String, follows: bool, n: u128) -> Result<(), NoMemory>
-    ensures { OnOk result (string_bytes out.new ≡ (string_bytes out.old ++ separator follows) ++ decimal n) }
+fn push_next(out: &mut Line, follows: bool, n: u128) -> Result<(), NoMemory>
+    ensures { OnOk result (out.new ≡ (out.old ++ separator follows) ++ decimal n) }
 {
     if follows {
-        out.push(',')?;
+        out.push_bytes(b",")?;
     }
-    push_number(out, n)
+    out.push_number(n)
 }
 
-fn push_set(out: &mut String, count: u64, word: Word) -> Result<(), NoMemory>
+fn push_set(out: &mut Line, count: u64, word: Word) -> Result<(), NoMemory>
     requires { count ≤ MAX_MARKS }
-    ensures { OnOk result (Gains out.old (codes "{" ++ numbers_text (members count word) ++ codes "}") out.new) }
+    ensures { OnOk result (out.new ≡ out.old ++ (codes "{" ++ numbers_text (members count word) ++ codes "}")) }
 {
-    out.push('{')?;
+    out.push_bytes(b"{")?;
     push_members(out, count, word)?;
-    Ok(out.push('}')?)
+    out.push_bytes(b"}")
 }
 
 // The numbers below the count that are in the set, ascending.
-fn push_members(out: &mut String, count: u64, word: Word) -> Result<(), NoMemory>
+fn push_members(out: &mut Line, count: u64, word: Word) -> Result<(), NoMemory>
     requires { count ≤ MAX_MARKS }
-    ensures { OnOk result (Gains out.old (numbers_text (members count word)) out.new) }
+    ensures { OnOk result (out.new ≡ out.old ++ (numbers_text (members count word))) }
 {
     let mut follows = false;
     for k in 0..count {

@@ -1,5 +1,5 @@
 use Rattle.std.proofs.Common.{◌≡◌, ◌++◌, drop, map}
-use Rattle.row_lines.specs.PathNames.{after_space, name_text}
+use Rattle.word_text.specs.PathNames.{after_space, name_text}
 use Rattle.row_lines.proofs.row_lines.path_names.Given as goal
 
 -- with those that are left they are the names of all nodes

@@ -1,5 +1,4 @@
 use Rattle.std.proofs.Common.{◌+◌, ◌-◌, arith}
-use Rattle.std.specs.Prelude.{string_bytes}
 use Rattle.alg_model.specs.Texts.{members_from}
 use Rattle.sig_text.specs.Listed.{separator}
 use Rattle.sig_text.proofs.Printed.{listed_step, members_there, members_not}
@@ -13,5 +12,5 @@ loop-k-preserved c =
     let marks = c.args.word in
     let there = members_there k count marks (omega arith) in
     let absent = members_not k count marks (omega arith) in
-    let step = listed_step (separator c.loop-k.follows) k (members_from (k + 1) (count - (k + 1)) marks) (string_bytes c.loop-k.out) in
+    let step = listed_step (separator c.loop-k.follows) k (members_from (k + 1) (count - (k + 1)) marks) c.loop-k.out in
     elim c.if-is_in.branch [ then-is_in+in_ok-push_next w ↦ grind arith | else-is_in w ↦ grind arith ]

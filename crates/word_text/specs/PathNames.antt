@@ -1,7 +1,7 @@
 -- The names of the nodes on paths, each after a space.
 use Rattle.std.specs.Prelude.{ℕ, List, ◌++◌, codes}
-use Rattle.row_lines.specs.declared.line.PathName.{PathName}
-use Rattle.row_lines.specs.declared.line.PathName.TheVariants.{Short, Long}
+use Rattle.word_text.specs.declared.line.PathName.{PathName}
+use Rattle.word_text.specs.declared.line.PathName.TheVariants.{Short, Long}
 
 -- the bytes of a name with its space
 abbrev pub name_text : PathName → List ℕ

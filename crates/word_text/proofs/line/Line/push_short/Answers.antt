@@ -1,6 +1,6 @@
 use Rattle.std.proofs.Common.{◌++◌, arith, take, length, ap, ap₂, ◌∙◌}
-use Rattle.row_lines.proofs.PathNames.{copied_short}
-use Rattle.row_lines.proofs.line.Line.push_short.Goals as goal
+use Rattle.word_text.proofs.Copies.{copied_short}
+use Rattle.word_text.proofs.line.Line.push_short.Goals as goal
 
 pub returns : goal.returns
 returns c =

@@ -1,7 +1,9 @@
-// A line that is written as bytes, and the names of the nodes on a path in it.
-ghost use Rattle.std.specs.Prelude.{◌≡◌, ◌≤◌, ◌++◌, [], length, IfOk, OnOk};
-ghost use Rattle.row_lines.specs.PathNames.{name_text};
+// A line that is written as bytes, and names of nodes that stand in many lines.
+ghost use Rattle.std.specs.Prelude.{◌≡◌, ◌≤◌, ◌++◌, [], length, decimal, IfOk, OnOk};
+ghost use Rattle.word_text.specs.PathNames.{name_text};
 
+use itoa::Buffer;
+use label_code::Word;
 use meta_base::NoMemory;
 use std::alloc::Global;
 use std::marker::Model;
@@ -9,9 +11,9 @@ use std::marker::Model;
 // As many bytes as most lines have, so that the room seldom grows.
 const USUAL_LINE: usize = 256;
 
-// A line, which contracts see as its bytes, in room that stays when it is emptied.
+/// A line, which contracts see as its bytes, in room that stays when it is emptied.
 #[derive(Debug, Drop)]
-pub(crate) struct Line {
+pub struct Line {
     room: Vec<u8>,
     len: usize,
 }
@@ -27,8 +29,8 @@ impl Model for Line {
 }
 
 impl Line {
-    // A line of no bytes.
-    pub(crate) fn new(alloc: Global) -> Result<Line, NoMemory>
+    /// A line of no bytes. It is refused for want of memory alone, as all that appends to a line is.
+    pub fn new(alloc: Global) -> Result<Line, NoMemory>
         ensures { IfOk result (λ line. line ≡ []) }
     {
         Ok(Line {
@@ -37,19 +39,23 @@ impl Line {
         })
     }
 
-    pub(crate) fn as_bytes(&self) -> &[u8]
+    /// Lends its bytes.
+    pub fn as_bytes(&self) -> &[u8]
         ensures { result.now ≡ self.now }
     {
         &self.room[..self.len]
     }
 
-    pub(crate) fn clear(&mut self)
+    /// Empties it. Its room stays.
+    pub fn clear(&mut self)
         ensures { self.new ≡ [] }
     {
         self.len = 0;
     }
 
-    pub(crate) fn push_bytes(&mut self, bytes: &[u8]) -> Result<(), NoMemory>
+    /// Appends these bytes. After a refusal it isn't said what the line has.
+    #[inline]
+    pub fn push_bytes(&mut self, bytes: &[u8]) -> Result<(), NoMemory>
         ensures { OnOk result (self.new ≡ self.old ++ bytes.now) }
     {
         let start = self.len;
@@ -59,6 +65,32 @@ impl Line {
         self.room[start..start + bytes.len()].copy_from_slice(bytes);
         self.len = start + bytes.len();
         Ok(())
+    }
+
+    /// Appends a number in base ten, with no leading zero.
+    #[inline]
+    #[tactic(auto, using(crate::proofs::Digits::one_digit, crate::proofs::Digits::two_digits))]
+    pub fn push_number(&mut self, n: Word) -> Result<(), NoMemory>
+        ensures { OnOk result (self.new ≡ self.old ++ decimal n) }
+    {
+        // Most numbers are one digit or two.
+        if n < 10 {
+            return self.push_bytes(&[b'0' + n as u8]);
+        }
+        if n < 100 {
+            let n = n as u8;
+            return self.push_bytes(&[b'0' + n / 10, b'0' + n % 10]);
+        }
+        self.push_long_number(n)
+    }
+
+    // Appends a number of more digits.
+    #[inline(never)]
+    fn push_long_number(&mut self, n: Word) -> Result<(), NoMemory>
+        ensures { OnOk result (self.new ≡ self.old ++ decimal n) }
+    {
+        let mut digits = Buffer::new();
+        self.push_bytes(digits.format(n).as_bytes())
     }
 
     // Appends bytes for which the room may be too small.
@@ -86,8 +118,9 @@ impl Line {
         Ok(())
     }
 
+    /// Appends a name that was prepared.
     #[inline(always)]
-    pub(crate) fn push_name(&mut self, name: &PathName) -> Result<(), NoMemory>
+    pub fn push_name(&mut self, name: &PathName) -> Result<(), NoMemory>
         ensures { OnOk result (self.new ≡ self.old ++ name_text name.now) }
     {
         match name {
@@ -100,9 +133,9 @@ impl Line {
 // The room of a name that is copied with a fixed length.
 const SHORT: usize = 16;
 
-// A text in such room, which contracts see as its bytes.
+/// A text in such room, which contracts see as its bytes.
 #[derive(Debug, Drop)]
-pub(crate) struct ShortName {
+pub struct ShortName {
     bytes: [u8; SHORT],
     len: usize,
 }
@@ -131,16 +164,16 @@ impl ShortName {
     }
 }
 
-// The name of a node, after a space.
+/// A text that is appended to many lines, as the name of a node after a space.
 #[derive(Debug, Drop)]
-pub(crate) enum PathName {
+pub enum PathName {
     Short(ShortName),
     Long(Vec<u8>),
 }
 
 impl PathName {
-    // That of this text.
-    pub(crate) fn of(alloc: Global, text: &[u8]) -> Result<PathName, NoMemory>
+    /// That text. It is refused for want of memory alone.
+    pub fn of(alloc: Global, text: &[u8]) -> Result<PathName, NoMemory>
         ensures { IfOk result (λ name. name_text name ≡ text.now) }
     {
         if text.len() <= SHORT {
