@@ -47,8 +47,8 @@ pub(crate) fn put_table<K: Sink>(
     requires may_be { IsCarrier (pure_carrier carrier.now) }
     requires words { AreWordsOf (pure_carrier carrier.now) table.now }
     requires rows { AllByRecursion (IsRowOf (net_of lines.old)) (word_rows (pure_carrier carrier.now) table.now) }
-    ensures text { PutsText (K.holds out.old) (rows_text (net_of lines.old) (word_rows (pure_carrier carrier.now) table.now))
-        result (K.holds out.new) }
+    ensures text { PutsText (K.holds out.old)
+        (rows_text (net_of lines.old) (word_rows (pure_carrier carrier.now) table.now)) result (K.holds out.new) }
     ensures net { net_of lines.new ≡ net_of lines.old }
 {
     for node in 0..table.node_count() {
