@@ -266,7 +266,7 @@ fn arc_of_bytes(alloc: Global, bytes: usize) -> Result<Vec<u8>, Fail> {
     let nodes = b"node a b\n";
     let mut net = Vec::from_slice(alloc, nodes)?;
     net.extend_from_slice(b"link a b : 1 #")?;
-    net.resize(nodes.len() + bytes, b'c')?;
+    net.resize(nodes.len().saturating_add(bytes), b'c')?;
     Ok(net)
 }
 
