@@ -19,7 +19,8 @@ use meta_base::{NoMemory, Text};
 pub fn push_words(out: &mut Line, carrier: &Carrier, words: &[Word]) -> Result<(), NoMemory>
     requires carrier { IsCarrier (pure_carrier carrier.now) }
     requires words { IsEncoded (pure_carrier carrier.now) words.now }
-    ensures { OnOk result (out.new ≡ out.old ++ (value_text (pure_carrier carrier.now) (decoded (pure_carrier carrier.now) words.now))) }
+    ensures { OnOk result (out.new ≡ out.old
+        ++ value_text (pure_carrier carrier.now) (decoded (pure_carrier carrier.now) words.now)) }
 {
     let mut rest = words;
     push_front(out, carrier, &mut rest)
@@ -31,7 +32,7 @@ fn push_front(out: &mut Line, carrier: &Carrier, row: &mut &[Word]) -> Result<()
     requires carrier { IsCarrier (pure_carrier carrier.now) }
     requires there { Dec (pure_carrier carrier.now) row.old.now ≢ None }
     ensures row { OnOk result (Leaves (pure_carrier carrier.now) row.old.now row.new.now) }
-    ensures text { OnOk result (out.new ≡ out.old ++ (front_text (pure_carrier carrier.now) row.old.now)) }
+    ensures text { OnOk result (out.new ≡ out.old ++ front_text (pure_carrier carrier.now) row.old.now) }
 {
     match carrier {
         Carrier::Whole | Carrier::UpTo(_) | Carrier::DownFrom(_) => {
@@ -55,7 +56,8 @@ fn push_pair(out: &mut Line, c: &Carrier, d: &Carrier, row: &mut &[Word]) -> Res
     requires second { IsCarrier (pure_carrier d.now) }
     requires there { Dec (pairs (pure_carrier c.now) (pure_carrier d.now)) row.old.now ≢ None }
     ensures row { OnOk result (Leaves (pairs (pure_carrier c.now) (pure_carrier d.now)) row.old.now row.new.now) }
-    ensures text { OnOk result (out.new ≡ out.old ++ (front_text (pairs (pure_carrier c.now) (pure_carrier d.now)) row.old.now)) }
+    ensures text { OnOk result (out.new ≡ out.old
+        ++ front_text (pairs (pure_carrier c.now) (pure_carrier d.now)) row.old.now) }
 {
     out.push_bytes(b"(")?;
     push_front(out, c, row)?;
@@ -71,7 +73,8 @@ fn push_side(out: &mut Line, c: &Carrier, d: &Carrier, row: &mut &[Word]) -> Res
     requires second { IsCarrier (pure_carrier d.now) }
     requires there { Dec (sides (pure_carrier c.now) (pure_carrier d.now)) row.old.now ≢ None }
     ensures row { OnOk result (Leaves (sides (pure_carrier c.now) (pure_carrier d.now)) row.old.now row.new.now) }
-    ensures text { OnOk result (out.new ≡ out.old ++ (front_text (sides (pure_carrier c.now) (pure_carrier d.now)) row.old.now)) }
+    ensures text { OnOk result (out.new ≡ out.old
+        ++ front_text (sides (pure_carrier c.now) (pure_carrier d.now)) row.old.now) }
 {
     match take_word(row) {
         0 => {
@@ -100,7 +103,7 @@ fn take_word(row: &mut &[Word]) -> Word
 
 fn push_name(out: &mut Line, names: &[Text], place: Word) -> Result<(), NoMemory>
     requires { place < length names.now }
-    ensures { OnOk result (out.new ≡ out.old ++ (slice_index_or names.now place [])) }
+    ensures { OnOk result (out.new ≡ out.old ++ slice_index_or names.now place []) }
 {
     out.push_bytes(names[place as usize].as_str().as_bytes())
 }
@@ -127,7 +130,7 @@ fn push_symbols(out: &mut Line, words: &[Word]) -> Result<(), NoMemory>
 
 #[tactic(auto, using(sig_text::proofs::Printed::listed_at))]
 fn push_numbers(out: &mut Line, words: &[Word]) -> Result<(), NoMemory>
-    ensures { OnOk result (out.new ≡ out.old ++ (numbers_text words.now)) }
+    ensures { OnOk result (out.new ≡ out.old ++ numbers_text words.now) }
 {
     let mut follows = false;
     for word in words {
@@ -159,7 +162,7 @@ fn push_set(out: &mut Line, count: u64, word: Word) -> Result<(), NoMemory>
 // The numbers below the count that are in the set, ascending.
 fn push_members(out: &mut Line, count: u64, word: Word) -> Result<(), NoMemory>
     requires { count ≤ MAX_MARKS }
-    ensures { OnOk result (out.new ≡ out.old ++ (numbers_text (members count word))) }
+    ensures { OnOk result (out.new ≡ out.old ++ numbers_text (members count word)) }
 {
     let mut follows = false;
     for k in 0..count {
