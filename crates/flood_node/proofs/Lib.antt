@@ -1,4 +1,3 @@
-mod Words
 mod Tellings
 mod OwnCards
 mod Nodes

@@ -3,8 +3,9 @@ use Rattle.std.proofs.Common.{◌≡◌, ℕ, List, [], ◌∷◌, ◌++◌, Boo
 use Rattle.std.specs.Prelude.{◌==◌}
 use Rattle.flood_node.specs.Cards.{PureCard}
 use Rattle.flood_node.specs.Node.{has_card}
-use Rattle.flood_node.specs.Sets.{has_number, AreNodesOf}
-use Rattle.flood_node.proofs.Words.{no_number}
+use Rattle.number_sets.specs.NumberLaws.{no_number}
+use Rattle.number_sets.specs.NumberSets.{has_number}
+use Rattle.flood_node.specs.Sets.{AreNodesOf}
 
 -- a card more, tested
 pub has_more : (cards : List PureCard) (card : PureCard) (i : ℕ) → has_card (cards ++ card ∷ []) i ≡ (has_card cards i || card.node == i)

@@ -1,14 +1,9 @@
--- Sets of numbers as words of bits.
-use Rattle.std.specs.Prelude.{◌≡◌, ℕ, ◌<◌, length, ◌/◌, ◌%◌, ◌==◌, Bool, List, get_or}
-use Rattle.std.specs.Int.{bit_at}
+-- The nodes whose cards a node holds, as a set of numbers.
+use Rattle.std.specs.Prelude.{◌≡◌, ℕ, ◌<◌, length, List}
+use Rattle.number_sets.specs.NumberSets.{has_number}
 use Rattle.net_graph.specs.Nets.{PureNet}
-use Rattle.flood_node.specs.declared.sets.TheConstants.{WORD_BITS}
 use Rattle.flood_node.specs.Cards.{PureCard}
 use Rattle.flood_node.specs.Node.{has_card}
-
--- the number is in the set; none past the words is
-abbrev pub has_number : List ℕ → ℕ → Bool
-has_number words i = bit_at (get_or words (i / WORD_BITS) 0) (i % WORD_BITS) == 1
 
 -- the set is that of the cards' nodes
 abbrev pub AreNodesOf : List ℕ → List PureCard → Type 0

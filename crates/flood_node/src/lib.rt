@@ -1,8 +1,8 @@
 //! Link state as routers run it (OSPF, RFC 2328): nodes that flood cards, each of which holds one node's own arcs and
 //! origins, the rows that each node then computes on the network of its cards, and what holds of every machine of such
 //! nodes. The command `flood` runs them, by `flood_runs`. It stands on `node_core`, whose machines run the nodes, on
-//! `best_first`, which solves, on `rest_laws`, whose budgets bound the runs, and on `net_graph`; nothing in it knows of
-//! path-vector nodes or of threads.
+//! `best_first`, which solves, on `number_sets`, on `rest_laws`, whose budgets bound the runs, and on `net_graph`;
+//! nothing in it knows of path-vector nodes or of threads.
 #![tactic(auto)]
 
 mod card;
@@ -11,7 +11,6 @@ mod node;
 mod own_card;
 mod reported;
 mod rows;
-mod sets;
 mod telling;
 
 pub use card::{Card, CardArc, CardOrigin, Flooded};

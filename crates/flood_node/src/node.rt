@@ -7,11 +7,11 @@ ghost use Rattle.flood_node.specs.Views.{noted, pure_card, pure_flooded};
 
 use crate::card::{Card, Flooded};
 use crate::own_card::card_of;
-use crate::sets::NumberSet;
 use crate::telling::tell;
 use meta_base::{ArcId, List, NoMemory, NodeId};
 use net_graph::Net;
 use node_core::{NodeCore, Outgoing};
+use number_sets::NumberSet;
 use std::alloc::Global;
 use std::marker::Model;
 use std::mem::replace;

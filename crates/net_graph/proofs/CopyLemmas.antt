@@ -1,21 +1,20 @@
 -- Copies of the parts of a network.
-use Rattle.std.proofs.Common.{◌≡◌, ℕ, zero, suc, ◌+◌, ◌<◌, List, [], ◌∷◌, ◌++◌, Bool, false, ◌&&◌, eqb, Some, slice_get, get_or, length, map, take, refl, ap, ◌∙◌, arith, Global}
+use Rattle.std.proofs.Common.{◌≡◌, ℕ, zero, suc, ◌+◌, ◌<◌, List, [], ◌∷◌, ◌++◌, Some, slice_get, get_or, length, map, take, refl, ap, ◌∙◌, arith, Global}
 use Rattle.std.proofs.lemmas.List.{map-append, take_more}
 use Rattle.std.proofs.lemmas.Option.{slice_get_within, get_or_from_slice_get}
-use Rattle.std.specs.List.{list_any, AllZip}
+use Rattle.std.specs.List.{AllZip}
 use Rattle.std.specs.declared.vec.Vec.{Vec}
-use Rattle.net_graph.specs.Nets.{PureArc, IsNet, AreDistinct, joins_same}
+use Rattle.net_graph.specs.Nets.{PureArc, IsNet}
+use Rattle.net_graph.specs.Copies.{IsCopyWith}
 use Rattle.net_graph.specs.Changes.{PureChange, changed_arcs, changed, MayChange}
 use Rattle.net_graph.specs.ChangeLaws.{changed_is_net}
 use Rattle.net_graph.specs.Drafts.{net_with, IsDraft}
 use Rattle.net_graph.specs.Groups.{item_at, items_at, StandAt}
 use Rattle.net_graph.specs.declared.groups.Spot.{Spot}
 use Rattle.net_graph.proofs.GroupLemmas.{item_at-stand}
-use Rattle.net_graph.specs.Parts.{arc_pair}
 use Rattle.net_graph.specs.Views.{pure_origin}
 use Rattle.net_graph.specs.declared.parts.NetIndex.{NetIndex}
 use Rattle.net_graph.specs.declared.parts.Origin.{Origin}
-use Rattle.net_graph.proofs.NetLemmas.{any_mapped, all_got}
 
 -- the names of cloned keys are those of the keys
 pub names_cloned : (C : Vec ℕ Global → Vec ℕ Global → Type 0) → ((v w : Vec ℕ Global) → C v w → w.items ≡ v.items) → (ks ns : List (Vec ℕ Global)) → AllZip C ks ns
@@ -34,20 +33,6 @@ pub images_more : {X Y Z : Type 0} (f : X → Y) (g : Z → Y) (made new : List 
     → map g new ≡ map f (take (i + 1) xs)
 images_more f g made new z xs i x e p h m = rw (p, take_got xs i x e, map-append g made (z ∷ []), map-append f (take i xs) (x ∷ []), m, h) refl
 
--- no earlier item is the same as a later one
-distinct_before : {X : Type 0} (same : X → X → Bool) (xs : List X) (i : ℕ) (x : X) → AreDistinct same xs → slice_get xs i ≡ Some x → list_any (λ y. same y x) (take i xs) ≡ false
-distinct_before same [] i x d e = absurd (cc)
-distinct_before same (y ∷ xs) zero x d e = refl
-distinct_before same (y ∷ xs) (suc i) x d e = rw (all_got (λ z. same y z ≡ false) xs i x d.0 e, distinct_before same xs i x d.1 e) refl
-
--- the pair of an arc isn't among those of the arcs before it
-pub pair_absent : (arcs : List PureArc) (i : ℕ) (a : PureArc) → AreDistinct joins_same arcs → slice_get arcs i ≡ Some a
-    → list_any (λ p. eqb p.0 a.tail && eqb p.1 a.head) (map arc_pair (take i arcs)) ≡ false
-pair_absent arcs i a d e = any_mapped arc_pair (λ (p : ℕ × ℕ). eqb p.0 a.tail && eqb p.1 a.head) (take i arcs) ∙ distinct_before joins_same arcs i a d e
-
-pub pair_more : (pairs new : List (ℕ × ℕ)) (arcs : List PureArc) (i : ℕ) (a : PureArc) → slice_get arcs i ≡ Some a → new ≡ pairs ++ arc_pair a ∷ [] → pairs ≡ map arc_pair (take i arcs) → new ≡ map arc_pair (take (i + 1) arcs)
-pair_more pairs new arcs i a e p m = rw (p, take_got arcs i a e, map-append arc_pair (take i arcs) (a ∷ []), m) refl
-
 -- a place within a list has its item, whatever stands for those past the end
 pub get_or_any : {X : Type 0} (xs : List X) (i : ℕ) (a b : X) → i < length xs → get_or xs i a ≡ get_or xs i b
 get_or_any [] i a b h = absurd (omega arith)
@@ -63,12 +48,12 @@ item_stands groups spots read i d s e h =
 
 -- the parts of a network with a change
 pub changed_draft : (old known : NetIndex) (was arcs : List PureArc) (had origins : List Origin) (c : PureChange) → IsDraft old was had → MayChange (net_with old was had) c
-    → arcs ≡ changed_arcs c was → map pure_origin origins ≡ map pure_origin had → known ≡ record old { arc_pairs = map arc_pair arcs }
+    → arcs ≡ changed_arcs c was → map pure_origin origins ≡ map pure_origin had → IsCopyWith old known arcs
     → IsDraft known arcs origins
 changed_draft old known was arcs had origins c k m a o e =
     let net : IsNet (changed (net_with old was had) c) = changed_is_net (net_with old was had) c k.is_net m in
-    rw e (record { is_net = rw (a, o) net; arc_pairs = refl; origin_pairs = rw o k.origin_pairs })
+    record { is_net = rw (e.alg, e.nodes, e.dests, a, o) net; joins = e.joins; origin_pairs = e.origin_pairs ∙ rw o k.origin_pairs }
 
 pub changed_parts : (old known : NetIndex) (was arcs : List PureArc) (had origins : List Origin) (c : PureChange) → arcs ≡ changed_arcs c was
-    → map pure_origin origins ≡ map pure_origin had → known ≡ record old { arc_pairs = map arc_pair arcs } → net_with known arcs origins ≡ changed (net_with old was had) c
-changed_parts old known was arcs had origins c a o e = rw (e, a, o) refl
+    → map pure_origin origins ≡ map pure_origin had → IsCopyWith old known arcs → net_with known arcs origins ≡ changed (net_with old was had) c
+changed_parts old known was arcs had origins c a o e = rw (e.alg, e.nodes, e.dests, a, o) refl

@@ -1,9 +1,11 @@
 pub mod Keys
 pub mod GroupLemmas
 pub mod CutLemmas
+pub mod JoinLemmas
 pub mod NetLemmas
 pub mod KeptLemmas
 pub mod FiledLemmas
 pub mod CopyLemmas
 pub mod NameTexts
 pub mod LabelLemmas
+pub mod BetweenLemmas

@@ -11,4 +11,4 @@ net_with known arcs origins = net_from known.alg known.nodes known.dests arcs or
 
 -- its arcs and origins are those that are looked up
 abbrev pub IsDraft : NetIndex → List PureArc → List Origin → Type 0
-IsDraft known arcs origins = IsKnown (net_with known arcs origins) known.arc_pairs known.origin_pairs
+IsDraft known arcs origins = IsKnown (net_with known arcs origins) known.joins known.origin_pairs

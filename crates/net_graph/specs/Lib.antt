@@ -18,8 +18,10 @@ pub mod LabelLaws
 pub mod Cuts
 pub mod Dests
 pub mod Pairs
+pub mod Joins
 pub mod Parts
 pub mod Drafts
+pub mod Copies
 pub mod NetParts
 pub mod RowTexts
 pub mod Unbeaten

@@ -11,7 +11,7 @@ use Rattle.net_graph.specs.declared.filed.FiledLines.{FiledLines}
 use Rattle.net_graph.specs.declared.net.Net.TheInside.{Inside}
 use Rattle.net_graph.specs.declared.parts.NetIndex.{NetIndex}
 
--- the network that is known by these names and pairs, with these labels, and whose lines are filed so
+-- the network that is known by these names, sets and pairs, with these labels, and whose lines are filed so
 abbrev pub net_in : NetIndex → List Label → FiledLines → PureNet
 net_in known labels lines = net_with known (arcs_of labels (items_at lines.out.groups lines.out.spots.items)) (items_at lines.homes.groups lines.homes.spots.items)
 
@@ -19,5 +19,5 @@ abbrev pub net_of : Inside → PureNet
 net_of n = net_with n.known (arcs_of n.labels.items (items_at n.out n.arc_spots.items)) (items_at n.homes n.origin_spots.items)
 
 pub record IsWhole (n : Inside) : Type 0 where
-  pub known : IsKnown (net_of n) n.known.arc_pairs n.known.origin_pairs
+  pub known : IsKnown (net_of n) n.known.joins n.known.origin_pairs
   pub filed : IsFiled (net_of n) (map pure_label n.labels.items) n.out n.arc_spots.items n.heard n.homes n.origin_spots.items

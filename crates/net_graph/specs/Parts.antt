@@ -6,6 +6,7 @@ use Rattle.net_graph.specs.Nets.{PureArc, PureOrigin, PureNet, IsNet, arcs_from,
 use Rattle.alg_model.specs.Expressions.{PureLabel}
 use Rattle.net_graph.specs.Kept.{kept_arc, HaveLabels}
 use Rattle.net_graph.specs.Views.{pure_origin}
+use Rattle.net_graph.specs.Joins.{AreJoinedBy}
 use Rattle.net_graph.specs.Groups.{group_at, items_at, StandAt}
 use Rattle.net_graph.specs.declared.arcs.KeptArc.{KeptArc}
 use Rattle.net_graph.specs.declared.parts.Origin.{Origin}
@@ -14,17 +15,14 @@ use Rattle.net_graph.specs.declared.groups.Spot.{Spot}
 abbrev pub net_from : PureAlg → List (List ℕ) → List (List ℕ) → List PureArc → List Origin → PureNet
 net_from a nodes dests arcs origins = record { alg = a; nodes = nodes; dests = dests; arcs = arcs; origins = map pure_origin origins }
 
--- the pair of nodes that an arc joins; the destination and the node of an origin
-abbrev pub arc_pair : PureArc → ℕ × ℕ
-arc_pair a = (a.tail, a.head)
-
+-- the destination and the node of an origin
 abbrev pub origin_pair : PureOrigin → ℕ × ℕ
 origin_pair o = (o.dest, o.node)
 
--- a network, and the pairs by which its arcs and origins are looked up
-pub record IsKnown (net : PureNet) (by_arc by_origin : List (ℕ × ℕ)) : Type 0 where
+-- a network, the sets by which its arcs are looked up, and the pairs by which its origins are
+pub record IsKnown (net : PureNet) (by_arc : List (List ℕ)) (by_origin : List (ℕ × ℕ)) : Type 0 where
   pub is_net : IsNet net
-  pub arc_pairs : by_arc ≡ map arc_pair net.arcs
+  pub joins : AreJoinedBy by_arc net.arcs
   pub origin_pairs : by_origin ≡ map origin_pair net.origins
 
 -- the arcs with labels of this list filed by their tails, the ids of arcs by the heads, and the origins by their

@@ -1,12 +1,12 @@
 // Arcs as a network keeps them. Labels stand in a list of their own, where arcs may have one in common.
-ghost use Rattle.std.specs.Prelude.{◌≡◌, ◌<◌, ◌++◌, ◌∷◌, [], List, Some, length, map, slice_get, IfOk, IfSome, OnOk, OnErr};
+ghost use Rattle.std.specs.Prelude.{◌≡◌, ◌==◌, ◌<◌, ◌++◌, ◌∷◌, [], List, Some, find, length, map, option_map, slice_get, IfOk, IfSome, OnOk, OnErr};
 ghost use Rattle.alg_model.specs.Views.{pure_label};
 ghost use Rattle.net_graph.specs.Kept.{arcs_of, kept_arc, HaveLabels};
 ghost use Rattle.net_graph.specs.Nets.{PureArc, CanBeNumbered};
 ghost use Rattle.net_graph.specs.Views.{pure_arc, pure_change};
 
 use crate::change::{Change, arcs_with_label, arcs_without, are_joined};
-use crate::pairs::Pairs;
+use crate::joins::Joins;
 use alg_model::Label;
 use meta_base::{ArcId, NoMemory, NodeId};
 use std::alloc::Global;
@@ -59,6 +59,18 @@ pub(crate) fn arc_at<'a>(labels: &'a [Label], arcs: &[KeptArc], place: usize) ->
     arcs[place].with_label(labels)
 }
 
+// The id of the first of these arcs that goes to the head, if one does.
+pub(crate) fn id_to(arcs: &[KeptArc], head: NodeId) -> Option<ArcId>
+    ensures { result ≡ option_map (λ a. a.id) (find (λ a. a.head.0 == head.0) arcs.now) }
+{
+    for arc in arcs {
+        if arc.head.0 == head.0 {
+            return Some(arc.id);
+        }
+    }
+    None
+}
+
 // Arcs in file order. Contracts see the list of them, each with its label.
 #[derive(Debug, Drop)]
 pub(crate) struct Arcs {
@@ -84,8 +96,7 @@ impl Model for Arcs {
 impl Arcs {
     ghost use Rattle.net_graph.specs.Changes.{link, changed_arcs};
     ghost use Rattle.net_graph.specs.Lines.{arcs_with};
-    ghost use Rattle.net_graph.specs.Nets.{AreDistinct, joins_same};
-    ghost use Rattle.net_graph.specs.Parts.{arc_pair};
+    ghost use Rattle.net_graph.specs.Joins.{AreJoinedBy};
 
     /// No arc.
     pub fn new(alloc: Global) -> Arcs
@@ -164,16 +175,16 @@ impl Arcs {
         Ok(())
     }
 
-    /// The pairs of nodes that the arcs join.
-    pub fn pairs(&self, alloc: Global) -> Result<Pairs, NoMemory>
-        requires { AreDistinct joins_same self.now }
-        ensures { IfOk result (λ pairs. pairs ≡ map arc_pair self.now) }
+    /// Which nodes the arcs join.
+    pub fn joins(&self, alloc: Global) -> Result<Joins, NoMemory>
+        ensures { IfOk result (λ joins. AreJoinedBy joins self.now) }
     {
-        let mut pairs = Pairs::new(alloc);
+        let mut joins = Joins::new(alloc);
         for arc in &self.arcs {
-            pairs.add(arc.tail.0, arc.head.0)?;
+            joins.make_room(alloc, arc.tail.0, arc.head.0)?;
+            joins.note(arc.tail.0, arc.head.0);
         }
-        Ok(pairs)
+        Ok(joins)
     }
 
     /// The arcs with a change.

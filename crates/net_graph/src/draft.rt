@@ -10,6 +10,7 @@ ghost use Rattle.net_graph.specs.Lines.{empty_net, with_node, with_arc, with_des
 
 use crate::arcs::Arcs;
 use crate::filed::file_lines;
+use crate::joins::Joins;
 use crate::names::Names;
 use crate::pairs::Pairs;
 use crate::parts::NetIndex;
@@ -60,7 +61,7 @@ impl NetDraft {
                 alg,
                 nodes: Names::new(alloc),
                 dests: Names::new(alloc),
-                arc_pairs: Pairs::new(alloc),
+                joins: Joins::new(alloc),
                 origin_pairs: Pairs::new(alloc),
             },
             arcs: Arcs::new(alloc),
@@ -104,7 +105,6 @@ impl NetDraft {
     pub fn reserve_arcs(&mut self, count: usize) -> Result<(), NoMemory>
         ensures { self.new ≡ self.old }
     {
-        self.known.arc_pairs.reserve(count)?;
         self.arcs.reserve(count)
     }
 
@@ -123,12 +123,10 @@ impl NetDraft {
         ensures ok { OnOk result (self.new ≡ with_arc self.old tail.0 head.0 (pure_label label)) }
         ensures err { OnErr result (self.new ≡ self.old) }
     {
-        self.known.arc_pairs.add(tail.0, head.0)?;
-        let added = self.arcs.push(tail, head, label);
-        if added.is_err() {
-            self.known.arc_pairs.drop_last();
-        }
-        added
+        self.known.joins.make_room(self.alloc, tail.0, head.0)?;
+        self.arcs.push(tail, head, label)?;
+        self.known.joins.note(tail.0, head.0);
+        Ok(())
     }
 
     /// Adds an arc with the label of the arc of that number, which isn't copied. All else is as for
@@ -144,12 +142,10 @@ impl NetDraft {
             self.new ≡ with_arc self.old tail.0 head.0 arc.label)) }
         ensures err { OnErr result (self.new ≡ self.old) }
     {
-        self.known.arc_pairs.add(tail.0, head.0)?;
-        let added = self.arcs.push_like(tail, head, like);
-        if added.is_err() {
-            self.known.arc_pairs.drop_last();
-        }
-        added
+        self.known.joins.make_room(self.alloc, tail.0, head.0)?;
+        self.arcs.push_like(tail, head, like)?;
+        self.known.joins.note(tail.0, head.0);
+        Ok(())
     }
 
     /// Adds a destination of that name without an origin, with the next number. The name is 1 to 32
@@ -296,7 +292,7 @@ impl NetDraft {
         ensures there { result ≡ has_arc self.now tail.0 head.0 }
         ensures net { IsNet self.now }
     {
-        self.known.arc_pairs.contains(tail.0, head.0)
+        self.known.joins.contains(tail.0, head.0)
     }
 
     /// There is an origin of the destination at the node.

@@ -7,6 +7,7 @@ mod change;
 mod draft;
 mod filed;
 mod groups;
+mod joins;
 mod label_marks;
 mod label_numbers;
 mod laws;

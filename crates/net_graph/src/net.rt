@@ -3,7 +3,7 @@ ghost use Rattle.std.specs.List.{AllByRecursion};
 ghost use Rattle.net_graph.specs.declared.limits.TheConstants.{MOST_NODES, MOST_DESTS};
 ghost use Rattle.net_graph.specs.Nets.{CanBeNumbered, IsNet, IsArcOf, IsOriginOf, is_name, number_of, has_arc, has_origin, is_arc_between, is_origin_at, arcs_from, arcs_to, origins_of};
 
-use crate::arcs::{Arc, Arcs, KeptArc, copy_labels};
+use crate::arcs::{Arc, Arcs, KeptArc, copy_labels, id_to};
 use crate::change::Change;
 use crate::filed::FiledLines;
 use crate::groups::{Groups, Spot};
@@ -61,7 +61,7 @@ impl Net {
 
     // The network of these parts.
     pub(crate) fn from_parts(known: NetIndex, labels: Vec<Label>, lines: FiledLines) -> Net
-        requires known { IsKnown (net_in known labels.items lines) known.arc_pairs known.origin_pairs }
+        requires known { IsKnown (net_in known labels.items lines) known.joins known.origin_pairs }
         requires filed { IsFiled (net_in known labels.items lines) (map pure_label labels.items)
             lines.out.groups lines.out.spots.items lines.heard lines.homes.groups lines.homes.spots.items }
         ensures { result ≡ net_in known labels.items lines }
@@ -141,17 +141,14 @@ impl Net {
     pub fn has_arc(&self, tail: NodeId, head: NodeId) -> bool
         ensures { result ≡ has_arc self.now tail.0 head.0 }
     {
-        self.known.arc_pairs.contains(tail.0, head.0)
+        self.known.joins.contains(tail.0, head.0)
     }
 
     /// The arc from `tail` to `head`, or `None` exactly where there is none.
     pub fn arc_between(&self, tail: NodeId, head: NodeId) -> Option<ArcId>
         ensures { option_map (λ id. id.0) result ≡ position (is_arc_between tail.0 head.0) self.now.arcs }
     {
-        match self.known.arc_pairs.place(tail.0, head.0) {
-            Some(place) => Some(ArcId(place as u32)),
-            None => None,
-        }
+        id_to(self.out.group_if_any(tail.0 as usize), head)
     }
 
     /// There is an origin of the destination at the node.

@@ -56,14 +56,6 @@ impl Pairs {
         })
     }
 
-    /// Makes room for so many pairs more.
-    pub fn reserve(&mut self, count: usize) -> Result<(), NoMemory>
-        ensures { self.new ≡ self.old }
-    {
-        self.pairs.reserve(count)?;
-        Ok(())
-    }
-
     /// Adds a pair that isn't there. After a refusal nothing has changed.
     pub fn add(&mut self, first: u32, second: u32) -> Result<(), NoMemory>
         requires { has_pair self.old first second ≡ false }
@@ -72,12 +64,5 @@ impl Pairs {
     {
         self.pairs.insert((first, second))?;
         Ok(())
-    }
-
-    /// Drops the last pair.
-    pub fn drop_last(&mut self)
-        ensures { (pairs : List (ℕ × ℕ)) (pair : ℕ × ℕ) → self.old ≡ pairs ++ pair ∷ [] → self.new ≡ pairs }
-    {
-        let _ = self.pairs.pop();
     }
 }

@@ -4,6 +4,7 @@ ghost use Rattle.net_graph.specs.Dests.{dests_with, dest_number};
 ghost use Rattle.net_graph.specs.Pairs.{has_pair};
 
 use crate::arcs::{Arcs, KeptArc};
+use crate::joins::Joins;
 use crate::names::Names;
 use crate::pairs::Pairs;
 use alg_model::{Alg, Value};
@@ -46,16 +47,14 @@ pub(crate) struct NetIndex {
     pub alg: Alg,
     pub nodes: Names,
     pub dests: Names,
-    // The tails and heads of the arcs, in file order.
-    pub arc_pairs: Pairs,
+    // Which nodes the arcs join.
+    pub joins: Joins,
     // The destinations and nodes of the origins, in file order.
     pub origin_pairs: Pairs,
 }
 
 impl NetIndex {
-    ghost use Rattle.std.specs.Prelude.{map};
-    ghost use Rattle.net_graph.specs.Nets.{AreDistinct, joins_same};
-    ghost use Rattle.net_graph.specs.Parts.{arc_pair};
+    ghost use Rattle.net_graph.specs.Copies.{IsCopyWith};
 
     /// The node of that name.
     pub fn node_named(&self, name: &[u8]) -> Option<NodeId>
@@ -75,14 +74,13 @@ impl NetIndex {
 
     /// The same, with these arcs in place of those that there are.
     pub fn copy_with(&self, alloc: Global, arcs: &Arcs) -> Result<NetIndex, NoMemory>
-        requires { AreDistinct joins_same arcs.now }
-        ensures { IfOk result (λ known. known ≡ record self.now { arc_pairs = map arc_pair arcs.now }) }
+        ensures { IfOk result (λ known. IsCopyWith self.now known arcs.now) }
     {
         Ok(NetIndex {
             alg: copy_alg(alloc, &self.alg)?,
             nodes: self.nodes.copy(alloc)?,
             dests: self.dests.copy(alloc)?,
-            arc_pairs: arcs.pairs(alloc)?,
+            joins: arcs.joins(alloc)?,
             origin_pairs: self.origin_pairs.copy()?,
         })
     }

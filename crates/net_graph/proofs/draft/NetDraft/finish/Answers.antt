@@ -24,7 +24,7 @@ from_parts-requires-clause-known c =
     let arcs = c.into_parts-labels.result in
     let lines = c.in_ok-lines.lines in
     filed_known known.alg known.nodes known.dests (map pure_label arcs.0.items) arcs.1.items c.self.inside.origins.items
-    lines.out.groups lines.out.spots.items lines.homes.groups lines.homes.spots.items known.arc_pairs known.origin_pairs
+    lines.out.groups lines.out.spots.items lines.homes.groups lines.homes.spots.items known.joins known.origin_pairs
     c.in_ok-lines.ensures.out.stand c.in_ok-lines.ensures.homes.stand (rw c.into_parts-labels.ensures.arcs c.self.invariant)
 
 pub from_parts-requires-clause-filed : goal.from_parts-requires-clause-filed

@@ -1,18 +1,10 @@
 use Rattle.std.proofs.Common.{ap, ◌∙◌}
 use Rattle.net_graph.specs.Groups.{items_at}
-use Rattle.net_graph.specs.ChangeLaws.{changed_is_net}
 use Rattle.net_graph.specs.Changes.{changed}
 use Rattle.net_graph.specs.Kept.{arcs_of}
-use Rattle.net_graph.specs.NetParts.{net_of}
 use Rattle.net_graph.specs.Views.{pure_change}
 use Rattle.net_graph.proofs.CopyLemmas.{changed_draft, changed_parts}
 use Rattle.net_graph.proofs.net.Net.changed.Goals as goal
-
-pub copy_with-requires : goal.copy_with-requires
-copy_with-requires c =
-    let arcs = rw (c.in_ok-copy_arcs.ensures.arcs, ← c.self.view_is) at c.in_ok-arcs.ensures in
-    let may = rw (← c.self.view_is) at c.requires in
-    rw arcs (changed_is_net (net_of c.self.inside) (pure_change c.args.change.now) c.self.invariant.known.is_net may).arc_apart
 
 pub from_parts-requires : goal.from_parts-requires
 from_parts-requires c =

@@ -7,8 +7,8 @@ use Rattle.std.proofs.Math.Nat.{div-add-mod, mod-lt}
 use Rattle.std.proofs.lemmas.Bool.{eqb-true}
 use Rattle.std.proofs.lemmas.Bool.Decides.{nat_tests}
 use Rattle.std.proofs.lemmas.List.{get_or-set_same, get_or-set_other}
-use Rattle.std.proofs.lemmas.Nat.Bits.{bit_at_set_same, bit_at_set_other, bit_at-zero}
-use Rattle.flood_node.specs.Sets.{has_number}
+use Rattle.std.proofs.lemmas.Nat.Bits.{bit_at_set_same, bit_at_set_other}
+use Rattle.number_sets.specs.NumberSets.{has_number}
 
 same_place : (i n : ℕ) → i / 64 ≡ n / 64 → i % 64 ≡ n % 64 → i ≡ n
 same_place i n e f = sym (div-add-mod i 64) ∙ (rw (e, f) (div-add-mod n 64))
@@ -30,10 +30,6 @@ read_more (w ∷ words) (suc k) = read_more words k
 -- a word of no number more changes no set
 pub number_more : (words : List ℕ) (i : ℕ) → has_number (words ++ 0 ∷ []) i ≡ has_number words i
 number_more words i = ap (λ z. bit_at z (i % 64) == 1) (read_more words (i / 64))
-
--- the empty set
-pub no_number : (i : ℕ) → has_number [] i ≡ false
-no_number i = rw (bit_at-zero (i % 64)) refl
 
 -- the words with one number more
 abbrev pub with_number : List ℕ → ℕ → List ℕ

@@ -1,6 +1,6 @@
 use Rattle.std.proofs.Common.{◌≡◌, ℕ, length}
-use Rattle.flood_node.specs.Sets.{has_number}
-use Rattle.flood_node.proofs.sets.grow.Given as goal
+use Rattle.number_sets.specs.NumberSets.{has_number}
+use Rattle.number_sets.proofs.number_set.grow.Given as goal
 
 -- the words have the numbers that they had
 abbrev pub invariant-loop-made : goal.invariant-loop-made

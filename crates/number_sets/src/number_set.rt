@@ -1,6 +1,5 @@
-// Sets of numbers, a bit for each number.
-ghost use Rattle.std.specs.Prelude.{◌≡◌, ◌≤◌, ◌==◌, ◌||◌, ℕ, [], true, length, OnOk, OnErr};
-ghost use Rattle.flood_node.specs.Sets.{has_number};
+ghost use Rattle.std.specs.Prelude.{◌≡◌, ◌==◌, ◌||◌, ℕ, [], true, OnOk, OnErr, IfOk, length, ◌≤◌};
+ghost use Rattle.number_sets.specs.NumberSets.{has_number, HasRoomFor};
 
 use meta_base::NoMemory;
 use std::alloc::Global;
@@ -9,9 +8,9 @@ use std::marker::Model;
 // How many numbers a word says of.
 const WORD_BITS: u32 = u64::BITS;
 
-// A set of numbers, which takes memory for the greatest. Contracts see its words.
+/// A set of numbers, which takes memory for the greatest: a bit for each number up to it. Contracts see its words.
 #[derive(Debug, Drop)]
-pub(crate) struct NumberSet {
+pub struct NumberSet {
     words: Vec<u64>,
 }
 
@@ -24,7 +23,7 @@ impl Model for NumberSet {
 }
 
 impl NumberSet {
-    /// No number.
+    /// No number. It takes no memory.
     pub fn new(alloc: Global) -> NumberSet
         ensures { result ≡ [] }
     {
@@ -43,14 +42,34 @@ impl NumberSet {
         }
     }
 
-    /// Adds the number. After a refusal the set has the numbers that it had.
+    /// Makes room for the number, so that [`NumberSet::note`] can add it. The set has the numbers that it had, after a
+    /// refusal too, which is for want of memory alone.
+    pub fn make_room(&mut self, number: u32) -> Result<(), NoMemory>
+        ensures room { OnOk result (HasRoomFor self.new number) }
+        ensures same { (i : ℕ) → has_number self.new i ≡ has_number self.old i }
+    {
+        let place = (number / WORD_BITS) as usize;
+        if place >= self.words.len() {
+            grow(&mut self.words, place + 1)?;
+        }
+        Ok(())
+    }
+
+    /// Adds a number that there is room for.
+    pub fn note(&mut self, number: u32)
+        requires { HasRoomFor self.old number }
+        ensures { (i : ℕ) → has_number self.new i ≡ (has_number self.old i || number == i) }
+    {
+        self.words[(number / WORD_BITS) as usize] |= 1 << (number % WORD_BITS);
+    }
+
+    /// Adds the number. After a refusal, which is for want of memory alone, the set has the numbers that it had.
     pub fn insert(&mut self, number: u32) -> Result<(), NoMemory>
         ensures ok { OnOk result ((i : ℕ) → has_number self.new i ≡ (has_number self.old i || number == i)) }
         ensures err { OnErr result ((i : ℕ) → has_number self.new i ≡ has_number self.old i) }
     {
-        let place = (number / WORD_BITS) as usize;
-        grow(&mut self.words, place + 1)?;
-        self.words[place] |= 1 << (number % WORD_BITS);
+        self.make_room(number)?;
+        self.note(number);
         Ok(())
     }
 
@@ -63,6 +82,7 @@ impl NumberSet {
 }
 
 // Adds words of no number, until there are so many.
+#[inline(never)]
 fn grow(words: &mut Vec<u64>, count: usize) -> Result<(), NoMemory>
     ensures room { OnOk result (count ≤ length words.new.items) }
     ensures same { (i : ℕ) → has_number words.new.items i ≡ has_number words.old.items i }

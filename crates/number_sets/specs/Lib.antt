@@ -1,0 +1,2 @@
+pub mod NumberSets
+pub mod NumberLaws
