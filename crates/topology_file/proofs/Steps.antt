@@ -20,6 +20,7 @@ use Rattle.topology_file.specs.declared.faults.NetKind.TheVariants.{AfterThen, B
 use Rattle.topology_file.specs.declared.faults.What.TheVariants.{Arcs}
 use Rattle.topology_file.specs.declared.errors.LineError.{LineError}
 use Rattle.topology_file.specs.declared.errors.LineError.TheVariants.{Bad, NoMemory}
+use Rattle.topology_file.specs.declared.forms.ArcLine.{ArcLine}
 use Rattle.topology_file.specs.declared.forms.Ways.{Ways}
 use Rattle.topology_file.specs.declared.forms.Ways.TheVariants.{One, Both}
 use Rattle.topology_file.specs.declared.forms.NetLine.{NetLine}
@@ -27,8 +28,8 @@ use Rattle.topology_file.specs.declared.forms.NetLine.TheVariants as lines
 use Rattle.topology_file.specs.Texts.{words_of}
 use Rattle.topology_file.specs.Forms.{nodes, bad}
 use Rattle.topology_file.specs.NetText.{PureNetFile, changed_net, and_then, ends_in, label_in, has_room_to_link, with_change, with_net, after_nodes, after_then_link, after_then_drop, after_form}
-use Rattle.topology_file.specs.LineErrors.{IsRefusedAs, AreEnds, after_arcs, after_net_line, late_fault}
-use Rattle.topology_file.specs.Views.{IsDraft, file_with, arc_form, pure_net_line}
+use Rattle.topology_file.specs.LineErrors.{IsRefusedAs, AreEnds, after_arcs, after_arc_line, after_net_line, late_fault}
+use Rattle.topology_file.specs.Views.{IsDraft, file_with, arc_form, pure_arc_line, pure_net_line}
 
 -- a destination that was just added has no origin
 pub new_dest_has_none : (net : PureNet) (name : List ℕ) (dest node : ℕ) → IsNet net → dest ≡ length net.dests → has_origin (with_dest net name) dest node ≡ false
@@ -136,3 +137,13 @@ early_ok f line net e made = early f line e ∙ rw made refl
 pub early_bad : (f : PureNetFile) (line : NetLine) (e : LineError) → f.changes ≡ [] → IsRefusedAs (after_net_line f.net line) e → IsRefusedAs (after_form spelled f (pure_net_line line)) e
 early_bad f line (Bad kind) none made = early f line none ∙ rw made refl
 early_bad f line NoMemory none made = tt
+
+-- and the same of the line of an arc
+pub late_arc : (f : PureNetFile) (c : PureChange) (cs : List PureChange) (line : ArcLine) → f.changes ≡ c ∷ cs → after_form spelled f (pure_arc_line line) ≡ Err AfterThen
+late_arc f c cs line e = late f c cs (lines.Arc line) e
+
+pub early_arc_ok : (f : PureNetFile) (line : ArcLine) (net : PureNet) → f.changes ≡ [] → after_arc_line f.net line ≡ Ok net → after_form spelled f (pure_arc_line line) ≡ Ok (record f { net = net })
+early_arc_ok f line net e made = early_ok f (lines.Arc line) net e made
+
+pub early_arc_bad : (f : PureNetFile) (line : ArcLine) (e : LineError) → f.changes ≡ [] → IsRefusedAs (after_arc_line f.net line) e → IsRefusedAs (after_form spelled f (pure_arc_line line)) e
+early_arc_bad f line e none made = early_bad f (lines.Arc line) e none made

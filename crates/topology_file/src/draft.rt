@@ -8,15 +8,15 @@ ghost use Rattle.net_graph.specs.Views.{pure_change};
 ghost use Rattle.sig_text.specs.Spelled.{spelled};
 ghost use Rattle.topology_file.specs.NetText.{changed_net, empty_file, has_room_to_link, with_change, after_then_link, after_then_drop, after_form, after_line};
 ghost use Rattle.topology_file.specs.LineErrors.{IsFirstAdded, IsFirstRefused, IsRefusedAs, late_fault as late_fault_of};
-ghost use Rattle.topology_file.specs.Views.{NamesDest, pure_net_line, pure_file};
+ghost use Rattle.topology_file.specs.Views.{NamesDest, pure_arc_line, pure_net_line, pure_file};
 ghost use Rattle.topology_file.specs.declared.errors.LineError.TheVariants.{Bad};
 ghost use Rattle.topology_file.specs.declared.faults.NetKind.TheVariants.{TooMany};
 ghost use Rattle.topology_file.specs.declared.faults.What.TheVariants.{Arcs};
 
 use crate::errors::{LineError, label_of};
-use crate::forms::{Line, NetLine, line_form};
+use crate::forms::{ArcLine, Line, NetLine, line_form};
 use crate::known::KnownTexts;
-use crate::lines::{add_net_line, fault_after, nodes_of};
+use crate::lines::{add_arcs, add_net_line, fault_after, nodes_of};
 use crate::quick_forms::arc_line;
 use crate::texts::{first_line, said};
 use crate::{MAX_LINE_BYTES, NetFile, NetKind, What};
@@ -98,10 +98,10 @@ impl<'a> FileDraft<'a> {
         ensures ok { IfOk result (λ others. IsFirstAdded self.old text.now self.new others.now) }
         ensures bad { IfErr result (IsFirstRefused self.old text.now) }
     {
-        let first = arc_line(text);
-        if let Some((line, others)) = &first {
-            self.add_to_network(line)?;
-            return Ok(*others);
+        let mut line = ArcLine::blank();
+        if let Some(others) = arc_line(text, &mut line) {
+            self.add_arc_line(&line)?;
+            return Ok(others);
         }
         let (line, others) = first_line(text);
         self.add_line(line)?;
@@ -128,6 +128,21 @@ impl<'a> FileDraft<'a> {
             Line::ThenDrop { listener, speaker } => self.add_then_drop(listener, speaker),
             Line::Bad => Err(LineError::Bad(NetKind::BadLine)),
         }
+    }
+
+    // The line of an arc, which stands before all changes.
+    #[tactic(auto, using(crate::proofs::Steps::late_arc, crate::proofs::Steps::early_arc_ok, crate::proofs::Steps::early_arc_bad))]
+    fn add_arc_line(&mut self, line: &ArcLine<'a>) -> Result<(), LineError>
+        ensures ok { OnOk result (after_form spelled self.old (pure_arc_line line.now) ≡ Ok self.new) }
+        ensures bad { IfErr result (IsRefusedAs (after_form spelled self.old (pure_arc_line line.now))) }
+    {
+        if !self.changes.as_slice().is_empty() {
+            return Err(LineError::Bad(NetKind::AfterThen));
+        }
+        // The arcs are counted after a refusal too: of two, one may have been added.
+        let added = add_arcs(self.alloc, &mut self.draft, &mut self.known, line);
+        self.arc_count = self.draft.arc_count();
+        added
     }
 
     // A line of the network, which stands before all changes.

@@ -55,6 +55,18 @@ pub struct ArcLine<'a> {
     pub label: Word<'a>,
 }
 
+impl<'a> ArcLine<'a> {
+    /// Where no part was read yet.
+    pub fn blank() -> ArcLine<'a> {
+        ArcLine {
+            ways: Ways::One,
+            listener: Word::of(b""),
+            speaker: Word::of(b""),
+            label: Word::of(b""),
+        }
+    }
+}
+
 /// Which arcs a line asks for.
 #[derive(Clone, Copy, Debug)]
 pub enum Ways {

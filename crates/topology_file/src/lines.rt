@@ -266,8 +266,8 @@ fn check_room(draft: &NetDraft, count: usize) -> Result<(), LineError>
     Ok(())
 }
 
-// Adds the arcs that a line asks for, with the label that its text spells.
-fn add_arcs<'a>(
+/// Adds the arcs that a line asks for, with the label that its text spells. After an error some of it may have been added.
+pub fn add_arcs<'a>(
     alloc: Global,
     draft: &mut NetDraft,
     known: &mut KnownTexts<'a>,

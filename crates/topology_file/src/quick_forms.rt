@@ -3,40 +3,34 @@ ghost use Rattle.std.specs.Prelude.{◌≡◌, ◌≤◌, true, length, take, dr
 ghost use Rattle.meta_base.specs.Bytes.{front, after_front};
 ghost use Rattle.net_graph.specs.Nets.{is_name_byte};
 ghost use Rattle.topology_file.specs.Keys.{AreBytes, key_from};
-ghost use Rattle.topology_file.specs.Views.{pure_net_line, NamesDest};
+ghost use Rattle.topology_file.specs.Views.{pure_arc_line};
 ghost use Rattle.topology_file.specs.QuickForms.{begins_with, ends_name, has_name_length, is_said_byte, word_of, BeginsNamed, IsColonThen, IsAfterEnd, EndsLine, BeginsWithLine};
 
 use crate::MAX_LINE_BYTES;
-use crate::forms::{ArcLine, NetLine, Ways};
+use crate::forms::{ArcLine, Ways};
 use crate::names::is_name_part;
 use crate::texts::{after_one, split_at_byte};
 use crate::word::{Word, key_with};
 use meta_base::bytes::{after_blanks, is_blank};
 
 // Kept out of the loop over lines, where there are too few registers for it.
-/// The first line of a text, if it is one of an arc, and the text of the other lines. Where it is `None` the first line
-/// may still be one.
+/// The text of the lines after the first, if that is one of an arc, whose parts are written where they are lent. Where it
+/// is `None` the first line may still be one, and what is written isn't said.
 #[inline(never)]
-pub fn arc_line(text: &[u8]) -> Option<(NetLine<'_>, &[u8])>
-    ensures line { IfSome result (λ split. BeginsWithLine text.now split.1.now (pure_net_line split.0)) }
-    ensures dest { IfSome result (λ split. NamesDest split.0) }
+pub fn arc_line<'a>(text: &'a [u8], line: &mut ArcLine<'a>) -> Option<&'a [u8]>
+    ensures { IfSome result (λ others. BeginsWithLine text.now others.now (pure_arc_line line.new)) }
 {
     let (ways, rest) = split_ways(text)?;
-    let (listener, rest) = split_name(rest)?;
-    let (speaker, rest) = split_name(rest)?;
-    let (label, rest) = split_said(after_colon(rest)?);
+    line.ways = ways;
+    let rest = split_name(rest, &mut line.listener)?;
+    let rest = split_name(rest, &mut line.speaker)?;
+    let rest = split_said(after_colon(rest)?, &mut line.label);
     let rest = after_end(rest);
     let others = after_line(rest)?;
     if text.len().saturating_sub(rest.len()) > MAX_LINE_BYTES {
         return None;
     }
-    let line = NetLine::Arc(ArcLine {
-        ways,
-        listener,
-        speaker,
-        label,
-    });
-    Some((line, others))
+    Some(others)
 }
 
 // Which arcs the first word asks for, and the text after it.
@@ -51,16 +45,18 @@ fn split_ways(text: &[u8]) -> Option<(Ways, &[u8])>
     }
 }
 
-// The first word, which is a name, and the text after it. Where it is `None` there may still be one.
-fn split_name(text: &[u8]) -> Option<(Word<'_>, &[u8])>
-    ensures { IfSome result (λ split. BeginsNamed text.now split.0 split.1.now) }
+// The text after the first word, which is a name and is written where it is lent. Where it is `None` there may still be
+// one.
+fn split_name<'a>(text: &'a [u8], name: &mut Word<'a>) -> Option<&'a [u8]>
+    ensures { IfSome result (λ rest. BeginsNamed text.now name.new rest.now) }
 {
     let text = after_blanks(text);
-    let (name, rest) = split_after_name(text);
-    if !is_of_name_length(name.text()) || !is_name_ended(rest) {
+    let (first, rest) = split_after_name(text);
+    if !is_of_name_length(first.text()) || !is_name_ended(rest) {
         return None;
     }
-    Some((name, rest))
+    *name = first;
+    Some(rest)
 }
 
 // The text after a colon, if nothing but blanks stands before it.
@@ -113,15 +109,16 @@ fn name_front(text: &[u8]) -> (usize, u64)
 }
 
 // Kept apart for the same reason.
-// The bytes up to the first that may end what a line says, and the text from there on.
+// The text from the first byte on that may end what a line says. The bytes before it are written where they are lent.
 #[inline(never)]
-fn split_said(text: &[u8]) -> (Word<'_>, &[u8])
-    ensures front { result.0 ≡ front is_said_byte text.now }
-    ensures after_front { result.1.now ≡ after_front is_said_byte text.now }
+fn split_said<'a>(text: &'a [u8], said: &mut Word<'a>) -> &'a [u8]
+    ensures front { said.new ≡ front is_said_byte text.now }
+    ensures after_front { result.now ≡ after_front is_said_byte text.now }
 {
     let (len, key) = said_front(text);
-    let (said, rest) = text.split_at(len);
-    (Word::keyed(said, key), rest)
+    let (bytes, rest) = text.split_at(len);
+    *said = Word::keyed(bytes, key);
+    rest
 }
 
 // How many these bytes are, and their key.
