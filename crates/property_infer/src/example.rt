@@ -11,9 +11,9 @@ ghost use Rattle.property_infer.specs.Asked.{IsAction, IsSmallIn};
 
 use crate::action::Action::{self, Constant, Deny, Keep, OfLabel};
 use crate::pairs::{OfPair, asked_of_pair, beside, spanned};
-use crate::parts::part_carrier;
+use crate::parts::{best_value, part_carrier};
 use crate::sides::{OfSides, across, asked_of_sides, on_first, on_second};
-use alg_classes::{Example, Fact, apart, best, worse_than};
+use alg_classes::{Example, Fact, apart, worse_than};
 use alg_model::{Label, LabelForm, Tree, Value};
 use base_classes::base_example;
 use meta_base::NoMemory;
@@ -186,9 +186,7 @@ fn kept_example(alloc: Global, part: &Tree, fact: Fact) -> Result<Option<Example
     ensures small { IfOk result (λ o. ExampleAtMost MAX_INSTANCE_NUMBER (option_map pure_example o)) }
 {
     match fact {
-        Fact::Dead | Fact::Strict => {
-            Ok(Some(Example::At(best(alloc, &part_carrier(alloc, part)?)?)))
-        }
+        Fact::Dead | Fact::Strict => Ok(Some(Example::At(best_value(alloc, part)?))),
         Fact::Condensed | Fact::Narrow => Ok(Example::between(apart(
             alloc,
             &part_carrier(alloc, part)?,
@@ -219,5 +217,5 @@ fn any_value(alloc: Global, action: Action<'_>) -> Result<Value, NoMemory>
     requires { (e : Edition) × IsAction e action }
     ensures { IfOk result (λ v. IsSmallIn action.entry (pure_value v)) }
 {
-    best(alloc, &part_carrier(alloc, action.part())?)
+    best_value(alloc, action.part())
 }

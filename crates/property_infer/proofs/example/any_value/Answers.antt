@@ -11,6 +11,6 @@ use Rattle.property_infer.proofs.example.any_value.Goals as goal
 pub returns : goal.returns
 returns c =
     let d = carrier_under c.args.action in
-    let same = c.in_ok-part_carrier.ensures.carrier ∙ ap carrier_of c.part.ensures in
+    let same = ap carrier_of c.part.ensures in
     let in_it = best_in d (carriers_are (part_of c.args.action) c.requires.1.alg.formed) in
-    both_if_ok c.best.result _ _ _ (λ v e s. (subst (In d) (sym (e ∙ ap best same)) in_it, label_number_is_small (pure_value v) s)) c.best.ensures.value c.best.ensures.small
+    both_if_ok c.best_value.result _ _ _ (λ v e s. (subst (In d) (sym (e ∙ ap best same)) in_it, label_number_is_small (pure_value v) s)) c.best_value.ensures.value c.best_value.ensures.small

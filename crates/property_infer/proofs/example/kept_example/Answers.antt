@@ -4,8 +4,8 @@ use Rattle.alg_model.specs.Views.{expression_of, pure_carrier, pure_value}
 use Rattle.property_infer.proofs.Leaves.{apart_made, kept_apart, label_number_is_small}
 use Rattle.property_infer.proofs.example.kept_example.Goals as goal
 
-pub returns-in_ok-best-in-Dead-clause-small : goal.returns-in_ok-best-in-Dead-clause-small
-returns-in_ok-best-in-Dead-clause-small c = label_number_is_small (pure_value c.in_ok-best-in-Dead.field-0) c.in_ok-best-in-Dead.ensures.small
+pub returns-in_ok-best_value-in-Dead-clause-small : goal.returns-in_ok-best_value-in-Dead-clause-small
+returns-in_ok-best_value-in-Dead-clause-small c = label_number_is_small (pure_value c.in_ok-best_value-in-Dead.field-0) c.in_ok-best_value-in-Dead.ensures.small
 
 pub returns-in_ok-apart-in-Condensed-clause-made : goal.returns-in_ok-apart-in-Condensed-clause-made
 returns-in_ok-apart-in-Condensed-clause-made c =
