@@ -37,6 +37,7 @@ use topology_file::NetFile;
 /// What comes back says all that was read, decided and answered, and the bytes written are the text of
 /// that. Each refusal has its cause. Where the words mean a command, the files are in their grammars and no
 /// fault came, the command is carried out unless memory is refused: [`crate::nothing_is_given_up`].
+#[inline(always)]
 pub fn run_meta<R: AllocGlobal + Threads + Wait + Sync, S: Shelf, K: Sink, G: Gate>(
     rt: &R,
     words: &[Text],
