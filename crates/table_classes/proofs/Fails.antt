@@ -1,12 +1,17 @@
 -- Facts that fail at values with an image.
-use Rattle.std.proofs.Common.{◌≡◌, refl, sym, ap, subst, ℕ, Bool, true, false, not, Option, Some, None, option_map}
+use Rattle.std.proofs.Common.{◌≡◌, refl, sym, ap, subst, ℕ, Bool, true, false, not, Option, Some, None, option_map, IfSome, length, ◌<◌}
 use Rattle.std.specs.Option.{is_some}
 use Rattle.alg_model.specs.Expressions.{PureValue, name}
 use Rattle.alg_model.specs.Carriers.{IsPreferred}
 use Rattle.alg_classes.specs.declared.fact.Fact.TheVariants.{Dead, Strict, Condensed, Narrow}
 use Rattle.alg_classes.specs.Classes.{IsTruthOf}
-use Rattle.table_classes.specs.Rows.{PureRow, image_at, row_carrier}
+use Rattle.table_classes.specs.Rows.{PureRow, IsRow, image_at, row_carrier}
 use Rattle.table_classes.specs.Found.{FailsAtPlace, FailsBetween}
+
+-- an image is one of the values
+pub image_within : (row : PureRow) → IsRow row → (k : ℕ) (o : Option ℕ) → o ≡ image_at row.images k → IfSome o (λ i. i < length row.names)
+image_within row is k None e = tt
+image_within row is k (Some i) e = is.within k i (sym e)
 
 not_both : (b : Bool) → b ≡ true → not b ≡ true → ⊥
 not_both true e h = cc

@@ -32,6 +32,17 @@ counts : (t : TableSpec) → is_table t ≡ true → (is_table_count (length t.n
 counts t h = first_two (is_table_count (length t.names)) (is_table_count (length t.rows)) (length t.ranks == length t.names) (are_ranks t.ranks)
     (list_all (is_row_over (length t.names)) t.rows) h
 
+-- each value of a table has a rank
+all_ranked : (t : TableSpec) → is_table t ≡ true → length t.ranks ≡ length t.names
+all_ranked t h = as_many (length t.ranks) (length t.names) (third (is_table_count (length t.names)) (is_table_count (length t.rows))
+    (length t.ranks == length t.names) (are_ranks t.ranks) (list_all (is_row_over (length t.names)) t.rows) h)
+  where
+    third : (a b c d e : Bool) → (a && b && c && d && e) ≡ true → c ≡ true
+    third a b c d e h = (and_parts (a && b) c (and_parts (a && b && c) d (and_parts (a && b && c && d) e h).0).0).1
+
+    as_many : (m n : ℕ) → (m == n) ≡ true → m ≡ n
+    as_many m n h = grind (arith, nat_tests)
+
 -- a table has few rows
 pub few_rows : (t : TableSpec) → is_table t ≡ true → length t.rows ≤ MAX_TABLE_NAMES
 few_rows t h = most (length t.rows) (counts t h).1
@@ -52,6 +63,7 @@ image_same t r row h e k =
 pub row_is : (t : TableSpec) (r : ℕ) (row : TableRow) → is_table t ≡ true → r < length t.rows → row ≡ get_or t.rows r row → IsRow (row_in t row)
 row_is t r row is h e = record {
   few = most (length t.names) (counts t is).0;
+  ranked = all_ranked t is;
   within = λ k place f. image_of_within t r k place is (image_same t r row h e k ∙ f);
 }
 

@@ -27,9 +27,10 @@ pub record PureRow : Type 0 where
 abbrev pub image_at : List (Option ℕ) → ℕ → Option ℕ
 image_at images k = option_and_then (λ image. image) (slice_get images k)
 
--- the values are few, and each image is one of them
+-- the values are few, each has a rank, and each image is one of them
 pub record IsRow (row : PureRow) : Type 0 where
   pub few : length row.names ≤ max_table_names
+  pub ranked : length row.ranks ≡ length row.names
   pub within : (k place : ℕ) → image_at row.images k ≡ Some place → place < length row.names
 
 -- the values that the row acts on

@@ -1,4 +1,4 @@
-ghost use Rattle.std.specs.Prelude.{◌≡◌, length, slice_index, option_map};
+ghost use Rattle.std.specs.Prelude.{◌≡◌, ◌<◌, length, slice_index, option_map, IfSome};
 ghost use Rattle.alg_model.specs.Expressions.{name};
 ghost use Rattle.alg_model.specs.Views.{expression_of, pure_label};
 ghost use Rattle.alg_model.specs.Application.{IsLabel};
@@ -58,22 +58,35 @@ impl<'a> Row<'a> {
         self.names.len() as u8
     }
 
-    // The image of the value at that place, if there is one.
-    pub(crate) fn image(&self, place: u8) -> Option<u8>
+    // What stands at that place of the row, if anything does.
+    fn entry(&self, place: u8) -> Option<u8>
         ensures { result ≡ image_at self.now.images place }
     {
         *self.images.get(usize::from(place))?
     }
 
+    // The image of the value at that place, if there is one.
+    pub(crate) fn image(&self, place: u8) -> Option<u8>
+        ensures image { result ≡ image_at self.now.images place }
+        ensures within { IfSome result (λ image. image < length self.now.names) }
+    {
+        // (images are values)
+        self.count();
+        self.entry(place)
+    }
+
     // The rank of the value at that place.
     fn rank(&self, place: u8) -> u8
+        requires { place < length self.now.names }
         ensures { result ≡ slice_index self.now.ranks place }
     {
-        self.ranks.get(usize::from(place)).copied().unwrap_or(0)
+        self.ranks[usize::from(place)]
     }
 
     // Which of two values, or none, is preferred.
     fn order(&self, u: Option<u8>, v: Option<u8>) -> Ordering
+        requires first { IfSome u (λ u. u < length self.now.names) }
+        requires second { IfSome v (λ v. v < length self.now.names) }
         ensures { result ≡ OrderOrNone (row_carrier self.now) (option_map name u) (option_map name v) }
     {
         match (u, v) {
@@ -86,6 +99,8 @@ impl<'a> Row<'a> {
 
     // The first is preferred to the second.
     fn is_preferred(&self, u: Option<u8>, v: Option<u8>) -> bool
+        requires first { IfSome u (λ u. u < length self.now.names) }
+        requires second { IfSome v (λ v. v < length self.now.names) }
         ensures { IsTruthOf result (IsPreferred (row_carrier self.now) (option_map name u) (option_map name v)) }
     {
         self.order(u, v).is_lt()
@@ -93,6 +108,8 @@ impl<'a> Row<'a> {
 
     // Both are values, and neither is preferred.
     fn are_equivalent(&self, u: Option<u8>, v: Option<u8>) -> bool
+        requires first { IfSome u (λ u. u < length self.now.names) }
+        requires second { IfSome v (λ v. v < length self.now.names) }
         ensures { IsTruthOf result (AreEquivalent (row_carrier self.now) (option_map name u) (option_map name v)) }
     {
         u.is_some() && v.is_some() && self.order(u, v).is_eq()
@@ -100,6 +117,7 @@ impl<'a> Row<'a> {
 
     // The fact fails at this value.
     pub(crate) fn fails_at(&self, fact: ValueFact, u: u8) -> bool
+        requires { u < length self.now.names }
         ensures { IsTruthOf result (FailsAtPlace self.now (value_fact fact) u) }
     {
         match (fact, self.image(u)) {
@@ -113,7 +131,10 @@ impl<'a> Row<'a> {
 
     // The fact fails between these values, in this order. The first has this image, which a search asks for once.
     pub(crate) fn fails_between(&self, fact: PairFact, u: u8, image: Option<u8>, v: u8) -> bool
-        requires { image ≡ image_at self.now.images u }
+        requires image { image ≡ image_at self.now.images u }
+        requires within { IfSome image (λ image. image < length self.now.names) }
+        requires first { u < length self.now.names }
+        requires second { v < length self.now.names }
         ensures { IsTruthOf result (FailsBetween self.now (pair_fact fact) u v) }
     {
         match (fact, image, self.image(v)) {

@@ -33,6 +33,7 @@ impl Row<'_> {
 
     // The first value that with u before it refutes the fact, if one does.
     fn find_second(&self, fact: PairFact, u: u8) -> Option<u8>
+        requires { u < length self.now.names }
         ensures { MatchOption result
             ((v : ℕ) → v < length self.now.names → ¬ FailsBetween self.now (pair_fact fact) u v)
             (λ v. (v < length self.now.names) × FailsBetween self.now (pair_fact fact) u v) }
