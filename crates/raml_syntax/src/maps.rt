@@ -237,6 +237,7 @@ fn take_any_after_map(tokens: &mut Tokens<'_>) -> Result<AfterMap, AlgError>
 }
 
 // Reads the target of a map of the value at that place.
+#[inline(always)]
 fn read_target<'a>(
     tokens: &mut Tokens<'a>,
     names: &[Text],
@@ -255,6 +256,7 @@ fn read_target<'a>(
 }
 
 // Reads a map whose source was taken before, after these maps. The source may be known to be the next of the names.
+#[inline(always)]
 fn read_map<'a>(
     tokens: &mut Tokens<'a>,
     names: &[Text],

@@ -1,5 +1,5 @@
 // The values of a table.
-ghost use Rattle.std.specs.Prelude.{◌≡◌, ◌+◌, ◌<◌, ◌≤◌, ◌^◌, ◌&&◌, true, length, not, nat_le, IfOk, OnOk};
+ghost use Rattle.std.specs.Prelude.{◌≡◌, ◌+◌, ◌*◌, ◌<◌, ◌≤◌, ◌^◌, ◌&&◌, true, length, not, nat_le, IfOk, OnOk};
 ghost use Rattle.std.specs.Str.{IsAscii, bytes_eq};
 ghost use Rattle.alg_model.specs.declared.alg.TheConstants.{MAX_TABLE_NAMES};
 ghost use Rattle.raml_syntax.specs.Leaves.{IsReady};
@@ -48,8 +48,16 @@ fn ends_alike(name: &[u8], word: &[u8]) -> bool
     word.is_empty() || name[word.len() - 1] == word[word.len() - 1]
 }
 
-// Whether two words, of one length, have the same bytes. Words are short, so their bytes are compared in turn.
-fn are_spelled_alike(name: &[u8], word: &[u8]) -> bool
+// The number that four bytes make, which no other four make.
+#[inline(always)]
+fn number_of(a: u8, b: u8, c: u8, d: u8) -> u32
+    ensures { result ≡ a + b * 256 + c * 65536 + d * 16777216 }
+{
+    u32::from_le_bytes([a, b, c, d])
+}
+
+// Whether two words, of one length, have the same bytes, which are compared in turn.
+fn are_alike_in_turn(name: &[u8], word: &[u8]) -> bool
     requires { length name.now ≡ length word.now }
     ensures { result ≡ bytes_eq name.now word.now }
 {
@@ -59,6 +67,20 @@ fn are_spelled_alike(name: &[u8], word: &[u8]) -> bool
         }
     }
     true
+}
+
+// Whether two words, of one length, have the same bytes. Words are short: the first four bytes are compared at once, and
+// those after them in turn.
+fn are_spelled_alike(name: &[u8], word: &[u8]) -> bool
+    requires { length name.now ≡ length word.now }
+    ensures { result ≡ bytes_eq name.now word.now }
+{
+    match (name, word) {
+        ([a, b, c, d, name @ ..], [e, f, g, h, word @ ..]) => {
+            number_of(*a, *b, *c, *d) == number_of(*e, *f, *g, *h) && are_alike_in_turn(name, word)
+        }
+        _ => are_alike_in_turn(name, word),
+    }
 }
 
 /// Whether both are the same word. Names of a table are mostly alike at their front, so the last byte is compared

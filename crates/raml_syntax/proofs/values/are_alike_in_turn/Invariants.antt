@@ -1,6 +1,6 @@
 use Rattle.std.proofs.Common.{◌≡◌, drop}
 use Rattle.std.specs.Str.{bytes_eq}
-use Rattle.raml_syntax.proofs.values.are_spelled_alike.Given as goal
+use Rattle.raml_syntax.proofs.values.are_alike_in_turn.Given as goal
 
 -- what is left decides
 abbrev pub invariant-loop-place : goal.invariant-loop-place
