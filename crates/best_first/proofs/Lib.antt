@@ -6,6 +6,7 @@ pub mod Queues
 pub mod Speaking
 pub mod Advancing
 pub mod Origins
+pub mod Slots
 pub mod Offering
 pub mod Fixing
 pub mod Unique

@@ -13,8 +13,9 @@ use Rattle.best_first.specs.declared.route.OpenPlace.{OpenPlace}
 use Rattle.best_first.specs.Found.{found-map, found_at, AllFound}
 use Rattle.best_first.specs.KeyOrder.{found_in, slots_asymmetric, slots_transitive}
 use Rattle.best_first.specs.Keys.{key_of, best_of, precedes, key_at}
-use Rattle.best_first.specs.Queue.{IsRanked, IsOpen, IsNext, is_wanted}
+use Rattle.best_first.specs.Queue.{AreAtTheirNodes, AreRanked, IsRanked, IsOpen, IsNext, is_wanted}
 use Rattle.best_first.proofs.Places.{all-set, found_within}
+use Rattle.best_first.proofs.Slots.{places-set}
 use Rattle.best_first.proofs.Queues.{raise_asks, replay_asks, next_is}
 
 module _ {S : Type 0} (value : S → PureValue) (is_sig : S → Type 0) (c : PureCarrier) (sig_in : (s : S) → is_sig s → In c (value s))
@@ -46,6 +47,17 @@ module _ {S : Type 0} (value : S → PureValue) (is_sig : S → Type 0) (c : Pur
         by : (o : Option S) → IfSome o is_sig → IfSome (option_map {U = OpenRoute S} (λ sig. record { sig = sig; place = place }) o) (λ o. is_sig o.sig)
         by None h = tt
         by (Some sig) h = h
+
+    pub kept_places : AreAtTheirNodes best → (place : OpenPlace) (spare : Option S) → place.node.0 < length best → AreAtTheirNodes (set best place.node.0 (option_map (λ sig. record { sig = sig; place = place }) spare))
+    kept_places places place spare within = places-set best place.node.0 (option_map (λ sig. record { sig = sig; place = place }) spare) within places (by spare)
+      where
+        by : (o : Option S) → IfSome (option_map {U = OpenRoute S} (λ sig. record { sig = sig; place = place }) o) (λ o. o.place.node.0 ≡ place.node.0)
+        by None = tt
+        by (Some sig) = refl
+
+    -- the first route that a node is offered is wanted
+    pub first_wanted : (place : OpenPlace) (sig : S) → found_at best place.node.0 ≡ None → is_wanted c place (Some (value sig)) (best_of value best) ≡ true
+    first_wanted place sig none = rw (found-map (key_of value) best place.node.0, none) refl
 
     pub kept_best : (place : OpenPlace) (spare : Option S) → best_of value (set best place.node.0 (option_map (λ sig. record { sig = sig; place = place }) spare))
         ≡ set (best_of value best) place.node.0 (option_map (key_at place) (option_map value spare))
@@ -84,12 +96,21 @@ module _ {S : Type 0} (value : S → PureValue) (is_sig : S → Type 0) (c : Pur
 
 -- each best route stands at its node
 pub at_their_nodes : {S : Type 0} (value : S → PureValue) (is_sig : S → Type 0) (c : PureCarrier) (reported : Reported) (best : List (Option (OpenRoute S))) (t : PureTournament) → IsOpen value is_sig c reported best t
-    → (k : ℕ) → IfSome (found_at best k) (λ o. o.place.node.0 ≡ k)
+    → AreAtTheirNodes best
 at_their_nodes {S = S} value is_sig c reported best t opened k = by (found_at best k) refl
   where
     by : (o : Option (OpenRoute S)) → found_at best k ≡ o → IfSome o (λ o. o.place.node.0 ≡ k)
     by None e = tt
     by (Some route) e = (opened.queue.bests k (key_of value route) (found-map (key_of value) best k ∙ ap (option_map (key_of value)) e)).node
+
+-- so the tournament ranks them
+pub ranked_of : {S : Type 0} (value : S → PureValue) (is_sig : S → Type 0) (c : PureCarrier) (reported : Reported) (best : List (Option (OpenRoute S))) (t : PureTournament) → IsOpen value is_sig c reported best t
+    → AreRanked value is_sig c best t
+ranked_of value is_sig c reported best t opened = record {
+  sigs = opened.sigs;
+  places = at_their_nodes value is_sig c reported best t opened;
+  ranked = opened.queue.ranked;
+}
 
 -- the best route of all was taken out
 pub next_taken : {S : Type 0} (value : S → PureValue) (is_sig : S → Type 0) (c : PureCarrier) (reported : Reported) (best new_best : List (Option (OpenRoute S))) (t new_t : PureTournament) (route : OpenRoute S)

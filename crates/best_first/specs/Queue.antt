@@ -1,5 +1,5 @@
 -- What is open between two nodes that are fixed.
-use Rattle.std.specs.Prelude.{◌≡◌, ℕ, List, Bool, false, Option, Some, None, length, MatchBool, ◌==◌, if◌then◌else◌}
+use Rattle.std.specs.Prelude.{◌≡◌, ℕ, List, Bool, false, Option, Some, None, length, IfSome, MatchBool, ◌==◌, if◌then◌else◌}
 use Rattle.std.proofs.Math.ListN.{set}
 use Rattle.frontier.specs.Tournaments.{PureTournament, IsJudged}
 use Rattle.alg_model.specs.Expressions.{PureCarrier, PureValue}
@@ -32,9 +32,14 @@ pub record IsOpen {S : Type 0} (value : S → PureValue) (is_sig : S → Type 0)
   pub sigs : AllFound (λ o. is_sig o.sig) best
   pub queue : IsQueue c reported (best_of value best) standing
 
--- the values that the program keeps are the algebra's, and its tournament ranks the nodes by their best routes
+-- each best route is one of its node
+abbrev pub AreAtTheirNodes : {S : Type 0} → List (Option (OpenRoute S)) → Type 0
+AreAtTheirNodes best = (k : ℕ) → IfSome (found_at best k) (λ o. o.place.node.0 ≡ k)
+
+-- the values that the program keeps are the algebra's, its routes stand at their nodes, and its tournament ranks the nodes by them
 pub record AreRanked {S : Type 0} (value : S → PureValue) (is_sig : S → Type 0) (c : PureCarrier) (best : List (Option (OpenRoute S))) (standing : PureTournament) : Type 0 where
   pub sigs : AllFound (λ o. is_sig o.sig) best
+  pub places : AreAtTheirNodes best
   pub ranked : IsRanked c (best_of value best) standing
 
 -- whether there is a value, and its key there beats the best of the node

@@ -31,10 +31,7 @@ impl<S: Drop> Fixed<S> {
         ensures rows { IfOk result (λ fixed. fixed.rows.items ≡ replicate count None) }
         ensures paths { IfOk result (λ fixed. fixed.paths ≡ []) }
     {
-        let mut rows = Vec::with_capacity(alloc, count)?;
-        for _made in 0..count {
-            rows.push(None)?;
-        }
+        let rows = none_of(alloc, count)?;
         let paths = Paths::with_room(alloc, count, count)?;
         Ok(Fixed { rows, paths })
     }
@@ -67,6 +64,17 @@ impl<S: Drop> Fixed<S> {
             None => unreachable!(),
         }
     }
+}
+
+// Places for so many, in which there is none yet.
+pub(crate) fn none_of<T: Drop>(alloc: Global, count: usize) -> Result<Vec<Option<T>>, NoMemory>
+    ensures { IfOk result (λ places. places.items ≡ replicate count None) }
+{
+    let mut places = Vec::with_capacity(alloc, count)?;
+    for _made in 0..count {
+        places.push_reserved(None);
+    }
+    Ok(places)
 }
 
 // Adds the path that goes from the node on along that of the next node, or the node's own alone.

@@ -1,11 +1,12 @@
 ghost use Rattle.std.specs.Prelude.{◌≡◌, ◌≢◌, ◌<◌, ℕ, Bool, Some, None, true, false, length, vec_len, replicate, IfOk, IfSome, IfNone, option_map};
 ghost use Rattle.std.proofs.Math.ListN.{set};
-ghost use Rattle.frontier.specs.Tournaments.{IsJudged, IsFirstSlot};
+ghost use Rattle.frontier.specs.Tournaments.{IsJudged, IsJudgedBut, IsFirstSlot};
 ghost use Rattle.alg_model.specs.Carriers.{carrier_of};
 ghost use Rattle.best_first.specs.Found.{found_at, AllFound};
 ghost use Rattle.best_first.specs.Keys.{key_of, key_at, best_of, precedes, beats as beats_of};
-ghost use Rattle.best_first.specs.Queue.{IsOffered, AreRanked, is_wanted};
+ghost use Rattle.best_first.specs.Queue.{AreAtTheirNodes, IsOffered, AreRanked, is_wanted};
 
+use crate::fixed::none_of;
 use crate::route::{ByRoute, OpenPlace, OpenRoute, comes_first};
 use alg_model::Algebra;
 use frontier::{Steps, Tournament};
@@ -34,12 +35,8 @@ impl<A: Algebra, L: Ledger> Open<A, L> {
         ensures judged { (before : ℕ → ℕ → Bool) → ((k m : ℕ) → k < count → m < count → before k m ≡ false) →
             IfOk result (λ made. IsJudged before made.standing) }
     {
-        let mut best = Vec::with_capacity(alloc, count)?;
-        for _made in 0..count {
-            best.push(None)?;
-        }
         Ok(Open {
-            best,
+            best: none_of(alloc, count)?,
             standing: Tournament::new(alloc, count)?,
             spare: None,
             steps: Steps::new(blank),
@@ -60,11 +57,56 @@ impl<A: Algebra, L: Ledger> Open<A, L> {
             IsOffered (carrier_of (A.expression algebra.now)) (key_of value route)
             (best_of value self.old.best.items) (best_of value self.new.best.items) }
     {
+        if self.best[route.place.node.0 as usize].is_none() {
+            self.open_node(algebra, route);
+            return;
+        }
         let OpenRoute { sig, place } = route;
         self.spare = Some(sig);
         if self.wants_spare(algebra, place) {
             self.keep_spare(algebra, place.size, place.node, place.next);
         }
+    }
+
+    // Keeps the first route that the node is offered.
+    #[inline(always)]
+    fn open_node(&mut self, algebra: &A, route: OpenRoute<A::Sig>)
+        requires node { route.place.node.0 < vec_len self.old.best }
+        requires none { found_at self.old.best.items route.place.node.0 ≡ None }
+        requires sig { A.is_sig algebra.now route.sig }
+        requires ranked { AreRanked (A.sig_value algebra.now) (A.is_sig algebra.now)
+            (carrier_of (A.expression algebra.now)) self.old.best.items self.old.standing }
+        ensures count { vec_len self.new.best ≡ vec_len self.old.best }
+        ensures ranked { AreRanked (A.sig_value algebra.now) (A.is_sig algebra.now)
+            (carrier_of (A.expression algebra.now)) self.new.best.items self.new.standing }
+        ensures best { let value = A.sig_value algebra.now in
+            best_of value self.new.best.items ≡
+            set (best_of value self.old.best.items) route.place.node.0 (Some (key_of value route)) }
+    {
+        let node = route.place.node.0 as usize;
+        self.best[node] = Some(route);
+        self.judge(algebra, node);
+    }
+
+    // Judges the matches of a node whose best route has become better.
+    #[inline(never)]
+    fn judge(&mut self, algebra: &A, node: usize)
+        requires node { node < vec_len self.old.best }
+        requires sigs { AllFound (λ o. A.is_sig algebra.now o.sig) self.old.best.items }
+        requires places { AreAtTheirNodes self.old.best.items }
+        requires count { self.old.standing.count ≡ vec_len self.old.best }
+        requires judged { IsJudgedBut (precedes (carrier_of (A.expression algebra.now))
+            (best_of (A.sig_value algebra.now) self.old.best.items)) self.old.standing node }
+        ensures best { self.new.best ≡ self.old.best }
+        ensures count { self.new.standing.count ≡ self.old.standing.count }
+        ensures judged { IsJudged (precedes (carrier_of (A.expression algebra.now))
+            (best_of (A.sig_value algebra.now) self.new.best.items)) self.new.standing }
+    {
+        let order = ByRoute {
+            algebra,
+            best: &self.best,
+        };
+        self.standing.raise(&order, node, &mut self.steps);
     }
 
     // Whether there is a spare value, and a route there with it is better than the node's best.
@@ -83,14 +125,15 @@ impl<A: Algebra, L: Ledger> Open<A, L> {
         }
     }
 
-    // Keeps a route with the spare value as the node's best. Most offers aren't kept, so this stands apart from their
-    // loop, and takes the parts of the place, so that the loop need not put one together.
+    // Keeps a route with the spare value as the node's best in place of another. Most offers aren't kept, so this stands
+    // apart from their loop, and takes the parts of the place, so that the loop need not put one together.
     #[inline(never)]
     pub(crate) fn keep_spare(&mut self, algebra: &A, size: u32, node: NodeId, next: NodeId)
         requires node { node.0 < vec_len self.old.best }
         requires sig { IfSome self.old.spare (A.is_sig algebra.now) }
         requires ranked { AreRanked (A.sig_value algebra.now) (A.is_sig algebra.now)
             (carrier_of (A.expression algebra.now)) self.old.best.items self.old.standing }
+        requires some { found_at self.old.best.items node.0 ≢ None }
         requires wanted { let value = A.sig_value algebra.now in
             is_wanted (carrier_of (A.expression algebra.now)) (record { size = size; node = node; next = next })
             (option_map value self.old.spare) (best_of value self.old.best.items) ≡ true }
@@ -106,16 +149,11 @@ impl<A: Algebra, L: Ledger> Open<A, L> {
         let place = OpenPlace { size, node, next };
         let node = node.0 as usize;
         exchange(&mut self.best[node], &mut self.spare, place);
-        let order = ByRoute {
-            algebra,
-            best: &self.best,
-        };
-        self.standing.raise(&order, node, &mut self.steps);
+        self.judge(algebra, node);
     }
 
     // Takes out the best route of all, if a route is open.
     pub(crate) fn take_best(&mut self, algebra: &A) -> Option<OpenRoute<A::Sig>>
-        requires places { (k : ℕ) → IfSome (found_at self.old.best.items k) (λ o. o.place.node.0 ≡ k) }
         requires ranked { AreRanked (A.sig_value algebra.now) (A.is_sig algebra.now)
             (carrier_of (A.expression algebra.now)) self.old.best.items self.old.standing }
         ensures count { vec_len self.new.best ≡ vec_len self.old.best }
@@ -164,23 +202,17 @@ pub(crate) fn beats<A: Algebra>(
     }
 }
 
-// Makes a route there of the spare value, and what the route had before the spare value.
+// Makes a route there of the spare value, and what the route had before the spare value. There are both.
 fn exchange<S: Drop>(best: &mut Option<OpenRoute<S>>, spare: &mut Option<S>, place: OpenPlace)
-    requires { spare.old ≢ None }
+    requires best { best.old ≢ None }
+    requires spare { spare.old ≢ None }
     ensures best { best.new ≡ option_map (λ sig. record { sig = sig; place = place }) spare.old }
     ensures spare { spare.new ≡ option_map (λ o. o.sig) best.old }
 {
-    match best {
-        Some(best) => {
-            if let Some(spare) = spare {
-                std::mem::swap(&mut best.sig, spare);
-            }
+    if let Some(best) = best {
+        if let Some(spare) = spare {
+            std::mem::swap(&mut best.sig, spare);
             best.place = place;
-        }
-        None => {
-            if let Some(sig) = spare.take() {
-                *best = Some(OpenRoute { sig, place });
-            }
         }
     }
 }

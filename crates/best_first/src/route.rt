@@ -1,9 +1,10 @@
 ghost use Rattle.std.specs.Prelude.{◌≡◌, ◌<◌, vec_len};
-ghost use Rattle.std.specs.Ordering.{ordering_then};
+ghost use Rattle.std.specs.Ordering.{ordering_then, nat_cmp};
 ghost use Rattle.alg_model.specs.Carriers.{carrier_of};
 ghost use Rattle.net_graph.specs.Routes.{is_less};
 ghost use Rattle.best_first.specs.Found.{AllFound};
 ghost use Rattle.best_first.specs.Keys.{best_of, compare_places, precedes};
+ghost use Rattle.best_first.specs.Queue.{AreAtTheirNodes};
 
 use alg_model::Algebra;
 use frontier::{Order, Steps};
@@ -49,6 +50,26 @@ pub(crate) fn comes_first(values: Ordering, first: OpenPlace, second: OpenPlace)
     }
 }
 
+// The same of routes of two nodes, whose sizes and nodes are these: where the nodes differ, what is after them says nothing.
+#[inline(always)]
+fn slot_comes_first(
+    values: Ordering,
+    size: u32,
+    slot: usize,
+    other_size: u32,
+    other_slot: usize,
+) -> bool
+    ensures { result ≡ is_less
+        (ordering_then values (ordering_then (nat_cmp size other_size) (nat_cmp slot other_slot))) }
+{
+    match values {
+        Ordering::Less => true,
+        Ordering::Equal if size == other_size => slot < other_slot,
+        Ordering::Equal => size < other_size,
+        Ordering::Greater => false,
+    }
+}
+
 // The order of nodes by their best open routes: the better one first, and a node without one last.
 #[derive(Drop)]
 pub(crate) struct ByRoute<'a, A: Algebra> {
@@ -62,7 +83,8 @@ impl<'a, A: Algebra> Order<usize> for ByRoute<'a, A> {
     ghost is_before = { λ s k m. precedes (carrier_of (A.expression s.algebra.now))
         (best_of (A.sig_value s.algebra.now) s.best.now.items) k m };
 
-    ghost is_key = { λ s k. (k < vec_len s.best.now) × AllFound (λ o. A.is_sig s.algebra.now o.sig) s.best.now.items };
+    ghost is_key = { λ s k. (k < vec_len s.best.now) × AllFound (λ o. A.is_sig s.algebra.now o.sig) s.best.now.items
+        × AreAtTheirNodes s.best.now.items };
 
     ghost asymmetric = { λ s k m i j. slots_asymmetric (A.sig_value s.algebra.now) (A.is_sig s.algebra.now)
         (carrier_of (A.expression s.algebra.now)) (A.sig_in s.algebra.now) s.best.now.items i.1 k m };
@@ -73,12 +95,13 @@ impl<'a, A: Algebra> Order<usize> for ByRoute<'a, A> {
     #[inline(always)]
     fn before<L: Ledger>(&self, a: &usize, b: &usize, steps: &mut Steps<L>) -> bool {
         steps.tick();
-        match (&self.best[*a], &self.best[*b]) {
-            (Some(first), Some(second)) => {
-                let values = self.algebra.order(&first.sig, &second.sig);
-                comes_first(values, first.place, second.place)
-            }
-            (first, second) => first.is_some() && second.is_none(),
-        }
+        let Some(first) = &self.best[*a] else {
+            return false;
+        };
+        let Some(second) = &self.best[*b] else {
+            return true;
+        };
+        let values = self.algebra.order(&first.sig, &second.sig);
+        slot_comes_first(values, first.place.size, *a, second.place.size, *b)
     }
 }

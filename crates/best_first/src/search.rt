@@ -15,8 +15,8 @@ ghost use Rattle.best_first.specs.Queue.{AreRanked, IsOpen, IsOfferedOf, no_rout
 ghost use Rattle.best_first.specs.State.{relaxed, CanSpeak, spoken};
 
 use crate::fixed::Fixed;
-use crate::open::{Open, beats};
-use crate::route::{OpenPlace, OpenRoute};
+use crate::open::Open;
+use crate::route::{OpenPlace, OpenRoute, comes_first};
 use alg_model::Algebra;
 use arc_labels::NeighbourLabels;
 use meta_base::{DestId, NoMemory, NodeId};
@@ -172,13 +172,17 @@ fn offer_image<A: Algebra, L: Ledger>(
         (best_of value search.old.best.items) (best_of value search.new.best.items)) }
 {
     let OpenPlace { size, node, next } = place;
+    let Some(best) = &search.best[node.0 as usize] else {
+        let place = OpenPlace { size, node, next };
+        return offer_image_anew(alloc, algebra, lab, sig, place, search);
+    };
     let Some(image) = &mut search.spare else {
         // A new place, so that it stands in memory on this way alone.
         let place = OpenPlace { size, node, next };
         return offer_image_anew(alloc, algebra, lab, sig, place, search);
     };
     if algebra.apply_into(alloc, lab, sig, image)?
-        && beats(algebra, image, place, &search.best[node.0 as usize])
+        && comes_first(algebra.order(image, &best.sig), place, best.place)
     {
         search.keep_spare(algebra, size, node, next);
     }

@@ -2,14 +2,14 @@ use Rattle.std.proofs.Common.{◌≡◌, length, arith}
 use Rattle.alg_model.specs.Carriers.{carrier_of}
 use Rattle.best_first.specs.Fixed.{reported_by}
 use Rattle.best_first.proofs.Fixing.{node_within, next_within, fixes, fixed_after, open_after}
-use Rattle.best_first.proofs.Offering.{at_their_nodes, next_taken}
+use Rattle.best_first.proofs.Offering.{ranked_of, next_taken}
 use Rattle.best_first.proofs.search.fix_next.Goals as goal
 
-pub take_best-requires-clause-places : goal.take_best-requires-clause-places
-take_best-requires-clause-places g c =
+pub take_best-requires : goal.take_best-requires
+take_best-requires g c =
     let algebra = c.args.algebra.now in
     let value = g.A.Algebra.sig_value algebra in
-    at_their_nodes value (g.A.Algebra.is_sig algebra) (carrier_of (g.A.Algebra.expression algebra)) (reported_by value c.args.fixed.now.paths c.args.fixed.now.rows.items) c.args.search.now.best.items c.args.search.now.standing c.requires.queue
+    record { ranked = ranked_of value (g.A.Algebra.is_sig algebra) (carrier_of (g.A.Algebra.expression algebra)) (reported_by value c.args.fixed.now.paths c.args.fixed.now.rows.items) c.args.search.now.best.items c.args.search.now.standing c.requires.queue }
 
 pub fix-requires-clause-node : goal.fix-requires-clause-node
 fix-requires-clause-node g c =

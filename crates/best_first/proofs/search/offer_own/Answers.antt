@@ -5,6 +5,7 @@ use Rattle.net_graph.specs.Tables.{carrier}
 use Rattle.net_graph.specs.Views.{pure_origin}
 use Rattle.best_first.specs.Keys.{key_of, best_of}
 use Rattle.best_first.specs.Queue.{no_route}
+use Rattle.best_first.proofs.Offering.{ranked_of}
 use Rattle.best_first.proofs.Origins.{own_all}
 use Rattle.best_first.proofs.Speaking.{nothing_open, nothing_found, own_queue, own_found}
 use Rattle.best_first.proofs.search.offer_own.Goals as goal
@@ -18,6 +19,11 @@ loop-origin-init g c =
           (λ before none. c.requires.judged before (λ k m h l. none k m (omega (arith, c.requires.count)) (omega (arith, c.requires.count))));
       found = nothing_found value no_route c.args.search.now.best.items c.requires.best;
     }
+
+pub offer-requires-clause-ranked : goal.offer-requires-clause-ranked
+offer-requires-clause-ranked g c =
+    let value = g.A.Algebra.sig_value c.args.algebra.now in
+    rw c.requires.algebra (ranked_of value (g.A.Algebra.is_sig c.args.algebra.now) (carrier c.args.net.now) no_route c.loop-origin.search.best.items c.loop-origin.search.standing c.loop-origin.invariant.queue)
 
 pub loop-origin-preserved : goal.loop-origin-preserved
 loop-origin-preserved g c =

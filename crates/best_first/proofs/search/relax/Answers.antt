@@ -12,6 +12,7 @@ use Rattle.best_first.specs.Keys.{key_of, best_of}
 use Rattle.best_first.specs.Fixed.{fixed_route, reported_by, open_routes}
 use Rattle.best_first.proofs.Places.{found-read, mapped_none, mapped_some}
 use Rattle.best_first.proofs.Listeners.{heard_by, listener_within, heard_all, step_over}
+use Rattle.best_first.proofs.Offering.{ranked_of}
 use Rattle.best_first.proofs.Speaking.{spoken_queue, spoken_found}
 use Rattle.best_first.proofs.search.relax.Goals as goal
 use Rattle.best_first.proofs.search.relax.Goals.{then-is_none+in_ok-offer_image, else-is_none}
@@ -58,6 +59,11 @@ offer_image-requires-clause-small g c =
     let reported : reported_by value paths rows c.args.node.0 ≡ Some (fixed_route value paths c.route-next.result.now) = found-map (fixed_route value paths) rows c.args.node.0 ∙ ap (option_map (fixed_route value paths)) c.route-next.ensures in
     let can : CanSpeak c.args._net.now c.args.node.0 (fixed_route value paths c.route-next.result.now) = rw reported at c.requires.next in
     can.small
+
+pub offer_image-requires-clause-ranked : goal.offer_image-requires-clause-ranked
+offer_image-requires-clause-ranked g c =
+    let value = g.A.Algebra.sig_value c.args.algebra.now in
+    rw c.requires.algebra (ranked_of value (g.A.Algebra.is_sig c.args.algebra.now) (carrier c.args._net.now) (reported_by value c.args.fixed.now.paths c.args.fixed.now.rows.items) c.loop-listener.search.best.items c.loop-listener.search.standing c.loop-listener.invariant.queue)
 
 pub loop-listener-preserved : goal.loop-listener-preserved
 loop-listener-preserved g c =
