@@ -9,7 +9,7 @@ use std::alloc::Global;
 use std::marker::Model;
 
 // As many bytes as most lines have, so that the room seldom grows.
-const USUAL_LINE: usize = 256;
+const USUAL_LINE: usize = 1024;
 
 /// A line, which contracts see as its bytes, in room that stays when it is emptied.
 #[derive(Debug, Drop)]
@@ -112,10 +112,20 @@ impl Line {
         if self.room.len() - start < SHORT {
             return self.push_beyond(&name.bytes[..name.len]);
         }
-        // A copy of a fixed length takes few instructions. What follows the name is written over.
-        self.room[start..start + SHORT].copy_from_slice(&name.bytes);
+        // A copy of a fixed length takes few instructions, and one from a place of its own needs no look at whether the two
+        // overlap. What follows the name is written over.
+        let bytes = name.bytes;
+        self.room[start..start + SHORT].copy_from_slice(&bytes);
         self.len = start + name.len;
         Ok(())
+    }
+
+    // Appends a longer name. A call keeps it apart from what most names take.
+    #[inline(never)]
+    fn push_long(&mut self, name: &[u8]) -> Result<(), NoMemory>
+        ensures { OnOk result (self.new ≡ self.old ++ name.now) }
+    {
+        self.push_bytes(name)
     }
 
     /// Appends a name that was prepared.
@@ -125,13 +135,13 @@ impl Line {
     {
         match name {
             PathName::Short(short) => self.push_short(short),
-            PathName::Long(long) => self.push_bytes(long.as_slice()),
+            PathName::Long(long) => self.push_long(long.as_slice()),
         }
     }
 }
 
 // The room of a name that is copied with a fixed length.
-const SHORT: usize = 16;
+const SHORT: usize = 32;
 
 /// A text in such room, which contracts see as its bytes.
 #[derive(Debug, Drop)]
@@ -147,7 +157,7 @@ impl Model for ShortName {
 
     ghost view = { λ name. take name.len name.bytes };
 
-    ghost invariant = { λ name. name.len ≤ 16 };
+    ghost invariant = { λ name. name.len ≤ 32 };
 }
 
 impl ShortName {
