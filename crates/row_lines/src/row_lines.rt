@@ -8,27 +8,33 @@ ghost use Rattle.alg_model.specs.Views.{pure_carrier, pure_value};
 ghost use Rattle.code_gen.specs.Encoding.{IsEncoded, decoded};
 ghost use Rattle.net_graph.specs.Tables.{carrier as net_carrier};
 ghost use Rattle.net_graph.specs.Views.{pure_row};
-ghost use Rattle.net_graph.specs.RowTexts.{AreNodesOf, IsRowOf, node_text, path_text, row_text};
+ghost use Rattle.net_graph.specs.RowTexts.{AreNodesOf, IsRowOf, dest_text, node_text, path_text, row_text};
 ghost use Rattle.word_tables.specs.Routes.{lent_row};
-ghost use Rattle.word_text.specs.PathNames.{after_space, name_text};
+ghost use Rattle.word_text.specs.Forms.{Prints};
+ghost use Rattle.word_text.specs.FormLaws.{prints_prop};
+ghost use Rattle.word_text.specs.PathNames.{after_space, between_spaces, name_text};
 
-use alg_model::{Carrier, Value};
+use alg_model::{Carrier, Value, carrier_of};
 use meta_base::{DestId, NoMemory, NodeId};
 use net_graph::{Net, RouteRow};
 use sig_text::push_value;
 use std::alloc::Global;
 use word_tables::LentRow;
-use word_text::{Line, PathName, push_words};
+use word_text::{Line, PathName, ValueForm};
 
-/// The lines of rows of a network, which are written one after another in the same room. The names of the nodes on
-/// paths are prepared for all of them.
+/// The lines of rows of a network, which are written one after another in the same room. The names of nodes and
+/// destinations are prepared for all of them, with the spaces round them: so the line stands after a space.
 #[derive(Drop)]
 pub struct RowLines<'a> {
     net: &'a Net,
+    form: ValueForm,
     names: Vec<PathName>,
+    dests: Vec<PathName>,
     value: String,
     line: Line,
+    ghost form_is: { Prints (net_carrier net.now) form } by { prints_prop (net_carrier net.now) form },
     ghost names_are: { map name_text names.items ≡ map after_space net.now.nodes },
+    ghost dests_are: { map name_text dests.items ≡ map between_spaces net.now.dests },
 }
 
 // The names of all nodes of a network.
@@ -46,8 +52,24 @@ fn path_names(alloc: Global, net: &Net) -> Result<Vec<PathName>, NoMemory>
     Ok(names)
 }
 
+// The names of all destinations of a network.
+fn dest_names(alloc: Global, net: &Net) -> Result<Vec<PathName>, NoMemory>
+    ensures { IfOk result (λ names. map name_text names.items ≡ map between_spaces net.now.dests) }
+{
+    let mut names = Vec::with_capacity(alloc, net.dest_count())?;
+    let mut text = Line::new(alloc)?;
+    for dest in 0..net.dest_count() {
+        text.clear();
+        text.push_bytes(b" ")?;
+        text.push_bytes(net.dest_text(DestId(dest as u32)).as_bytes())?;
+        text.push_bytes(b" ")?;
+        names.push(PathName::of(alloc, text.as_bytes())?)?;
+    }
+    Ok(names)
+}
+
 impl<'a> RowLines<'a> {
-    ghost use Rattle.row_lines.specs.RowLines.{line_of, names_text, net_of};
+    ghost use Rattle.row_lines.specs.RowLines.{line_of, names_text, net_of, room_of};
 
     /// Where no line is written yet. It is refused for want of memory alone.
     pub fn new(alloc: Global, net: &'a Net) -> Result<RowLines<'a>, NoMemory>
@@ -55,7 +77,9 @@ impl<'a> RowLines<'a> {
     {
         Ok(RowLines {
             net,
+            form: ValueForm::of(alloc, carrier_of(alloc, net.alg())?)?,
             names: path_names(alloc, net)?,
+            dests: dest_names(alloc, net)?,
             value: String::new(alloc),
             line: Line::new(alloc)?,
         })
@@ -65,7 +89,10 @@ impl<'a> RowLines<'a> {
     pub fn line(&self) -> &[u8]
         ensures { result.now ≡ line_of self.now }
     {
-        self.line.as_bytes()
+        match self.line.as_bytes() {
+            [_, line @ ..] => line,
+            [] => &[],
+        }
     }
 
     /// Writes the line of a row in place of the one before: the node, the destination, and the value and the path of
@@ -101,7 +128,7 @@ impl<'a> RowLines<'a> {
             None => self.put_none(row.node, row.dest),
             Some(route) => {
                 self.put_names(row.node, row.dest)?;
-                push_words(&mut self.line, carrier, route.words)?;
+                self.form.push(&mut self.line, route.words)?;
                 self.push_end(route.path)
             }
         }
@@ -110,8 +137,8 @@ impl<'a> RowLines<'a> {
     // The text of a value.
     fn push_value(&mut self, value: &Value) -> Result<(), NoMemory>
         requires { In (net_carrier (net_of self.now)) (pure_value value.now) }
-        ensures line { OnOk result (line_of self.new
-            ≡ line_of self.old ++ value_text (net_carrier (net_of self.old)) (pure_value value.now)) }
+        ensures line { OnOk result (room_of self.new
+            ≡ room_of self.old ++ value_text (net_carrier (net_of self.old)) (pure_value value.now)) }
         ensures net { net_of self.new ≡ net_of self.old }
     {
         self.value.clear();
@@ -119,12 +146,12 @@ impl<'a> RowLines<'a> {
         self.line.push_bytes(self.value.as_bytes())
     }
 
-    // The line of a row without a route.
+    // The line of a row without a route, after a space.
     fn put_none(&mut self, node: NodeId, dest: DestId) -> Result<(), NoMemory>
         requires node { node.0 < length (net_of self.now).nodes }
         requires dest { dest.0 < length (net_of self.now).dests }
-        ensures line { OnOk result (line_of self.new
-            ≡ names_text (net_of self.old) node.0 dest.0 ++ codes "none" ++ codes "\n") }
+        ensures line { OnOk result (room_of self.new
+            ≡ codes " " ++ names_text (net_of self.old) node.0 dest.0 ++ codes "none" ++ codes "\n") }
         ensures net { net_of self.new ≡ net_of self.old }
     {
         self.put_names(node, dest)?;
@@ -134,26 +161,36 @@ impl<'a> RowLines<'a> {
     // The path of a route, and the end of the line.
     fn push_end(&mut self, path: &[NodeId]) -> Result<(), NoMemory>
         requires { AreNodesOf (net_of self.now) (numbers path.now) }
-        ensures line { OnOk result (line_of self.new
-            ≡ line_of self.old ++ path_text (net_of self.old) (numbers path.now) ++ codes "\n") }
+        ensures line { OnOk result (room_of self.new
+            ≡ room_of self.old ++ path_text (net_of self.old) (numbers path.now) ++ codes "\n") }
         ensures net { net_of self.new ≡ net_of self.old }
     {
         self.push_path(path)?;
         self.line.push_bytes(b"\n")
     }
 
-    // The names of a row and the space after each, in place of the line before.
+    // A space, the names of a row and the space after each, in place of the line before.
     fn put_names(&mut self, node: NodeId, dest: DestId) -> Result<(), NoMemory>
         requires node { node.0 < length (net_of self.now).nodes }
         requires dest { dest.0 < length (net_of self.now).dests }
-        ensures line { OnOk result (line_of self.new ≡ names_text (net_of self.old) node.0 dest.0) }
+        ensures line { OnOk result (room_of self.new ≡ codes " " ++ names_text (net_of self.old) node.0 dest.0) }
         ensures net { net_of self.new ≡ net_of self.old }
     {
         self.line.clear();
-        self.line.push_bytes(self.net.node_text(node).as_bytes())?;
-        self.line.push_bytes(b" ")?;
-        self.line.push_bytes(self.net.dest_text(dest).as_bytes())?;
-        self.line.push_bytes(b" ")
+        self.push_node(node)?;
+        self.push_dest(dest)
+    }
+
+    // The name of a destination, between spaces.
+    #[inline(always)]
+    #[tactic(auto, using(crate::proofs::PathNames::dest_at))]
+    fn push_dest(&mut self, dest: DestId) -> Result<(), NoMemory>
+        requires { dest.0 < length (net_of self.now).dests }
+        ensures line { OnOk result (room_of self.new ≡ room_of self.old
+            ++ between_spaces (dest_text (net_of self.old) dest.0)) }
+        ensures net { net_of self.new ≡ net_of self.old }
+    {
+        self.line.push_name(&self.dests[dest.0 as usize])
     }
 
     // The name of a node, after a space.
@@ -161,7 +198,7 @@ impl<'a> RowLines<'a> {
     #[tactic(auto, using(crate::proofs::PathNames::name_at))]
     fn push_node(&mut self, node: NodeId) -> Result<(), NoMemory>
         requires { node.0 < length (net_of self.now).nodes }
-        ensures line { OnOk result (line_of self.new ≡ line_of self.old
+        ensures line { OnOk result (room_of self.new ≡ room_of self.old
             ++ after_space (node_text (net_of self.old) node.0)) }
         ensures net { net_of self.new ≡ net_of self.old }
     {
@@ -171,7 +208,7 @@ impl<'a> RowLines<'a> {
     // The names of the nodes of a path, each after a space.
     fn push_path(&mut self, path: &[NodeId]) -> Result<(), NoMemory>
         requires { AreNodesOf (net_of self.now) (numbers path.now) }
-        ensures line { OnOk result (line_of self.new ≡ line_of self.old
+        ensures line { OnOk result (room_of self.new ≡ room_of self.old
             ++ path_text (net_of self.old) (numbers path.now)) }
         ensures net { net_of self.new ≡ net_of self.old }
     {

@@ -1,2 +1,4 @@
 mod Copies
 mod Digits
+mod Opening
+mod Marks

@@ -11,3 +11,7 @@ name_text (Long text) = text.items
 -- a space and the name
 abbrev pub after_space : List ℕ → List ℕ
 after_space name = codes " " ++ name
+
+-- a space, the name and a space
+abbrev pub between_spaces : List ℕ → List ℕ
+between_spaces name = codes " " ++ name ++ codes " "

@@ -2,8 +2,9 @@
 //! words stand for, and makes no value.
 #![tactic(auto)]
 
+mod form;
 mod line;
 mod text;
 
+pub use form::ValueForm;
 pub use line::{Line, PathName};
-pub use text::push_words;

@@ -1,11 +1,11 @@
-ghost use Rattle.std.specs.Prelude.{◌≡◌, ◌≢◌, ◌++◌, ◌∷◌, ◌≤◌, ◌<◌, [], length, OnOk, Some, None, decimal, codes, slice_index_or};
+ghost use Rattle.std.specs.Prelude.{◌≡◌, ◌≢◌, ◌++◌, ◌∷◌, ◌≤◌, ◌<◌, ◌^◌, [], length, OnOk, Some, None, decimal, codes, slice_index_or};
 ghost use Rattle.alg_model.specs.Application.{has_mark};
-ghost use Rattle.alg_model.specs.Expressions.{pairs, sides, symbols};
+ghost use Rattle.alg_model.specs.Expressions.{marks as marks_value, pairs, sides, symbols};
 ghost use Rattle.alg_model.specs.Formation.{IsCarrier};
-ghost use Rattle.alg_model.specs.Texts.{numbers_text, members, value_text};
+ghost use Rattle.alg_model.specs.Texts.{numbers_text, members};
 ghost use Rattle.alg_model.specs.Views.{pure_carrier};
 ghost use Rattle.alg_model.specs.declared.alg.TheConstants.{MAX_MARKS};
-ghost use Rattle.code_gen.specs.Encoding.{Dec, decoded, IsEncoded, symbols_front};
+ghost use Rattle.code_gen.specs.Encoding.{Dec, small_front, symbols_front};
 ghost use Rattle.sig_text.specs.Listed.{separator};
 ghost use Rattle.word_text.specs.Fronts.{front_text, Leaves};
 
@@ -14,21 +14,13 @@ use alg_model::Carrier;
 use label_code::Word;
 use meta_base::{NoMemory, Text};
 
-/// Appends the printed text of the value of the carrier whose words these are to a line, as `sig_text` prints the value.
-/// After a refusal, which is for want of memory alone, it isn't said what the line has.
-pub fn push_words(out: &mut Line, carrier: &Carrier, words: &[Word]) -> Result<(), NoMemory>
-    requires carrier { IsCarrier (pure_carrier carrier.now) }
-    requires words { IsEncoded (pure_carrier carrier.now) words.now }
-    ensures { OnOk result (out.new ≡ out.old
-        ++ value_text (pure_carrier carrier.now) (decoded (pure_carrier carrier.now) words.now)) }
-{
-    let mut rest = words;
-    push_front(out, carrier, &mut rest)
-}
-
 // Takes the words of a value of the carrier from the front of the row, and appends its text.
 #[cycle(push_front)]
-fn push_front(out: &mut Line, carrier: &Carrier, row: &mut &[Word]) -> Result<(), NoMemory>
+pub(crate) fn push_front(
+    out: &mut Line,
+    carrier: &Carrier,
+    row: &mut &[Word],
+) -> Result<(), NoMemory>
     requires carrier { IsCarrier (pure_carrier carrier.now) }
     requires there { Dec (pure_carrier carrier.now) row.old.now ≢ None }
     ensures row { OnOk result (Leaves (pure_carrier carrier.now) row.old.now row.new.now) }
@@ -41,7 +33,7 @@ fn push_front(out: &mut Line, carrier: &Carrier, row: &mut &[Word]) -> Result<()
         Carrier::Seqs(count) | Carrier::SimSeqs(count) => {
             push_symbols(out, take_symbols(row, *count))
         }
-        Carrier::Sets(count) => push_set(out, *count, take_word(row)),
+        Carrier::Sets(count) => push_set(out, *count, take_marks(row, *count)),
         Carrier::One => out.push_bytes(b"unit"),
         Carrier::Named(names, _) => push_name(out, names.as_slice(), take_word(row)),
         Carrier::Pair(c, d) => push_pair(out, c, d, row),
@@ -89,7 +81,8 @@ fn push_side(out: &mut Line, c: &Carrier, d: &Carrier, row: &mut &[Word]) -> Res
     }
 }
 
-fn take_word(row: &mut &[Word]) -> Word
+#[inline(always)]
+pub(crate) fn take_word(row: &mut &[Word]) -> Word
     requires { row.old.now ≢ [] }
     ensures { row.old.now ≡ result ∷ row.new.now }
 {
@@ -141,6 +134,7 @@ fn push_numbers(out: &mut Line, words: &[Word]) -> Result<(), NoMemory>
 }
 
 // Appends a number that stands alone, or follows others.
+#[inline(always)]
 fn push_next(out: &mut Line, follows: bool, n: u128) -> Result<(), NoMemory>
     ensures { OnOk result (out.new ≡ (out.old ++ separator follows) ++ decimal n) }
 {
@@ -150,23 +144,33 @@ fn push_next(out: &mut Line, follows: bool, n: u128) -> Result<(), NoMemory>
     out.push_number(n)
 }
 
-fn push_set(out: &mut Line, count: u64, word: Word) -> Result<(), NoMemory>
+// Takes the word of a set of numbers below the count from the front of the row.
+#[tactic(auto, using(crate::proofs::Marks::marks_fit))]
+fn take_marks(row: &mut &[Word], count: u64) -> u64
+    requires count { count ≤ MAX_MARKS }
+    requires there { small_front (2 ^ count) marks_value row.old.now ≢ None }
+    ensures { Some (marks_value result, row.new.now) ≡ small_front (2 ^ count) marks_value row.old.now }
+{
+    take_word(row) as u64
+}
+
+fn push_set(out: &mut Line, count: u64, marks: u64) -> Result<(), NoMemory>
     requires { count ≤ MAX_MARKS }
-    ensures { OnOk result (out.new ≡ out.old ++ (codes "{" ++ numbers_text (members count word) ++ codes "}")) }
+    ensures { OnOk result (out.new ≡ out.old ++ (codes "{" ++ numbers_text (members count marks) ++ codes "}")) }
 {
     out.push_bytes(b"{")?;
-    push_members(out, count, word)?;
+    push_members(out, count, marks)?;
     out.push_bytes(b"}")
 }
 
 // The numbers below the count that are in the set, ascending.
-fn push_members(out: &mut Line, count: u64, word: Word) -> Result<(), NoMemory>
+fn push_members(out: &mut Line, count: u64, marks: u64) -> Result<(), NoMemory>
     requires { count ≤ MAX_MARKS }
-    ensures { OnOk result (out.new ≡ out.old ++ numbers_text (members count word)) }
+    ensures { OnOk result (out.new ≡ out.old ++ numbers_text (members count marks)) }
 {
     let mut follows = false;
     for k in 0..count {
-        if is_in(word, k) {
+        if is_in(marks, k) {
             push_next(out, follows, u128::from(k))?;
             follows = true;
         }
@@ -174,9 +178,9 @@ fn push_members(out: &mut Line, count: u64, word: Word) -> Result<(), NoMemory>
     Ok(())
 }
 
-fn is_in(word: Word, k: u64) -> bool
+fn is_in(marks: u64, k: u64) -> bool
     requires { k < MAX_MARKS }
-    ensures { result ≡ has_mark word k }
+    ensures { result ≡ has_mark marks k }
 {
-    (word >> k) & 1 == 1
+    (marks >> k) & 1 == 1
 }

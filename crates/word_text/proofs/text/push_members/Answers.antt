@@ -9,7 +9,7 @@ pub loop-k-preserved : goal.loop-k-preserved
 loop-k-preserved c =
     let k = c.loop-k.k in
     let count = c.args.count in
-    let marks = c.args.word in
+    let marks = c.args.marks in
     let there = members_there k count marks (omega arith) in
     let absent = members_not k count marks (omega arith) in
     let step = listed_step (separator c.loop-k.follows) k (members_from (k + 1) (count - (k + 1)) marks) c.loop-k.out in

@@ -4,4 +4,4 @@ use Rattle.sig_text.specs.Listed.{listed, separator}
 use Rattle.word_text.proofs.text.push_members.Given as goal
 
 abbrev pub invariant-loop-k : goal.invariant-loop-k
-invariant-loop-k l = l.out ++ listed (separator l.follows) (members_from l.k (l.count - l.k) l.word) ≡ l.fn.out ++ numbers_text (members l.count l.word)
+invariant-loop-k l = l.out ++ listed (separator l.follows) (members_from l.k (l.count - l.k) l.marks) ≡ l.fn.out ++ numbers_text (members l.count l.marks)
