@@ -42,8 +42,8 @@ impl ValueForm {
         Ok(ValueForm { parts, end })
     }
 
-    /// Appends the text that the form has with these words: where they are those of a value of its carrier, as `sig_text`
-    /// prints the value. After a refusal, which is for want of memory alone, it isn't said what the line has.
+    /// Appends the text that the form has with these words: where they are those of a value of its carrier, as
+    /// `sig_text` prints the value. After a refusal, which is for want of memory alone, it isn't said what the line has.
     pub fn push(&self, out: &mut Line, words: &[Word]) -> Result<(), NoMemory>
         requires { AreThere (form_parts self.now) words.now }
         ensures { OnOk result (out.new ≡ out.old ++ form_text self.now words.now) }

@@ -112,8 +112,8 @@ impl Line {
         if self.room.len() - start < SHORT {
             return self.push_beyond(&name.bytes[..name.len]);
         }
-        // A copy of a fixed length takes few instructions, and one from a place of its own needs no look at whether the two
-        // overlap. What follows the name is written over.
+        // A copy of a fixed length takes few instructions, and one from a place of its own needs no look at whether
+        // the two overlap. What follows the name is written over.
         let bytes = name.bytes;
         self.room[start..start + SHORT].copy_from_slice(&bytes);
         self.len = start + name.len;
