@@ -3,5 +3,6 @@ mod Labels
 mod Orders
 mod Running
 mod Sets
+mod Shared
 mod Symbols
 pub mod Widths

@@ -2,6 +2,7 @@
 #![tactic(auto)]
 
 mod algebra;
+mod codes;
 mod compile;
 mod decoding;
 mod laws;
@@ -12,6 +13,7 @@ mod width;
 mod words;
 
 pub use algebra::CodeAlgebra;
+pub use codes::LabelCodes;
 pub use compile::compile_label;
 pub use decoding::decode;
 pub use laws::{code_means_application, code_means_order, rows_have_their_width};
