@@ -4,6 +4,7 @@ ghost use Rattle.alg_model.specs.Formation.{IsCarrier};
 ghost use Rattle.alg_model.specs.Views.{pure_carrier};
 ghost use Rattle.code_gen.specs.Encoding.{Dec};
 ghost use Rattle.word_text.specs.Fronts.{front_text};
+ghost use Rattle.word_text.specs.PathNames.{name_text};
 ghost use Rattle.word_text.specs.Parts.{closing, parts_of, parts_text, pure_part, rest_in, AreThere};
 
 use crate::line::{Line, PathName};
@@ -50,7 +51,7 @@ impl ValueForm {
     {
         let mut rest = words;
         push_parts(out, self.parts.as_slice(), &mut rest)?;
-        out.push_name(&self.end)
+        push_between(out, &self.end)
     }
 }
 
@@ -97,8 +98,19 @@ fn push_parts(out: &mut Line, parts: &[Part], row: &mut &[Word]) -> Result<(), N
     }
 }
 
-// The same of one part.
+// The text before a part or after the last, which is empty where the carrier is no pair.
 #[inline(always)]
+fn push_between(out: &mut Line, text: &PathName) -> Result<(), NoMemory>
+    ensures { OnOk result (out.new ≡ out.old ++ name_text text.now) }
+{
+    if text.is_empty() {
+        return Ok(());
+    }
+    out.push_name(text)
+}
+
+// The same of one part. A call keeps the digits' room out of the loop over parts.
+#[inline(never)]
 #[tactic(auto, using(crate::proofs::Opening::left_rest))]
 fn push_part(out: &mut Line, part: &Part, row: &mut &[Word]) -> Result<(), NoMemory>
     requires carrier { IsCarrier (pure_part part.now).carrier }
@@ -107,7 +119,7 @@ fn push_part(out: &mut Line, part: &Part, row: &mut &[Word]) -> Result<(), NoMem
     ensures text { OnOk result (out.new ≡ (out.old ++ (pure_part part.now).before)
         ++ front_text (pure_part part.now).carrier row.old.now) }
 {
-    out.push_name(&part.before)?;
+    push_between(out, &part.before)?;
     match &part.carrier {
         // Most parts are numbers.
         Carrier::Whole | Carrier::UpTo(_) | Carrier::DownFrom(_) => {

@@ -1,5 +1,5 @@
 // A line that is written as bytes, and names of nodes that stand in many lines.
-ghost use Rattle.std.specs.Prelude.{◌≡◌, ◌≤◌, ◌++◌, [], length, decimal, IfOk, OnOk};
+ghost use Rattle.std.specs.Prelude.{◌≡◌, ◌≤◌, ◌++◌, [], true, length, decimal, IfOk, OnOk};
 ghost use Rattle.word_text.specs.PathNames.{name_text};
 
 use itoa::Buffer;
@@ -192,5 +192,16 @@ impl PathName {
         let mut long = Vec::new(alloc);
         long.extend_from_slice(text)?;
         Ok(PathName::Long(long))
+    }
+
+    /// Whether it was found that the text is empty.
+    #[inline(always)]
+    pub fn is_empty(&self) -> bool
+        ensures { result ≡ true → name_text self.now ≡ [] }
+    {
+        match self {
+            PathName::Short(short) => short.len == 0,
+            PathName::Long(_) => false,
+        }
     }
 }
