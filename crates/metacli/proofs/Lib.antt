@@ -1,6 +1,5 @@
 mod Alike
 mod Arcs
-mod Codes
 mod Completeness
 mod Floods
 mod Exchanges

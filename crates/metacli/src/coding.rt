@@ -12,8 +12,9 @@ ghost use Rattle.metacli.specs.Views.{CanBeWritten, pure_outcome};
 use crate::after::{last_of, net_after};
 use crate::outcome::{Coded, Outcome, Stop};
 use alg_model::Alg;
-use code_gen::{Listing, compile_label, compile_order};
-use meta_base::{ArcId, List, NoMemory};
+use arc_codes::arc_codes;
+use code_gen::{LabelCodes, Listing, compile_order};
+use meta_base::NoMemory;
 use net_graph::Net;
 use std::alloc::Global;
 use topology_file::NetFile;
@@ -83,11 +84,7 @@ fn arc_listing(alloc: Global, net: &Net) -> Result<Listing, NoMemory>
     ensures { IfOk result (IsListing net.now.alg.expression (labels_on net.now)) }
 {
     let order = compile_order(alloc, net.alg())?;
-    let mut labels = List::new(alloc);
-    for arc in 0..net.arc_count() {
-        let label = net.arc(ArcId(arc as u32)).label;
-        labels.push(compile_label(alloc, net.alg(), label)?)?;
-    }
+    let labels = arc_codes(alloc, net)?;
     Ok(Listing { order, labels })
 }
 
@@ -97,6 +94,6 @@ fn order_listing(alloc: Global, alg: &Alg) -> Result<Listing, NoMemory>
 {
     Ok(Listing {
         order: compile_order(alloc, alg)?,
-        labels: List::new(alloc),
+        labels: LabelCodes::new(alloc),
     })
 }

@@ -7,8 +7,8 @@ ghost use Rattle.report_text.specs.CodeTexts.{CanList, arc_code_text, arc_line_t
 
 use crate::refusals::push_ends;
 use alg_model::Alg;
-use code_gen::Listing;
-use label_code::{LabelCode, Op, OrdOp, OrderCode, Word};
+use code_gen::{LabelCodes, Listing};
+use label_code::{Op, OrdOp, OrderCode, Word};
 use meta_base::{ArcId, NoMemory, Text, push_number};
 use net_graph::{Arc, Net};
 use sig_text::push_label;
@@ -205,7 +205,7 @@ fn push_arc_code(
     alg: &Alg,
     net: &Net,
     arc: &Arc<'_>,
-    code: &LabelCode,
+    code: &[Op],
 ) -> Result<(), NoMemory>
     requires arc { IsArcOf net.now.alg (length net.now.nodes) (pure_arc arc.now) }
     requires algebra { net.now.alg ≡ alg.now }
@@ -213,17 +213,17 @@ fn push_arc_code(
         (arc_code_text alg.now.expression net.now (pure_arc arc.now) code.now) out.new) }
 {
     push_arc_line(out, alg, net, arc)?;
-    push_operations(out, code.as_slice())
+    push_operations(out, code)
 }
 
 // The same of each arc of the network.
-fn push_arcs(out: &mut String, alg: &Alg, net: &Net, labels: &[LabelCode]) -> Result<(), NoMemory>
+fn push_arcs(out: &mut String, alg: &Alg, net: &Net, labels: &LabelCodes) -> Result<(), NoMemory>
     requires algebra { net.now.alg ≡ alg.now }
     requires labels { length labels.now ≡ length net.now.arcs }
     ensures { OnOk result (Gains out.old (arcs_text alg.now.expression net.now net.now.arcs labels.now) out.new) }
 {
     for arc in 0..net.arc_count() {
-        push_arc_code(out, alg, net, &net.arc(ArcId(arc as u32)), &labels[arc])?;
+        push_arc_code(out, alg, net, &net.arc(ArcId(arc as u32)), labels.code(arc))?;
     }
     Ok(())
 }
@@ -245,7 +245,7 @@ pub fn code_lines(
     let mut out = String::new(alloc);
     push_order(&mut out, &listing.order)?;
     if let Some(net) = net {
-        push_arcs(&mut out, alg, net, listing.labels.as_slice())?;
+        push_arcs(&mut out, alg, net, &listing.labels)?;
     }
     Ok(Text::from_string(out))
 }
