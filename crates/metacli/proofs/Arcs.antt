@@ -1,6 +1,6 @@
 -- The labels on a network's arcs, one arc after another.
 use Rattle.std.proofs.Common.{◌≡◌, ℕ, ◌+◌, ◌<◌, ◌≤◌, List, [], ◌∷◌, ◌++◌, Bool, true, false, Some, option_map, get_or, set, slice_get, take, length, ap, ◌∙◌, arith}
-use Rattle.std.proofs.lemmas.List.{take_more}
+use Rattle.std.proofs.lemmas.List.{take_more, take_all, length-map}
 use Rattle.std.proofs.lemmas.Option.{slice_get-get_or, slice_get-map, slice_get_within, get_or_from_slice_get}
 use Rattle.net_graph.specs.Nets.{PureArc, PureNet}
 use Rattle.net_facts.specs.MarkLaws.{AreHeld, held_at, held_more, held_weaker}
@@ -20,6 +20,10 @@ label_at net i a e =
     slice_get-map (λ (a : PureArc). a.label) net.arcs i ∙ ap (option_map (λ (a : PureArc). a.label)) e in
     take_more (labels_on net) i a.label (slice_get_within (labels_on net) i a.label at)
     ∙ ap (λ l. take i (labels_on net) ++ l ∷ []) (get_or_from_slice_get (labels_on net) i a.label a.label at)
+
+-- all arcs have all labels
+pub all_labels : (net : PureNet) (i : ℕ) → length net.arcs ≤ i → take i (labels_on net) ≡ labels_on net
+all_labels net i h = take_all i (labels_on net) (omega (arith, h, length-map net.arcs (λ (a : PureArc). a.label)))
 
 -- an arc whose number is in bounds is there
 pub arc_there : (net : PureNet) (i : ℕ) → i < length net.arcs → (a : PureArc) × (slice_get net.arcs i ≡ Some a)

@@ -1,4 +1,4 @@
-use Rattle.std.proofs.Common.{◌<◌, length, arith}
+use Rattle.std.proofs.Common.{◌≡◌, ◌-◌, ◌<◌, length, arith}
 use Rattle.std.proofs.lemmas.Result.{err_from_is_err_and}
 use Rattle.alg_model.specs.Views.{pure_carrier}
 use Rattle.net_graph.specs.RowTexts.{IsRowOf}
@@ -41,3 +41,8 @@ returns g c =
     let rows_of = word_rows (pure_carrier c.args.rows.now.carrier) in
     let none = stable_end rows_of net c.args.rows.now.tables c.loop-dest.dest (omega (arith, c.loop-dest-test.false, c.dest_count-dest-end.ensures.count)) in
     lines_end _ _ _ (rw none at c.loop-dest.invariant.0)
+
+pub loop-dest-init : goal.loop-dest-init
+loop-dest-init g c =
+    let whole : length c.args.net.now.dests - 0 ≡ length c.args.net.now.dests = omega arith in
+    (rw whole (lines_begin _ _), c.in_ok-lines.ensures)
