@@ -25,34 +25,24 @@ pub fn compare_words(code: &[OrdOp], first: &[Word], second: &[Word]) -> Orderin
     let mut first = first;
     let mut second = second;
     // Most orders look at numbers first, and most rows differ there.
-    while let ([OrdOp::Less, others @ ..], [m, left @ ..], [n, right @ ..]) = (
-        code, first, second,
-    ) {
-        match m.cmp(n) {
-            Ordering::Equal => {
-                code = others;
-                first = left;
-                second = right;
-            }
-            unequal => return unequal,
+    while let ([op, others @ ..], [m, left @ ..], [n, right @ ..]) = (code, first, second) {
+        let found = match op {
+            OrdOp::Less => m.cmp(n),
+            OrdOp::More => n.cmp(m),
+            OrdOp::Rank(_) => return compare_ranks(code, first, second),
+            _ => return compare_steps(code, first, second),
+        };
+        if found != Ordering::Equal {
+            return found;
         }
+        code = others;
+        first = left;
+        second = right;
     }
     if code.is_empty() {
         return Ordering::Equal;
     }
-    compare_others(code, first, second)
-}
-
-// The same of a code whose first operation isn't `Less`, which goes to the loop that suits that operation.
-#[inline(never)]
-fn compare_others(code: &[OrdOp], first: &[Word], second: &[Word]) -> Ordering
-    requires { FitsBoth code.now first.now second.now }
-    ensures { RunOrder code.now first.now second.now ≡ Some result }
-{
-    match code {
-        [OrdOp::More, ..] | [OrdOp::Rank(_), ..] => compare_ranks(code, first, second),
-        _ => compare_steps(code, first, second),
-    }
+    compare_steps(code, first, second)
 }
 
 // The same by numbers and ranks, which most orders compare alone, up to the first operation that does something else.
