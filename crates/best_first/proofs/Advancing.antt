@@ -8,7 +8,7 @@ use Rattle.alg_model.specs.Expressions.{PureValue}
 use Rattle.net_graph.specs.Nets.{PureNet, IsNet}
 use Rattle.net_graph.specs.Routes.{PureRoute}
 use Rattle.net_graph.specs.Tables.{Reported, carrier}
-use Rattle.best_first.specs.declared.fixed.FixedRoute.{FixedRoute}
+use Rattle.best_first.specs.Numbered.{PureFixedRoute}
 use Rattle.best_first.specs.declared.route.OpenRoute.{OpenRoute}
 use Rattle.best_first.specs.Found.{found-map, found_at, arc_offer, own_offer}
 use Rattle.best_first.specs.Keys.{key_of, best_of, routes_of}
@@ -23,7 +23,7 @@ pub reported-none : {S : Type 0} (value : S → PureValue) (paths : List (List N
 reported-none value paths n = fun_ext (λ k. found-map (fixed_route value paths) (replicate n None) k ∙ ap (option_map (fixed_route value paths)) (found-none n k))
 
 -- before the first node
-module _ {S : Type 0} (value : S → PureValue) (is_sig : S → Type 0) (net : PureNet) (dest : ℕ) (rows : List (Option (FixedRoute S))) (paths : List (List NodeId)) (best : List (Option (OpenRoute S)))
+module _ {S : Type 0} (value : S → PureValue) (is_sig : S → Type 0) (net : PureNet) (dest : ℕ) (rows : List (Option (PureFixedRoute S))) (paths : List (List NodeId)) (best : List (Option (OpenRoute S)))
     (is_net : IsNet net) (rows_is : rows ≡ replicate (length net.nodes) None) (count : length best ≡ length net.nodes)
   where
     pub reported_before : reported_by value paths rows ≡ no_route
@@ -34,8 +34,8 @@ module _ {S : Type 0} (value : S → PureValue) (is_sig : S → Type 0) (net : P
       sigs = all-none (λ f. is_sig f.sig) rows none;
       ids = all-none (λ f. f.path.0 < length paths) rows none;
       room = rw (e, rows_is) (
-          let count = none_count-none (FixedRoute S) (length net.nodes) in
-          let all = length-replicate {A = Option (FixedRoute S)} (length net.nodes) None in
+          let count = none_count-none (PureFixedRoute S) (length net.nodes) in
+          let all = length-replicate {A = Option (PureFixedRoute S)} (length net.nodes) None in
           omega arith);
     }
       where
@@ -48,11 +48,11 @@ module _ {S : Type 0} (value : S → PureValue) (is_sig : S → Type 0) (net : P
         (length-map rows (option_map (fixed_route value paths)) ∙ rw rows_is (length-replicate (length net.nodes) None))
         (length-map (best_of value best) (option_map _) ∙ (length-map best (option_map (key_of value)) ∙ count))
         (λ k. ap (λ (t : Reported). t k) reported_before)
-        (none_count-map (fixed_route value paths) rows ∙ rw rows_is (none_count-none (FixedRoute S) (length net.nodes)))
+        (none_count-map (fixed_route value paths) rows ∙ rw rows_is (none_count-none (PureFixedRoute S) (length net.nodes)))
         (λ k l. ap (λ (t : Reported). found_at (routes_of t (best_of value best)) k) reported_before ∙ own k)
 
 -- one node more
-module _ {S : Type 0} (value : S → PureValue) (net : PureNet) (dest : ℕ) (rows new_rows : List (Option (FixedRoute S))) (paths new_paths : List (List NodeId)) (best taken : List (Option (OpenRoute S))) (i : ℕ)
+module _ {S : Type 0} (value : S → PureValue) (net : PureNet) (dest : ℕ) (rows new_rows : List (Option (PureFixedRoute S))) (paths new_paths : List (List NodeId)) (best taken : List (Option (OpenRoute S))) (i : ℕ)
     (is_net : IsNet net) (st : IsState net dest (fixed_routes value paths rows) (open_routes value paths rows best)) (fixes : FixesNext value (carrier net) rows paths best new_rows new_paths taken i)
   where
     itself : (i == i) ≡ true

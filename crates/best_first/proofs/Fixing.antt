@@ -13,7 +13,7 @@ use Rattle.alg_model.specs.Expressions.{PureCarrier, PureValue}
 use Rattle.net_graph.specs.Nets.{CanBeNumbered}
 use Rattle.net_graph.specs.Routes.{PureRoute}
 use Rattle.net_graph.specs.Tables.{Reported}
-use Rattle.best_first.specs.declared.fixed.FixedRoute.{FixedRoute}
+use Rattle.best_first.specs.Numbered.{PureFixedRoute}
 use Rattle.best_first.specs.declared.route.OpenRoute.{OpenRoute}
 use Rattle.best_first.specs.Found.{found-map, found_at, AllFound, none_count}
 use Rattle.best_first.specs.Keys.{RouteKey, key_of, best_of, route_of, routes_of, path_or_none, IsShaped}
@@ -23,12 +23,12 @@ use Rattle.best_first.proofs.Places.{found-set, all-set, found_within, from_none
 use Rattle.best_first.proofs.Queues.{open-found}
 
 -- the path of a row is that of the store
-reported-path : {S : Type 0} (value : S → PureValue) (paths : List (List NodeId)) (o : Option (FixedRoute S)) → path_or_none (option_map (fixed_route value paths) o) ≡ numbers (path_after paths o)
+reported-path : {S : Type 0} (value : S → PureValue) (paths : List (List NodeId)) (o : Option (PureFixedRoute S)) → path_or_none (option_map (fixed_route value paths) o) ≡ numbers (path_after paths o)
 reported-path value paths None = refl
 reported-path value paths (Some f) = refl
 
 -- with a path more in the store the rows tell the same
-reported-more : {S : Type 0} (value : S → PureValue) (paths : List (List NodeId)) (path : List NodeId) (o : Option (FixedRoute S)) → IfSome o (λ f. f.path.0 < length paths)
+reported-more : {S : Type 0} (value : S → PureValue) (paths : List (List NodeId)) (path : List NodeId) (o : Option (PureFixedRoute S)) → IfSome o (λ f. f.path.0 < length paths)
     → option_map (fixed_route value (paths ++ path ∷ [])) o ≡ option_map (fixed_route value paths) o
 reported-more value paths path None h = refl
 reported-more value paths path (Some f) h = rw (get_or_append_left paths (path ∷ []) [] f.path.0 h) refl
@@ -50,7 +50,7 @@ all-weaker {X = X} P Q f xs h k = by (found_at xs k) (h k)
 some_none : {X Y : Type 0} (o : Option X) (x : X) → o ≡ None → o ≡ Some x → Y
 some_none o x e f = absurd (cc)
 
-module _ {S : Type 0} (value : S → PureValue) (is_sig : S → Type 0) (c : PureCarrier) (rows : List (Option (FixedRoute S))) (paths : List (List NodeId)) (best : List (Option (OpenRoute S)))
+module _ {S : Type 0} (value : S → PureValue) (is_sig : S → Type 0) (c : PureCarrier) (rows : List (Option (PureFixedRoute S))) (paths : List (List NodeId)) (best : List (Option (OpenRoute S)))
     (old_standing standing : PureTournament) (i : ℕ) (count : length rows ≡ length best) (fixed : AreFixedBy is_sig rows paths)
     (opened : IsOpen value is_sig c (reported_by value paths rows) best old_standing) (next : IsNext c (reported_by value paths rows) (best_of value best) standing i)
   where
@@ -115,11 +115,11 @@ module _ {S : Type 0} (value : S → PureValue) (is_sig : S → Type 0) (c : Pur
       path : List NodeId
       path = route.place.node ∷ path_after paths (found_at rows route.place.next.0)
 
-      row : FixedRoute S
+      row : PureFixedRoute S
       row = record { sig = route.sig; path = record { 0 = length paths } }
 
       -- with the node's row written and its path added
-      module _ (new_rows : List (Option (FixedRoute S))) (new_paths : List (List NodeId)) (new_best : List (Option (OpenRoute S)))
+      module _ (new_rows : List (Option (PureFixedRoute S))) (new_paths : List (List NodeId)) (new_best : List (Option (OpenRoute S)))
           (rows_is : new_rows ≡ set rows route.place.node.0 (Some (record { sig = route.sig; path = record { 0 = length paths } })))
           (paths_is : new_paths ≡ paths ++ (route.place.node ∷ path_after paths (found_at rows route.place.next.0)) ∷ [])
           (best_is : new_best ≡ set best i None)

@@ -9,6 +9,7 @@ pub mod Origins
 pub mod Slots
 pub mod Offering
 pub mod Fixing
+pub mod Numbering
 pub mod Unique
 pub mod Sound
 pub mod Unbeaten

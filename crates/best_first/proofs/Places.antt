@@ -1,5 +1,5 @@
 -- What stands at a node's place in a list of what is found.
-use Rattle.std.proofs.Common.{◌≡◌, ◌≢◌, ℕ, ◌<◌, ◌≤◌, ◌+◌, zero, suc, List, [], ◌∷◌, ◌++◌, Option, Some, None, IfSome, Bool, true, false, ◌==◌, ◌&&◌, if◌then◌else◌, map, option_map, length, get_or, replicate, inl, inr, refl, sym, ap, ◌∙◌, arith}
+use Rattle.std.proofs.Common.{◌≡◌, ◌≢◌, ℕ, ◌<◌, ◌≤◌, ◌+◌, zero, suc, List, [], ◌∷◌, ◌++◌, Option, Some, None, IfSome, Bool, true, false, ◌==◌, ◌&&◌, if◌then◌else◌, map, option_map, length, get_or, replicate, take, inl, inr, refl, sym, ap, ◌∙◌, arith}
 use Rattle.std.specs.List.{find}
 use Rattle.std.specs.Option.{is_some}
 use Rattle.std.proofs.lemmas.List.{length-map, map-append}
@@ -56,6 +56,12 @@ pub found-none : {X : Type 0} (n k : ℕ) → found_at {X = X} (replicate n None
 found-none zero k = refl
 found-none (suc n) zero = refl
 found-none (suc n) (suc k) = found-none n k
+
+-- the front of a list with what was found at the next place
+pub found_next : {X : Type 0} (xs : List (Option X)) (k : ℕ) → k < length xs → take (suc k) xs ≡ take k xs ++ found_at xs k ∷ []
+found_next [] k l = absurd (omega arith)
+found_next (x ∷ xs) zero l = refl
+found_next (x ∷ xs) (suc k) l = ap (λ ys. x ∷ ys) (found_next xs k (omega arith))
 
 pub found_past : {X : Type 0} (xs : List (Option X)) (k : ℕ) → length xs ≤ k → found_at xs k ≡ None
 found_past [] k l = refl

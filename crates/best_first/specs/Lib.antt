@@ -1,4 +1,5 @@
 pub mod Found
+pub mod Numbered
 pub mod Keys
 pub mod KeyOrder
 pub mod Fixed

@@ -1,68 +1,122 @@
-ghost use Rattle.std.specs.Prelude.{◌≡◌, ◌<◌, ◌∷◌, ◌++◌, [], Some, None, true, length, vec_len, replicate, is_some, IfOk, OnOk, IfSome};
+ghost use Rattle.std.specs.Prelude.{◌≡◌, ◌<◌, ◌∷◌, ◌++◌, [], Some, None, length, option_map, replicate, is_some, IfOk, IfSome, OnErr, OnOk};
 ghost use Rattle.std.proofs.Math.ListN.{set};
 ghost use Rattle.path_store.specs.PathOf.{HasNumber};
-ghost use Rattle.best_first.specs.Found.{found_at, AllFound};
+ghost use Rattle.best_first.specs.Found.{found_at};
 ghost use Rattle.best_first.specs.Fixed.{path_after};
+ghost use Rattle.best_first.specs.Numbered.{lent_fixed, path_by};
 
 use crate::route::OpenRoute;
 use meta_base::{NoMemory, NodeId};
 use path_store::{PathId, Paths};
 use std::alloc::Global;
+use std::marker::Model;
 
-/// The route of a node that is fixed: its value in the algebra's own form, and its path.
+/// The route of a node that is fixed, which is lent: its value in the algebra's own form, and its path.
 #[derive(Drop)]
-pub struct FixedRoute<S> {
-    pub sig: S,
+pub struct FixedRoute<'f, S> {
+    pub sig: &'f S,
     pub path: PathId,
 }
 
-/// The routes of the nodes that are fixed, by number of node, and their paths.
+/// The routes of the nodes that are fixed, and their paths. Contracts see for each node its route, or none.
 #[derive(Drop)]
 pub struct Fixed<S> {
-    /// One for each node: its route, or none.
-    pub rows: Vec<Option<FixedRoute<S>>>,
-    /// The paths of these routes.
-    pub paths: Paths,
+    // By number of node: the path of its route, or none.
+    ids: Vec<Option<PathId>>,
+    // The values of the routes, in the order of their paths.
+    sigs: Vec<S>,
+    paths: Paths,
+}
+
+impl<S> Model for Fixed<S> {
+    ghost use Rattle.best_first.specs.Numbered.{AreNumbered, PureFixed, rows_by};
+
+    ghost Value = { PureFixed S };
+
+    ghost view = { λ f. record { rows = rows_by f.sigs.items f.ids.items; paths = f.paths } };
+
+    ghost invariant = { λ f. AreNumbered f.sigs.items f.ids.items f.paths };
 }
 
 impl<S: Drop> Fixed<S> {
     // So many nodes, none of which is fixed.
     pub(crate) fn new(alloc: Global, count: usize) -> Result<Fixed<S>, NoMemory>
-        ensures rows { IfOk result (λ fixed. fixed.rows.items ≡ replicate count None) }
+        ensures rows { IfOk result (λ fixed. fixed.rows ≡ replicate count None) }
         ensures paths { IfOk result (λ fixed. fixed.paths ≡ []) }
     {
-        let rows = none_of(alloc, count)?;
-        let paths = Paths::with_room(alloc, count, count)?;
-        Ok(Fixed { rows, paths })
+        Ok(Fixed {
+            ids: none_of(alloc, count)?,
+            sigs: Vec::with_capacity(alloc, count)?,
+            paths: Paths::with_room(alloc, count, count)?,
+        })
     }
 
     // Fixes the node of the route.
     pub(crate) fn fix(&mut self, route: OpenRoute<S>) -> Result<(), NoMemory>
-        requires node { route.place.node.0 < vec_len self.old.rows }
-        requires next { route.place.next.0 < vec_len self.old.rows }
+        requires node { route.place.node.0 < length self.old.rows }
+        requires next { route.place.next.0 < length self.old.rows }
         requires few { HasNumber (length self.old.paths) }
-        requires ids { AllFound (λ f. f.path.0 < length self.old.paths) self.old.rows.items }
-        ensures rows { OnOk result (self.new.rows.items ≡ set self.old.rows.items route.place.node.0
+        ensures rows { OnOk result (self.new.rows ≡ set self.old.rows route.place.node.0
             (Some (record { sig = route.sig; path = record { 0 = length self.old.paths } }))) }
         ensures paths { OnOk result (self.new.paths ≡ self.old.paths ++ (route.place.node
-            ∷ path_after self.old.paths (found_at self.old.rows.items route.place.next.0)) ∷ []) }
+            ∷ path_after self.old.paths (found_at self.old.rows route.place.next.0)) ∷ []) }
     {
         let OpenRoute { sig, place } = route;
-        let next = &self.rows[place.next.0 as usize];
+        self.sigs.reserve(1)?;
+        let next = self.ids[place.next.0 as usize];
         let path = add_path(&mut self.paths, place.node, next)?;
-        self.rows[place.node.0 as usize] = Some(FixedRoute { sig, path });
+        self.sigs.push_reserved(sig);
+        self.ids[place.node.0 as usize] = Some(path);
         Ok(())
     }
+}
 
-    // Lends the route of a node that is fixed.
-    pub(crate) fn route(&self, node: NodeId) -> &FixedRoute<S>
-        requires { is_some (found_at self.now.rows.items node.0) ≡ true }
-        ensures { found_at self.now.rows.items node.0 ≡ Some result.now }
+impl<S> Fixed<S> {
+    /// Of how many nodes these are.
+    pub fn node_count(&self) -> usize
+        ensures { result ≡ length self.now.rows }
     {
-        match &self.rows[node.0 as usize] {
-            Some(route) => route,
-            None => unreachable!(),
+        self.ids.len()
+    }
+
+    // Whether the node is fixed.
+    #[inline(always)]
+    pub(crate) fn is_fixed(&self, node: NodeId) -> bool
+        requires { node.0 < length self.now.rows }
+        ensures { result ≡ is_some (found_at self.now.rows node.0) }
+    {
+        self.ids[node.0 as usize].is_some()
+    }
+
+    /// Lends the route of the node, if it has one.
+    #[inline(always)]
+    pub fn route(&self, node: NodeId) -> Option<FixedRoute<'_, S>>
+        requires { node.0 < length self.now.rows }
+        ensures { option_map lent_fixed result ≡ found_at self.now.rows node.0 }
+    {
+        match self.ids[node.0 as usize] {
+            Some(path) => Some(FixedRoute {
+                sig: &self.sigs[path.0 as usize],
+                path,
+            }),
+            None => None,
         }
+    }
+
+    /// Lends the paths of the routes.
+    pub fn paths(&self) -> &Paths
+        ensures { result.now ≡ self.now.paths }
+    {
+        &self.paths
+    }
+
+    /// The paths of the routes, which are all that is left.
+    pub fn into_paths(self) -> Paths
+    where
+        S: Drop,
+        ensures { result ≡ self.paths }
+    {
+        self.paths
     }
 }
 
@@ -78,18 +132,15 @@ pub(crate) fn none_of<T: Drop>(alloc: Global, count: usize) -> Result<Vec<Option
 }
 
 // Adds the path that goes from the node on along that of the next node, or the node's own alone.
-fn add_path<S>(
-    paths: &mut Paths,
-    node: NodeId,
-    next: &Option<FixedRoute<S>>,
-) -> Result<PathId, NoMemory>
+fn add_path(paths: &mut Paths, node: NodeId, next: Option<PathId>) -> Result<PathId, NoMemory>
     requires few { HasNumber (length paths.old) }
-    requires id { IfSome next.now (λ f. f.path.0 < length paths.old) }
-    ensures ok { OnOk result (paths.new ≡ paths.old ++ (node ∷ path_after paths.old next.now) ∷ []) }
+    requires id { IfSome next (λ id. id.0 < length paths.old) }
+    ensures ok { OnOk result (paths.new ≡ paths.old ++ (node ∷ path_by paths.old next) ∷ []) }
     ensures id { IfOk result (λ id. id.0 ≡ length paths.old) }
+    ensures err { OnErr result (paths.new ≡ paths.old) }
 {
     match next {
-        Some(route) => paths.add_before(node, route.path),
+        Some(id) => paths.add_before(node, id),
         None => paths.add(&[node]),
     }
 }

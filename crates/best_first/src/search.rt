@@ -68,25 +68,25 @@ pub(crate) fn fix_next<A: Algebra, L: Ledger>(
     fixed: &mut Fixed<A::Sig>,
     search: &mut Open<A, L>,
 ) -> Result<Option<NodeId>, NoMemory>
-    requires count { vec_len fixed.old.rows ≡ vec_len search.old.best }
-    requires few { CanBeNumbered (vec_len fixed.old.rows) }
-    requires fixed { AreFixedBy (A.is_sig algebra.now) fixed.old.rows.items fixed.old.paths }
+    requires count { length fixed.old.rows ≡ vec_len search.old.best }
+    requires few { CanBeNumbered (length fixed.old.rows) }
+    requires fixed { AreFixedBy (A.is_sig algebra.now) fixed.old.rows fixed.old.paths }
     requires queue { let value = A.sig_value algebra.now in
         IsOpen value (A.is_sig algebra.now) (carrier_of (A.expression algebra.now))
-        (reported_by value fixed.old.paths fixed.old.rows.items) search.old.best.items search.old.standing }
-    ensures rows { OnOk result (vec_len fixed.new.rows ≡ vec_len fixed.old.rows) }
+        (reported_by value fixed.old.paths fixed.old.rows) search.old.best.items search.old.standing }
+    ensures rows { OnOk result (length fixed.new.rows ≡ length fixed.old.rows) }
     ensures best { vec_len search.new.best ≡ vec_len search.old.best }
-    ensures none { IfOk result (λ node. IfNone node (FixesNone fixed.old.rows.items fixed.old.paths
-        search.old.best.items fixed.new.rows.items fixed.new.paths)) }
+    ensures none { IfOk result (λ node. IfNone node (FixesNone fixed.old.rows fixed.old.paths
+        search.old.best.items fixed.new.rows fixed.new.paths)) }
     ensures next { IfOk result (λ node. IfSome node (λ node.
         FixesNext (A.sig_value algebra.now) (carrier_of (A.expression algebra.now))
-        fixed.old.rows.items fixed.old.paths search.old.best.items
-        fixed.new.rows.items fixed.new.paths search.new.best.items node.0)) }
+        fixed.old.rows fixed.old.paths search.old.best.items
+        fixed.new.rows fixed.new.paths search.new.best.items node.0)) }
     ensures fixed { IfOk result (λ node.
-        OnSome node (AreFixedBy (A.is_sig algebra.now) fixed.new.rows.items fixed.new.paths)) }
+        OnSome node (AreFixedBy (A.is_sig algebra.now) fixed.new.rows fixed.new.paths)) }
     ensures queue { let value = A.sig_value algebra.now in
         IfOk result (λ node. OnSome node (IsOpen value (A.is_sig algebra.now) (carrier_of (A.expression algebra.now))
-        (reported_by value fixed.new.paths fixed.new.rows.items) search.new.best.items search.new.standing)) }
+        (reported_by value fixed.new.paths fixed.new.rows) search.new.best.items search.new.standing)) }
 {
     let Some(route) = search.take_best(algebra) else {
         return Ok(None);
@@ -111,35 +111,37 @@ pub(crate) fn relax<A: Algebra, L: Ledger>(
     requires net { IsNet _net.now }
     requires labels { AreListenerLabels (A.stands_for algebra.now) _net.now labels.now }
     requires node { node.0 < length _net.now.nodes }
-    requires rows { vec_len fixed.now.rows ≡ length _net.now.nodes }
+    requires rows { length fixed.now.rows ≡ length _net.now.nodes }
     requires count { vec_len search.old.best ≡ length _net.now.nodes }
-    requires fixed { AreFixedBy (A.is_sig algebra.now) fixed.now.rows.items fixed.now.paths }
-    requires next { IsSomeAnd (reported_by (A.sig_value algebra.now) fixed.now.paths fixed.now.rows.items node.0)
+    requires fixed { AreFixedBy (A.is_sig algebra.now) fixed.now.rows fixed.now.paths }
+    requires next { IsSomeAnd (reported_by (A.sig_value algebra.now) fixed.now.paths fixed.now.rows node.0)
         (CanSpeak _net.now node.0) }
     requires queue { IsOpen (A.sig_value algebra.now) (A.is_sig algebra.now) (carrier _net.now)
-        (reported_by (A.sig_value algebra.now) fixed.now.paths fixed.now.rows.items)
+        (reported_by (A.sig_value algebra.now) fixed.now.paths fixed.now.rows)
         search.old.best.items search.old.standing }
     ensures count { vec_len search.new.best ≡ length _net.now.nodes }
     ensures queue { OnOk result (IsOpen (A.sig_value algebra.now) (A.is_sig algebra.now) (carrier _net.now)
-        (reported_by (A.sig_value algebra.now) fixed.now.paths fixed.now.rows.items)
+        (reported_by (A.sig_value algebra.now) fixed.now.paths fixed.now.rows)
         search.new.best.items search.new.standing) }
     ensures routes { (k : ℕ) → let value = A.sig_value algebra.now in
-        let rows = fixed.now.rows.items in let paths = fixed.now.paths in
+        let rows = fixed.now.rows in let paths = fixed.now.paths in
         let reported = reported_by value paths rows in
         OnOk result (found_at (open_routes value paths rows search.new.best.items) k ≡
         relaxed (carrier _net.now) (reported k)
         (found_at (open_routes value paths rows search.old.best.items) k) (spoken _net.now k node.0 (reported node.0))) }
 {
-    let next = fixed.route(node);
-    let size = fixed.paths.path(next.path).len() as u32 + 1;
+    let Some(next) = fixed.route(node) else {
+        unreachable!()
+    };
+    let size = fixed.paths().path(next.path).len() as u32 + 1;
     for listener in labels.of(node) {
-        if fixed.rows[listener.node.0 as usize].is_none() {
+        if !fixed.is_fixed(listener.node) {
             let place = OpenPlace {
                 size,
                 node: listener.node,
                 next: node,
             };
-            offer_image(alloc, algebra, listener.label, &next.sig, place, search)?;
+            offer_image(alloc, algebra, listener.label, next.sig, place, search)?;
         }
     }
     Ok(())

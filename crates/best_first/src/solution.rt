@@ -4,6 +4,7 @@ ghost use Rattle.net_graph.specs.Tables.{BestFirst};
 ghost use Rattle.net_graph.specs.Views.{rows_of, pure_row};
 ghost use Rattle.best_first.specs.Found.{row_from, rows_from};
 ghost use Rattle.best_first.specs.Fixed.{fixed_route, fixed_routes, fixed_rows, AreFixedBy};
+ghost use Rattle.best_first.specs.Numbered.{lent_fixed};
 ghost use Rattle.arc_labels.specs.Neighbours.{AreListenerLabels};
 
 use crate::fixed::{Fixed, FixedRoute};
@@ -25,16 +26,16 @@ fn row_of<A: Algebra>(
     paths: &Paths,
     node: NodeId,
     dest: DestId,
-    fixed: Option<FixedRoute<A::Sig>>,
+    fixed: Option<FixedRoute<'_, A::Sig>>,
 ) -> Result<RouteRow, NoMemory>
-    requires sig { IfSome fixed (λ f. A.is_sig algebra.now f.sig) }
+    requires sig { IfSome fixed (λ f. A.is_sig algebra.now f.sig.now) }
     requires id { IfSome fixed (λ f. f.path.0 < length paths.now) }
-    ensures { IfOk result (λ row. pure_row row ≡
-        row_from node.0 dest.0 (option_map (fixed_route (A.sig_value algebra.now) paths.now) fixed)) }
+    ensures { IfOk result (λ row. pure_row row ≡ row_from node.0 dest.0
+        (option_map (fixed_route (A.sig_value algebra.now) paths.now) (option_map lent_fixed fixed.entry))) }
 {
     let route = match fixed {
         Some(fixed) => Some(Route {
-            value: algebra.value_of(alloc, &fixed.sig)?,
+            value: algebra.value_of(alloc, fixed.sig)?,
             path: List::from_vec(Vec::from_slice(alloc, paths.path(fixed.path))?),
         }),
         None => None,
@@ -50,18 +51,17 @@ pub fn table_of_fixed<A: Algebra>(
     dest: DestId,
     fixed: Fixed<A::Sig>,
 ) -> Result<DestTable, NoMemory>
-    requires fixed { AreFixedBy (A.is_sig algebra.now) fixed.rows.items fixed.paths }
-    requires few { CanBeNumbered (vec_len fixed.rows) }
+    requires fixed { AreFixedBy (A.is_sig algebra.now) fixed.rows fixed.paths }
+    requires few { CanBeNumbered (length fixed.rows) }
     ensures rows { IfOk result (λ table. rows_of table ≡
-        rows_from dest.0 0 (fixed_routes (A.sig_value algebra.now) fixed.paths fixed.rows.items)) }
+        rows_from dest.0 0 (fixed_routes (A.sig_value algebra.now) fixed.paths fixed.rows)) }
     ensures dest { IfOk result (λ table. table.dest ≡ dest) }
 {
-    let Fixed { rows, paths } = fixed;
-    let mut table = Vec::with_capacity(alloc, rows.len())?;
-    let mut node = 0;
-    for row in rows {
-        table.push(row_of(alloc, algebra, &paths, NodeId(node), dest, row)?)?;
-        node += 1;
+    let mut table = Vec::with_capacity(alloc, fixed.node_count())?;
+    for node in 0..fixed.node_count() {
+        let node = NodeId(node as u32);
+        let row = row_of(alloc, algebra, fixed.paths(), node, dest, fixed.route(node))?;
+        table.push(row)?;
     }
     Ok(DestTable {
         dest,
@@ -123,8 +123,8 @@ pub fn fixed_with<A: Algebra>(
     requires dest { dest.0 < length net.now.dests }
     ensures rows { IfOk result (λ fixed.
         BestFirst net.now dest.0 (fixed_rows (A.sig_value algebra.now) dest.0 fixed)) }
-    ensures fixed { IfOk result (λ fixed. AreFixedBy (A.is_sig algebra.now) fixed.rows.items fixed.paths) }
-    ensures count { IfOk result (λ fixed. vec_len fixed.rows ≡ length net.now.nodes) }
+    ensures fixed { IfOk result (λ fixed. AreFixedBy (A.is_sig algebra.now) fixed.rows fixed.paths) }
+    ensures count { IfOk result (λ fixed. length fixed.rows ≡ length net.now.nodes) }
     ensures few { CanBeNumbered (length net.now.nodes) }
 {
     fixed_counted::<A, Brand>(alloc, algebra, net, labels, dest, Blank::new(1))
@@ -147,8 +147,8 @@ fn fixed_counted<A: Algebra, L: Ledger>(
     requires some { 0 < L.parts }
     ensures rows { IfOk result (λ fixed.
         BestFirst net.now dest.0 (fixed_rows (A.sig_value algebra.now) dest.0 fixed)) }
-    ensures fixed { IfOk result (λ fixed. AreFixedBy (A.is_sig algebra.now) fixed.rows.items fixed.paths) }
-    ensures count { IfOk result (λ fixed. vec_len fixed.rows ≡ length net.now.nodes) }
+    ensures fixed { IfOk result (λ fixed. AreFixedBy (A.is_sig algebra.now) fixed.rows fixed.paths) }
+    ensures count { IfOk result (λ fixed. length fixed.rows ≡ length net.now.nodes) }
     ensures few { CanBeNumbered (length net.now.nodes) }
 {
     let count = net.node_count();

@@ -9,14 +9,14 @@ pub take_best-requires : goal.take_best-requires
 take_best-requires g c =
     let algebra = c.args.algebra.now in
     let value = g.A.Algebra.sig_value algebra in
-    record { ranked = ranked_of value (g.A.Algebra.is_sig algebra) (carrier_of (g.A.Algebra.expression algebra)) (reported_by value c.args.fixed.now.paths c.args.fixed.now.rows.items) c.args.search.now.best.items c.args.search.now.standing c.requires.queue }
+    record { ranked = ranked_of value (g.A.Algebra.is_sig algebra) (carrier_of (g.A.Algebra.expression algebra)) (reported_by value c.args.fixed.now.paths c.args.fixed.now.rows) c.args.search.now.best.items c.args.search.now.standing c.requires.queue }
 
 pub fix-requires-clause-node : goal.fix-requires-clause-node
 fix-requires-clause-node g c =
     let value = g.A.Algebra.sig_value c.args.algebra.now in
     let is_sig = g.A.Algebra.is_sig c.args.algebra.now in
     let carrier = carrier_of (g.A.Algebra.expression c.args.algebra.now) in
-    let rows = c.args.fixed.now.rows.items in
+    let rows = c.args.fixed.now.rows in
     let paths = c.args.fixed.now.paths in
     let best = c.args.search.now.best.items in
     let count : length rows ≡ length best = let e = c.requires.count in omega arith in
@@ -33,7 +33,7 @@ fix-requires-clause-next g c =
     let value = g.A.Algebra.sig_value c.args.algebra.now in
     let is_sig = g.A.Algebra.is_sig c.args.algebra.now in
     let carrier = carrier_of (g.A.Algebra.expression c.args.algebra.now) in
-    let rows = c.args.fixed.now.rows.items in
+    let rows = c.args.fixed.now.rows in
     let paths = c.args.fixed.now.paths in
     let best = c.args.search.now.best.items in
     let count : length rows ≡ length best = let e = c.requires.count in omega arith in
@@ -50,7 +50,7 @@ returns-clause-next g c =
     let value = g.A.Algebra.sig_value c.args.algebra.now in
     let is_sig = g.A.Algebra.is_sig c.args.algebra.now in
     let carrier = carrier_of (g.A.Algebra.expression c.args.algebra.now) in
-    let rows = c.args.fixed.now.rows.items in
+    let rows = c.args.fixed.now.rows in
     let paths = c.args.fixed.now.paths in
     let best = c.args.search.now.best.items in
     let count : length rows ≡ length best = let e = c.requires.count in omega arith in
@@ -59,14 +59,14 @@ returns-clause-next g c =
     let t = c.take_best.new.self.standing in
     let taken = c.in-Some.ensures in
     let next = next_taken value is_sig carrier (reported_by value paths rows) best c.take_best.new.self.best.items old_t t route c.requires.queue taken.route taken.first taken.taken c.take_best.ensures.ranked.ranked in
-    fixes value is_sig carrier rows paths best old_t t route.place.node.0 count c.requires.fixed c.requires.queue next route taken.route c.fix.new.self.rows.items c.fix.new.self.paths c.take_best.new.self.best.items c.in_ok-fix.ensures.rows c.in_ok-fix.ensures.paths taken.taken
+    fixes value is_sig carrier rows paths best old_t t route.place.node.0 count c.requires.fixed c.requires.queue next route taken.route c.fix.new.self.rows c.fix.new.self.paths c.take_best.new.self.best.items c.in_ok-fix.ensures.rows c.in_ok-fix.ensures.paths taken.taken
 
 pub returns-clause-fixed : goal.returns-clause-fixed
 returns-clause-fixed g c =
     let value = g.A.Algebra.sig_value c.args.algebra.now in
     let is_sig = g.A.Algebra.is_sig c.args.algebra.now in
     let carrier = carrier_of (g.A.Algebra.expression c.args.algebra.now) in
-    let rows = c.args.fixed.now.rows.items in
+    let rows = c.args.fixed.now.rows in
     let paths = c.args.fixed.now.paths in
     let best = c.args.search.now.best.items in
     let count : length rows ≡ length best = let e = c.requires.count in omega arith in
@@ -75,14 +75,14 @@ returns-clause-fixed g c =
     let t = c.take_best.new.self.standing in
     let taken = c.in-Some.ensures in
     let next = next_taken value is_sig carrier (reported_by value paths rows) best c.take_best.new.self.best.items old_t t route c.requires.queue taken.route taken.first taken.taken c.take_best.ensures.ranked.ranked in
-    fixed_after value is_sig carrier rows paths best old_t t route.place.node.0 count c.requires.fixed c.requires.queue next route taken.route c.fix.new.self.rows.items c.fix.new.self.paths c.take_best.new.self.best.items c.in_ok-fix.ensures.rows c.in_ok-fix.ensures.paths taken.taken
+    fixed_after value is_sig carrier rows paths best old_t t route.place.node.0 count c.requires.fixed c.requires.queue next route taken.route c.fix.new.self.rows c.fix.new.self.paths c.take_best.new.self.best.items c.in_ok-fix.ensures.rows c.in_ok-fix.ensures.paths taken.taken
 
 pub returns-clause-queue : goal.returns-clause-queue
 returns-clause-queue g c =
     let value = g.A.Algebra.sig_value c.args.algebra.now in
     let is_sig = g.A.Algebra.is_sig c.args.algebra.now in
     let carrier = carrier_of (g.A.Algebra.expression c.args.algebra.now) in
-    let rows = c.args.fixed.now.rows.items in
+    let rows = c.args.fixed.now.rows in
     let paths = c.args.fixed.now.paths in
     let best = c.args.search.now.best.items in
     let count : length rows ≡ length best = let e = c.requires.count in omega arith in
@@ -91,4 +91,4 @@ returns-clause-queue g c =
     let t = c.take_best.new.self.standing in
     let taken = c.in-Some.ensures in
     let next = next_taken value is_sig carrier (reported_by value paths rows) best c.take_best.new.self.best.items old_t t route c.requires.queue taken.route taken.first taken.taken c.take_best.ensures.ranked.ranked in
-    open_after value is_sig carrier rows paths best old_t t route.place.node.0 count c.requires.fixed c.requires.queue next route taken.route c.fix.new.self.rows.items c.fix.new.self.paths c.take_best.new.self.best.items c.in_ok-fix.ensures.rows c.in_ok-fix.ensures.paths taken.taken
+    open_after value is_sig carrier rows paths best old_t t route.place.node.0 count c.requires.fixed c.requires.queue next route taken.route c.fix.new.self.rows c.fix.new.self.paths c.take_best.new.self.best.items c.in_ok-fix.ensures.rows c.in_ok-fix.ensures.paths taken.taken

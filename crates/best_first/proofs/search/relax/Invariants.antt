@@ -11,7 +11,7 @@ use Rattle.best_first.proofs.search.relax.Given as goal
 abbrev pub invariant-loop-listener : goal.invariant-loop-listener
 invariant-loop-listener g l =
     let value = g.A.Algebra.sig_value l.algebra in
-    let rows = l.fixed.rows.items in
+    let rows = l.fixed.rows in
     let paths = l.fixed.paths in
     let reported = reported_by value paths rows in
     record {

@@ -1,6 +1,6 @@
 use Rattle.std.proofs.Common.{◌≡◌, Option, None, length, ap, ◌∙◌, arith}
 use Rattle.std.proofs.lemmas.List.{length-replicate}
-use Rattle.best_first.specs.declared.fixed.FixedRoute.{FixedRoute}
+use Rattle.best_first.specs.Numbered.{PureFixedRoute}
 use Rattle.best_first.specs.Fixed.{reported_by, fixed_routes, open_routes}
 use Rattle.best_first.proofs.Places.{found-none}
 use Rattle.best_first.proofs.Steps.{last_state}
@@ -19,7 +19,7 @@ loop-search-init g c =
     let value = g.A.Algebra.sig_value c.args.algebra.now in
     let is_sig = g.A.Algebra.is_sig c.args.algebra.now in
     let net = c.args.net.now in
-    let rows = c.in_ok-fixed.fixed.rows.items in
+    let rows = c.in_ok-fixed.fixed.rows in
     let paths = c.in_ok-fixed.fixed.paths in
     let best = c.offer_own.new.search.best.items in
     let is_net = c.node_count-count.ensures.net in
@@ -27,7 +27,7 @@ loop-search-init g c =
     let count : length best ≡ length net.nodes = let e = c.in_ok-offer_own.ensures.count in omega arith in
     let all = ap length rows_is in
     record {
-      rows_count = (let same = length-replicate {A = Option (FixedRoute g.row.A-Sig.Denot)} (length net.nodes) None in omega arith);
+      rows_count = (let same = length-replicate {A = Option (PureFixedRoute g.row.A-Sig.Denot)} (length net.nodes) None in omega arith);
       best_count = c.in_ok-offer_own.ensures.count;
       fixed = fixed_before value is_sig net c.args.dest.0 rows paths best is_net rows_is count c.in_ok-fixed.ensures.paths;
       queue = rw (reported_before value is_sig net c.args.dest.0 rows paths best is_net rows_is count) c.in_ok-offer_own.ensures.queue;
@@ -42,12 +42,12 @@ relax-requires-clause-node g c =
     let value = g.A.Algebra.sig_value c.args.algebra.now in
     let net = c.args.net.now in
     let dest = c.args.dest.0 in
-    let rows = c.loop-search.fixed.rows.items in
+    let rows = c.loop-search.fixed.rows in
     let paths = c.loop-search.fixed.paths in
     let best = c.loop-search.search.best.items in
     let is_net = c.node_count-count.ensures.net in
     let st = c.loop-search.invariant.state in
-    let new_rows = c.fix_next.new.fixed.rows.items in
+    let new_rows = c.fix_next.new.fixed.rows in
     let new_paths = c.fix_next.new.fixed.paths in
     let taken = c.fix_next.new.search.best.items in
     let node = c.in-Some.node.0 in
@@ -59,12 +59,12 @@ relax-requires-clause-next g c =
     let value = g.A.Algebra.sig_value c.args.algebra.now in
     let net = c.args.net.now in
     let dest = c.args.dest.0 in
-    let rows = c.loop-search.fixed.rows.items in
+    let rows = c.loop-search.fixed.rows in
     let paths = c.loop-search.fixed.paths in
     let best = c.loop-search.search.best.items in
     let is_net = c.node_count-count.ensures.net in
     let st = c.loop-search.invariant.state in
-    let new_rows = c.fix_next.new.fixed.rows.items in
+    let new_rows = c.fix_next.new.fixed.rows in
     let new_paths = c.fix_next.new.fixed.paths in
     let taken = c.fix_next.new.search.best.items in
     let node = c.in-Some.node.0 in
@@ -79,12 +79,12 @@ loop-search-preserved g c =
     let value = g.A.Algebra.sig_value c.args.algebra.now in
     let net = c.args.net.now in
     let dest = c.args.dest.0 in
-    let rows = c.loop-search.fixed.rows.items in
+    let rows = c.loop-search.fixed.rows in
     let paths = c.loop-search.fixed.paths in
     let best = c.loop-search.search.best.items in
     let is_net = c.node_count-count.ensures.net in
     let st = c.loop-search.invariant.state in
-    let new_rows = c.fix_next.new.fixed.rows.items in
+    let new_rows = c.fix_next.new.fixed.rows in
     let new_paths = c.fix_next.new.fixed.paths in
     let taken = c.fix_next.new.search.best.items in
     let node = c.in-Some.node.0 in
@@ -105,7 +105,7 @@ returns-clause-rows g c =
     let value = g.A.Algebra.sig_value c.args.algebra.now in
     let net = c.args.net.now in
     let dest = c.args.dest.0 in
-    let rows = c.loop-search.fixed.rows.items in
+    let rows = c.loop-search.fixed.rows in
     let paths = c.loop-search.fixed.paths in
     let best = c.loop-search.search.best.items in
     let done = rw c.in_default.is at c.in_ok-node.ensures.none in

@@ -11,10 +11,10 @@ abbrev pub invariant-loop-search : goal.invariant-loop-search
 invariant-loop-search g l =
     let value = g.A.Algebra.sig_value l.algebra in
     let is_sig = g.A.Algebra.is_sig l.algebra in
-    let rows = l.fixed.rows.items in
+    let rows = l.fixed.rows in
     let paths = l.fixed.paths in
     record {
-      rows_count : vec_len l.fixed.rows ≡ length l.net.nodes;
+      rows_count : length l.fixed.rows ≡ length l.net.nodes;
       best_count : vec_len l.search.best ≡ length l.net.nodes;
       fixed : AreFixedBy is_sig rows paths;
       queue : IsOpen value is_sig (carrier l.net) (reported_by value paths rows) l.search.best.items l.search.standing;
@@ -22,4 +22,4 @@ invariant-loop-search g l =
     }
 
 abbrev pub decreases-loop-search : goal.decreases-loop-search
-decreases-loop-search g l = none_count l.fixed.rows.items
+decreases-loop-search g l = none_count l.fixed.rows
