@@ -42,6 +42,14 @@ found-set xs i k x l = by (k == i) refl
         let n : k ≢ i = grind (arith, nat_tests) in
         rw h (found-set_other xs i k x n)
 
+-- where nothing was found, nothing is when one place is emptied
+pub found-cleared : {X : Type 0} (xs : List (Option X)) (i k : ℕ) → i < length xs → found_at xs k ≡ None → found_at (set xs i None) k ≡ None
+found-cleared {X} xs i k l h = rw (found-set xs i k None l) (by (k == i) (found_at xs k) h)
+  where
+    by : (b : Bool) (o : Option X) → o ≡ None → (if b then None else o) ≡ None
+    by true o e = refl
+    by false o e = e
+
 pub all-set : {X : Type 0} (P : X → Type 0) (xs : List (Option X)) (i : ℕ) (x : Option X) → i < length xs → AllFound P xs → IfSome x P → AllFound P (set xs i x)
 all-set P xs i x l h s k = rw (found-set xs i k x l) (by (k == i))
   where

@@ -4,11 +4,13 @@ use Rattle.meta_base.specs.declared.ids.NodeId.{NodeId}
 use Rattle.meta_base.specs.NodePaths.{numbers}
 use Rattle.path_store.specs.PathOf.{path_of}
 use Rattle.alg_model.specs.Expressions.{PureCarrier, PureValue}
+use Rattle.net_graph.specs.Nets.{CanBeNumbered, PureNet}
 use Rattle.net_graph.specs.Routes.{PureRoute}
-use Rattle.net_graph.specs.Tables.{PureRow, Reported}
+use Rattle.net_graph.specs.Tables.{BestFirst, PureRow, Reported}
 use Rattle.best_first.specs.declared.route.OpenRoute.{OpenRoute}
 use Rattle.best_first.specs.Found.{found_at, AllFound, none_count, rows_from, IsBestOf}
 use Rattle.best_first.specs.Keys.{best_of, routes_of}
+use Rattle.best_first.specs.Ranges.{AreFrom}
 use Rattle.best_first.specs.Numbered.{PureFixed, PureFixedRoute}
 
 -- the route of a node that is fixed, by the value and the path that stand for it
@@ -56,3 +58,14 @@ pub record FixesNone {S : Type 0} (rows : List (Option (PureFixedRoute S))) (pat
   pub none : (k : ℕ) → found_at best k ≡ None
   pub rows_same : new_rows ≡ rows
   pub paths_same : new_paths ≡ paths
+
+-- the routes are those of destination k, made best first, with values in the algebra's form, one for each node or none
+pub record IsFixedOf {S : Type 0} (value : S → PureValue) (is_sig : S → Type 0) (net : PureNet) (k : ℕ) (found : PureFixed S) : Type 0 where
+  pub best_first : BestFirst net k (fixed_rows value k found)
+  pub fixed : AreFixedBy is_sig found.rows found.paths
+  pub count : length found.rows ≡ length net.nodes
+  pub few : CanBeNumbered (length net.nodes)
+
+-- the routes are those of the destinations from k on, in order
+abbrev pub AreFixedFrom : {S : Type 0} → (S → PureValue) → (S → Type 0) → PureNet → ℕ → List (PureFixed S) → Type 0
+AreFixedFrom value is_sig net k found = AreFrom (IsFixedOf value is_sig net) k found

@@ -56,6 +56,12 @@ abbrev pub IsOfferedOf : PureCarrier → OpenPlace → Option PureValue → List
 IsOfferedOf c place None best new_best = new_best ≡ best
 IsOfferedOf c place (Some v) best new_best = IsOffered c (key_at place v) best new_best
 
+-- nothing is open at so many nodes, and the tournament is one of them
+pub record IsClear {S : Type 0} (n : ℕ) (best : List (Option (OpenRoute S))) (standing : PureTournament) : Type 0 where
+  pub count : length best ≡ n
+  pub none : (k : ℕ) → found_at best k ≡ None
+  pub slots : standing.count ≡ n
+
 -- no node has a route
 abbrev pub no_route : Reported
 no_route k = None

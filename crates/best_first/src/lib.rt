@@ -13,4 +13,4 @@ mod solution;
 
 pub use fixed::{Fixed, FixedRoute};
 pub use laws::{best_first_is_optimal, best_first_is_unique, best_first_rows_are_the_networks};
-pub use solution::{fixed_with, solve, solve_with, table_of_fixed};
+pub use solution::{fixed_between, solve, solve_with, table_of_fixed};

@@ -1,4 +1,4 @@
-ghost use Rattle.std.specs.Prelude.{◌≡◌, ◌≢◌, ◌<◌, ℕ, Bool, Some, None, true, false, length, vec_len, replicate, IfOk, IfSome, IfNone, option_map};
+ghost use Rattle.std.specs.Prelude.{◌≡◌, ◌≢◌, ◌<◌, ℕ, Some, None, true, length, vec_len, replicate, IfOk, IfSome, IfNone, option_map};
 ghost use Rattle.std.proofs.Math.ListN.{set};
 ghost use Rattle.frontier.specs.Tournaments.{IsJudged, IsJudgedBut, IsFirstSlot};
 ghost use Rattle.alg_model.specs.Carriers.{carrier_of};
@@ -32,8 +32,6 @@ impl<A: Algebra, L: Ledger> Open<A, L> {
         requires some { 0 < L.parts }
         ensures best { IfOk result (λ made. made.best.items ≡ replicate count None) }
         ensures count { IfOk result (λ made. made.standing.count ≡ count) }
-        ensures judged { (before : ℕ → ℕ → Bool) → ((k m : ℕ) → k < count → m < count → before k m ≡ false) →
-            IfOk result (λ made. IsJudged before made.standing) }
     {
         Ok(Open {
             best: none_of(alloc, count)?,
@@ -158,6 +156,7 @@ impl<A: Algebra, L: Ledger> Open<A, L> {
             (carrier_of (A.expression algebra.now)) self.old.best.items self.old.standing }
         ensures count { vec_len self.new.best ≡ vec_len self.old.best }
         ensures none { IfNone result ((k : ℕ) → found_at self.old.best.items k ≡ None) }
+        ensures cleared { IfNone result ((k : ℕ) → found_at self.new.best.items k ≡ None) }
         ensures route { IfSome result (λ route. found_at self.old.best.items route.place.node.0 ≡ Some route) }
         ensures first { IfSome result (λ route. IsFirstSlot (precedes (carrier_of (A.expression algebra.now))
             (best_of (A.sig_value algebra.now) self.old.best.items)) (length self.old.best.items) route.place.node.0) }

@@ -1,6 +1,5 @@
-ghost use Rattle.std.specs.Prelude.{◌≡◌, ◌<◌, ◌≤◌, ◌+◌, ℕ, Bool, None, true, false, length, vec_len, IfOk, OnOk, IfNone, IfSome, OnSome, IsSomeAnd, MatchOption, option_map};
+ghost use Rattle.std.specs.Prelude.{◌≡◌, ◌<◌, ◌≤◌, ◌+◌, ℕ, None, true, false, length, vec_len, IfOk, OnOk, IfNone, IfSome, OnSome, IsSomeAnd, MatchOption, option_map};
 ghost use Rattle.arc_labels.specs.Neighbours.{AreListenerLabels};
-ghost use Rattle.frontier.specs.Tournaments.{IsJudged};
 ghost use Rattle.alg_model.specs.declared.alg.TheConstants.{MAX_VALUE_NUMBER};
 ghost use Rattle.alg_model.specs.Expressions.{PureLabel};
 ghost use Rattle.alg_model.specs.Carriers.{carrier_of};
@@ -11,7 +10,7 @@ ghost use Rattle.net_graph.specs.Tables.{carrier};
 ghost use Rattle.best_first.specs.Found.{found_at, own_offer};
 ghost use Rattle.best_first.specs.Keys.{best_of, routes_of};
 ghost use Rattle.best_first.specs.Fixed.{reported_by, open_routes, AreFixedBy, FixesNone, FixesNext};
-ghost use Rattle.best_first.specs.Queue.{AreRanked, IsOpen, IsOfferedOf, no_route};
+ghost use Rattle.best_first.specs.Queue.{AreRanked, IsClear, IsOpen, IsOfferedOf, no_route};
 ghost use Rattle.best_first.specs.State.{relaxed, CanSpeak, spoken};
 
 use crate::fixed::Fixed;
@@ -35,18 +34,14 @@ pub(crate) fn offer_own<A: Algebra, L: Ledger>(
     requires algebra { A.expression algebra.now ≡ net.now.alg.expression }
     requires net { IsNet net.now }
     requires dest { dest.0 < length net.now.dests }
-    requires count { vec_len search.old.best ≡ length net.now.nodes }
-    requires best { (k : ℕ) → found_at search.old.best.items k ≡ None }
-    requires standing { search.old.standing.count ≡ length net.now.nodes }
-    requires judged { (before : ℕ → ℕ → Bool) →
-        ((k m : ℕ) → k < length net.now.nodes → m < length net.now.nodes → before k m ≡ false) →
-        IsJudged before search.old.standing }
+    requires clear { IsClear (length net.now.nodes) search.old.best.items search.old.standing }
     ensures count { vec_len search.new.best ≡ length net.now.nodes }
     ensures queue { OnOk result (IsOpen (A.sig_value algebra.now) (A.is_sig algebra.now) (carrier net.now)
         no_route search.new.best.items search.new.standing) }
     ensures offers { (k : ℕ) → OnOk result (found_at (routes_of no_route
         (best_of (A.sig_value algebra.now) search.new.best.items)) k ≡ own_offer net.now dest.0 k) }
 {
+    search.standing.ties_are_judged();
     for origin in net.origins_of(dest) {
         let node = origin.node;
         let route = OpenRoute {
@@ -78,6 +73,8 @@ pub(crate) fn fix_next<A: Algebra, L: Ledger>(
     ensures best { vec_len search.new.best ≡ vec_len search.old.best }
     ensures none { IfOk result (λ node. IfNone node (FixesNone fixed.old.rows fixed.old.paths
         search.old.best.items fixed.new.rows fixed.new.paths)) }
+    ensures clear { IfOk result (λ node. IfNone node
+        (IsClear (vec_len search.old.best) search.new.best.items search.new.standing)) }
     ensures next { IfOk result (λ node. IfSome node (λ node.
         FixesNext (A.sig_value algebra.now) (carrier_of (A.expression algebra.now))
         fixed.old.rows fixed.old.paths search.old.best.items

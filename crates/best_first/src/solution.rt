@@ -1,10 +1,11 @@
-ghost use Rattle.std.specs.Prelude.{◌≡◌, ◌<◌, length, vec_len, IfOk, IfSome, option_map};
+ghost use Rattle.std.specs.Prelude.{◌≡◌, ◌+◌, ◌<◌, ◌≤◌, length, IfOk, IfSome, OnOk, option_map};
 ghost use Rattle.net_graph.specs.Nets.{CanBeNumbered};
 ghost use Rattle.net_graph.specs.Tables.{BestFirst};
 ghost use Rattle.net_graph.specs.Views.{rows_of, pure_row};
 ghost use Rattle.best_first.specs.Found.{row_from, rows_from};
-ghost use Rattle.best_first.specs.Fixed.{fixed_route, fixed_routes, fixed_rows, AreFixedBy};
+ghost use Rattle.best_first.specs.Fixed.{fixed_route, fixed_routes, AreFixedBy, AreFixedFrom, IsFixedOf};
 ghost use Rattle.best_first.specs.Numbered.{lent_fixed};
+ghost use Rattle.best_first.specs.Queue.{IsClear};
 ghost use Rattle.arc_labels.specs.Neighbours.{AreListenerLabels};
 
 use crate::fixed::{Fixed, FixedRoute};
@@ -43,7 +44,7 @@ fn row_of<A: Algebra>(
     Ok(RouteRow { node, dest, route })
 }
 
-/// The table of the destination whose rows are these routes, which may come from [`fixed_with`]: the values are those
+/// The table of the destination whose rows are these routes, which may come from [`fixed_between`]: the values are those
 /// of the algebra, and each path is copied out of the store. It is refused for want of memory alone.
 pub fn table_of_fixed<A: Algebra>(
     alloc: Global,
@@ -106,32 +107,12 @@ pub fn solve_with<A: Algebra>(
     ensures rows { IfOk result (λ table. BestFirst net.now dest.0 (rows_of table)) }
     ensures dest { IfOk result (λ table. table.dest ≡ dest) }
 {
-    let fixed = fixed_with(alloc, algebra, net, labels, dest)?;
+    let fixed = fixed_alone::<A, Brand>(alloc, algebra, net, labels, dest, Blank::new(1))?;
     table_of_fixed(alloc, algebra, dest, fixed)
 }
 
-/// The routes that [`solve_with`] puts into a table, with values in the algebra's own form, and all paths in one store.
-pub fn fixed_with<A: Algebra>(
-    alloc: Global,
-    algebra: &A,
-    net: &Net,
-    labels: &NeighbourLabels<'_, A::Lab>,
-    dest: DestId,
-) -> Result<Fixed<A::Sig>, NoMemory>
-    requires algebra { A.expression algebra.now ≡ net.now.alg.expression }
-    requires labels { AreListenerLabels (A.stands_for algebra.now) net.now labels.now }
-    requires dest { dest.0 < length net.now.dests }
-    ensures rows { IfOk result (λ fixed.
-        BestFirst net.now dest.0 (fixed_rows (A.sig_value algebra.now) dest.0 fixed)) }
-    ensures fixed { IfOk result (λ fixed. AreFixedBy (A.is_sig algebra.now) fixed.rows fixed.paths) }
-    ensures count { IfOk result (λ fixed. length fixed.rows ≡ length net.now.nodes) }
-    ensures few { CanBeNumbered (length net.now.nodes) }
-{
-    fixed_counted::<A, Brand>(alloc, algebra, net, labels, dest, Blank::new(1))
-}
-
-// What `fixed_with` gives, where the comparisons of the search are counted in the blank's ledger.
-fn fixed_counted<A: Algebra, L: Ledger>(
+// The routes that `solve_with` puts into a table, with values in the algebra's own form, and all paths in one store.
+fn fixed_alone<A: Algebra, L: Ledger>(
     alloc: Global,
     algebra: &A,
     net: &Net,
@@ -145,18 +126,82 @@ fn fixed_counted<A: Algebra, L: Ledger>(
     requires name { blank.name ≡ L.name }
     requires parts { blank.parts ≡ L.parts }
     requires some { 0 < L.parts }
-    ensures rows { IfOk result (λ fixed.
-        BestFirst net.now dest.0 (fixed_rows (A.sig_value algebra.now) dest.0 fixed)) }
-    ensures fixed { IfOk result (λ fixed. AreFixedBy (A.is_sig algebra.now) fixed.rows fixed.paths) }
-    ensures count { IfOk result (λ fixed. length fixed.rows ≡ length net.now.nodes) }
-    ensures few { CanBeNumbered (length net.now.nodes) }
+    ensures { IfOk result (IsFixedOf (A.sig_value algebra.now) (A.is_sig algebra.now) net.now dest.0) }
 {
-    let count = net.node_count();
-    let mut fixed = Fixed::new(alloc, count)?;
-    let mut search = Open::<A, L>::new(alloc, count, blank)?;
-    offer_own(alloc, algebra, net, dest, &mut search)?;
-    while let Some(node) = fix_next(algebra, &mut fixed, &mut search)? {
-        relax(alloc, algebra, net, labels, &fixed, &mut search, node)?;
+    let mut search = Open::<A, L>::new(alloc, net.node_count(), blank)?;
+    fixed_by(alloc, algebra, net, labels, dest, &mut search)
+}
+
+/// What [`solve_with`] finds for the destinations from `first` to before `end`, in order, with values in the algebra's
+/// own form, and all paths of a destination in one store: one search after another, in the same memory.
+pub fn fixed_between<A: Algebra>(
+    alloc: Global,
+    algebra: &A,
+    net: &Net,
+    labels: &NeighbourLabels<'_, A::Lab>,
+    first: usize,
+    end: usize,
+) -> Result<List<Fixed<A::Sig>>, NoMemory>
+    requires algebra { A.expression algebra.now ≡ net.now.alg.expression }
+    requires labels { AreListenerLabels (A.stands_for algebra.now) net.now labels.now }
+    requires order { first ≤ end }
+    requires dests { end ≤ length net.now.dests }
+    ensures found { IfOk result (AreFixedFrom (A.sig_value algebra.now) (A.is_sig algebra.now) net.now first) }
+    ensures count { IfOk result (λ found. first + length found ≡ end) }
+{
+    searched_between::<A, Brand>(alloc, algebra, net, labels, first, end, Blank::new(1))
+}
+
+// The same, where the comparisons of the searches are counted in the blank's ledger.
+fn searched_between<A: Algebra, L: Ledger>(
+    alloc: Global,
+    algebra: &A,
+    net: &Net,
+    labels: &NeighbourLabels<'_, A::Lab>,
+    first: usize,
+    end: usize,
+    blank: Blank,
+) -> Result<List<Fixed<A::Sig>>, NoMemory>
+    requires algebra { A.expression algebra.now ≡ net.now.alg.expression }
+    requires labels { AreListenerLabels (A.stands_for algebra.now) net.now labels.now }
+    requires order { first ≤ end }
+    requires dests { end ≤ length net.now.dests }
+    requires name { blank.name ≡ L.name }
+    requires parts { blank.parts ≡ L.parts }
+    requires some { 0 < L.parts }
+    ensures found { IfOk result (AreFixedFrom (A.sig_value algebra.now) (A.is_sig algebra.now) net.now first) }
+    ensures count { IfOk result (λ found. first + length found ≡ end) }
+{
+    let _dests = net.dest_count();
+    let mut search = Open::<A, L>::new(alloc, net.node_count(), blank)?;
+    let mut found = Vec::with_capacity(alloc, end - first)?;
+    for dest in first..end {
+        let fixed = fixed_by(alloc, algebra, net, labels, DestId(dest as u32), &mut search)?;
+        found.push(fixed)?;
+    }
+    Ok(List::from_vec(found))
+}
+
+// The routes for the destination, by a search in which nothing is open, nor is when it has ended.
+fn fixed_by<A: Algebra, L: Ledger>(
+    alloc: Global,
+    algebra: &A,
+    net: &Net,
+    labels: &NeighbourLabels<'_, A::Lab>,
+    dest: DestId,
+    search: &mut Open<A, L>,
+) -> Result<Fixed<A::Sig>, NoMemory>
+    requires algebra { A.expression algebra.now ≡ net.now.alg.expression }
+    requires labels { AreListenerLabels (A.stands_for algebra.now) net.now labels.now }
+    requires dest { dest.0 < length net.now.dests }
+    requires clear { IsClear (length net.now.nodes) search.old.best.items search.old.standing }
+    ensures fixed { IfOk result (IsFixedOf (A.sig_value algebra.now) (A.is_sig algebra.now) net.now dest.0) }
+    ensures clear { OnOk result (IsClear (length net.now.nodes) search.new.best.items search.new.standing) }
+{
+    let mut fixed = Fixed::new(alloc, net.node_count())?;
+    offer_own(alloc, algebra, net, dest, search)?;
+    while let Some(node) = fix_next(algebra, &mut fixed, search)? {
+        relax(alloc, algebra, net, labels, &fixed, search, node)?;
     }
     Ok(fixed)
 }

@@ -1,6 +1,9 @@
-use Rattle.std.proofs.Common.{◌≡◌, length, arith}
+use Rattle.std.proofs.Common.{◌≡◌, length, vec_len, arith}
+use Rattle.std.specs.Option.{option_map}
+use Rattle.std.proofs.lemmas.List.{length-map}
 use Rattle.alg_model.specs.Carriers.{carrier_of}
 use Rattle.best_first.specs.Fixed.{reported_by}
+use Rattle.best_first.specs.Keys.{key_of}
 use Rattle.best_first.proofs.Fixing.{node_within, next_within, fixes, fixed_after, open_after}
 use Rattle.best_first.proofs.Offering.{ranked_of, next_taken}
 use Rattle.best_first.proofs.search.fix_next.Goals as goal
@@ -92,3 +95,15 @@ returns-clause-queue g c =
     let taken = c.in-Some.ensures in
     let next = next_taken value is_sig carrier (reported_by value paths rows) best c.take_best.new.self.best.items old_t t route c.requires.queue taken.route taken.first taken.taken c.take_best.ensures.ranked.ranked in
     open_after value is_sig carrier rows paths best old_t t route.place.node.0 count c.requires.fixed c.requires.queue next route taken.route c.fix.new.self.rows c.fix.new.self.paths c.take_best.new.self.best.items c.in_ok-fix.ensures.rows c.in_ok-fix.ensures.paths taken.taken
+
+pub returns-in_default-clause-clear : goal.returns-in_default-clause-clear
+returns-in_default-clause-clear g c =
+    let value = g.A.Algebra.sig_value c.args.algebra.now in
+    let old = c.args.search.now.best in
+    let best = c.take_best.new.self.best.items in
+    let count : length best ≡ vec_len old = omega (arith, c.take_best.ensures.count) in
+    record {
+      count = count;
+      none = c.in_default.ensures.cleared;
+      slots = omega (arith, count, c.take_best.ensures.ranked.ranked.count, length-map best (option_map (key_of value)));
+    }

@@ -14,10 +14,10 @@ pub loop-origin-init : goal.loop-origin-init
 loop-origin-init g c =
     let value = g.A.Algebra.sig_value c.args.algebra.now in
     record {
-      count = c.requires.count;
-      queue = nothing_open value (g.A.Algebra.is_sig c.args.algebra.now) (carrier c.args.net.now) c.args.search.now.best.items c.args.search.now.standing c.requires.best (omega (arith, c.requires.count, c.requires.standing))
-          (λ before none. c.requires.judged before (λ k m h l. none k m (omega (arith, c.requires.count)) (omega (arith, c.requires.count))));
-      found = nothing_found value no_route c.args.search.now.best.items c.requires.best;
+      count = omega (arith, c.requires.clear.count);
+      queue = nothing_open value (g.A.Algebra.is_sig c.args.algebra.now) (carrier c.args.net.now) c.args.search.now.best.items c.args.search.now.standing c.requires.clear.none (omega (arith, c.requires.clear.count, c.requires.clear.slots))
+          (λ before none. c.ties_are_judged.ensures before (λ k m h l. none k m (omega (arith, c.requires.clear.count, c.requires.clear.slots)) (omega (arith, c.requires.clear.count, c.requires.clear.slots))));
+      found = nothing_found value no_route c.args.search.now.best.items c.requires.clear.none;
     }
 
 pub offer-requires-clause-ranked : goal.offer-requires-clause-ranked

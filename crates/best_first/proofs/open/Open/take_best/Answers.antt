@@ -5,7 +5,7 @@ use Rattle.best_first.specs.declared.route.OpenRoute.{OpenRoute}
 use Rattle.best_first.specs.Found.{found_at}
 use Rattle.best_first.specs.Keys.{key_of}
 use Rattle.best_first.proofs.Offering.{taken_judged, none_when_first_misses, first_of_all, still_counted}
-use Rattle.best_first.proofs.Places.{all-set, found-read}
+use Rattle.best_first.proofs.Places.{all-set, found-cleared, found-read}
 use Rattle.best_first.proofs.Slots.{places-set}
 use Rattle.best_first.proofs.open.Open.take_best.Goals as goal
 
@@ -19,6 +19,18 @@ returns-in_default-clause-none g c =
     let within : c.first-first.result < length best = let w = c.first-first.ensures.within in omega (arith, c.requires.ranked.ranked.count, length-map best (option_map (key_of value))) in
     none_when_first_misses value is_sig carrier (g.met.A.Algebra.sig_in algebra) best c.requires.ranked.sigs c.args.self.now.standing c.requires.ranked.ranked c.first-first.result
     c.first-first.ensures.first (found-read best c.first-first.result c.index_mut.result.now within c.index_mut.ensures.value ∙ (sym c.take.ensures.value ∙ c.in_default.is))
+
+pub returns-in_default-clause-cleared : goal.returns-in_default-clause-cleared
+returns-in_default-clause-cleared g c = λ k.
+    let algebra = c.args.algebra.now in
+    let value = g.A.Algebra.sig_value algebra in
+    let is_sig = g.A.Algebra.is_sig algebra in
+    let carrier = carrier_of (g.A.Algebra.expression algebra) in
+    let best = c.args.self.now.best.items in
+    let within : c.first-first.result < length best = let w = c.first-first.ensures.within in omega (arith, c.requires.ranked.ranked.count, length-map best (option_map (key_of value))) in
+    let none = none_when_first_misses value is_sig carrier (g.met.A.Algebra.sig_in algebra) best c.requires.ranked.sigs c.args.self.now.standing c.requires.ranked.ranked c.first-first.result
+    c.first-first.ensures.first (found-read best c.first-first.result c.index_mut.result.now within c.index_mut.ensures.value ∙ (sym c.take.ensures.value ∙ c.in_default.is)) in
+    rw c.take.ensures.after (found-cleared best c.first-first.result k within (none k))
 
 pub replay-requires-clause-slots : goal.replay-requires-clause-slots
 replay-requires-clause-slots g c =

@@ -2,28 +2,21 @@ use Rattle.std.proofs.Common.{◌≡◌, Option, None, length, ap, ◌∙◌, ar
 use Rattle.std.proofs.lemmas.List.{length-replicate}
 use Rattle.best_first.specs.Numbered.{PureFixedRoute}
 use Rattle.best_first.specs.Fixed.{reported_by, fixed_routes, open_routes}
-use Rattle.best_first.proofs.Places.{found-none}
 use Rattle.best_first.proofs.Steps.{last_state}
 use Rattle.best_first.proofs.Speaking.{nothing_found}
 use Rattle.best_first.proofs.Advancing.{reported_before, fixed_before, state_before, reported_next, node_in, speaks, state_next}
-use Rattle.best_first.proofs.solution.fixed_counted.Goals as goal
+use Rattle.best_first.proofs.solution.fixed_by.Goals as goal
 
-pub offer_own-requires-clause-best : goal.offer_own-requires-clause-best
-offer_own-requires-clause-best g c = λ k. rw c.in_ok-search.ensures.best (found-none c.node_count-count.result k)
-
-pub offer_own-requires-clause-judged : goal.offer_own-requires-clause-judged
-offer_own-requires-clause-judged g c = rw c.node_count-count.ensures.count at c.in_ok-search.ensures.judged
-
-pub loop-search-init : goal.loop-search-init
-loop-search-init g c =
+pub loop-fixed-init : goal.loop-fixed-init
+loop-fixed-init g c =
     let value = g.A.Algebra.sig_value c.args.algebra.now in
     let is_sig = g.A.Algebra.is_sig c.args.algebra.now in
     let net = c.args.net.now in
     let rows = c.in_ok-fixed.fixed.rows in
     let paths = c.in_ok-fixed.fixed.paths in
     let best = c.offer_own.new.search.best.items in
-    let is_net = c.node_count-count.ensures.net in
-    let rows_is = rw c.node_count-count.ensures.count at c.in_ok-fixed.ensures.rows in
+    let is_net = c.node_count.ensures.net in
+    let rows_is = rw c.node_count.ensures.count at c.in_ok-fixed.ensures.rows in
     let count : length best ≡ length net.nodes = let e = c.in_ok-offer_own.ensures.count in omega arith in
     let all = ap length rows_is in
     record {
@@ -35,18 +28,18 @@ loop-search-init g c =
     }
 
 pub fix_next-requires-clause-queue : goal.fix_next-requires-clause-queue
-fix_next-requires-clause-queue g c = rw c.requires.algebra c.loop-search.invariant.queue
+fix_next-requires-clause-queue g c = rw c.requires.algebra c.loop-fixed.invariant.queue
 
 pub relax-requires-clause-node : goal.relax-requires-clause-node
 relax-requires-clause-node g c =
     let value = g.A.Algebra.sig_value c.args.algebra.now in
     let net = c.args.net.now in
     let dest = c.args.dest.0 in
-    let rows = c.loop-search.fixed.rows in
-    let paths = c.loop-search.fixed.paths in
-    let best = c.loop-search.search.best.items in
-    let is_net = c.node_count-count.ensures.net in
-    let st = c.loop-search.invariant.state in
+    let rows = c.loop-fixed.fixed.rows in
+    let paths = c.loop-fixed.fixed.paths in
+    let best = c.loop-fixed.search.best.items in
+    let is_net = c.node_count.ensures.net in
+    let st = c.loop-fixed.invariant.state in
     let new_rows = c.fix_next.new.fixed.rows in
     let new_paths = c.fix_next.new.fixed.paths in
     let taken = c.fix_next.new.search.best.items in
@@ -59,11 +52,11 @@ relax-requires-clause-next g c =
     let value = g.A.Algebra.sig_value c.args.algebra.now in
     let net = c.args.net.now in
     let dest = c.args.dest.0 in
-    let rows = c.loop-search.fixed.rows in
-    let paths = c.loop-search.fixed.paths in
-    let best = c.loop-search.search.best.items in
-    let is_net = c.node_count-count.ensures.net in
-    let st = c.loop-search.invariant.state in
+    let rows = c.loop-fixed.fixed.rows in
+    let paths = c.loop-fixed.fixed.paths in
+    let best = c.loop-fixed.search.best.items in
+    let is_net = c.node_count.ensures.net in
+    let st = c.loop-fixed.invariant.state in
     let new_rows = c.fix_next.new.fixed.rows in
     let new_paths = c.fix_next.new.fixed.paths in
     let taken = c.fix_next.new.search.best.items in
@@ -74,40 +67,47 @@ relax-requires-clause-next g c =
 pub relax-requires-clause-queue : goal.relax-requires-clause-queue
 relax-requires-clause-queue g c = rw (c.in-Some.is, c.requires.algebra) at c.in_ok-node.ensures.queue
 
-pub loop-search-preserved : goal.loop-search-preserved
-loop-search-preserved g c =
+pub loop-fixed-preserved : goal.loop-fixed-preserved
+loop-fixed-preserved g c =
     let value = g.A.Algebra.sig_value c.args.algebra.now in
     let net = c.args.net.now in
     let dest = c.args.dest.0 in
-    let rows = c.loop-search.fixed.rows in
-    let paths = c.loop-search.fixed.paths in
-    let best = c.loop-search.search.best.items in
-    let is_net = c.node_count-count.ensures.net in
-    let st = c.loop-search.invariant.state in
+    let rows = c.loop-fixed.fixed.rows in
+    let paths = c.loop-fixed.fixed.paths in
+    let best = c.loop-fixed.search.best.items in
+    let is_net = c.node_count.ensures.net in
+    let st = c.loop-fixed.invariant.state in
     let new_rows = c.fix_next.new.fixed.rows in
     let new_paths = c.fix_next.new.fixed.paths in
     let taken = c.fix_next.new.search.best.items in
     let node = c.in-Some.node.0 in
     let fixes = rw (c.in-Some.is, c.requires.algebra) at c.in_ok-node.ensures.next in
     let next_best = c.relax.new.search.best.items in
-    let rows_count : length new_rows ≡ length net.nodes = let e = c.in_ok-node.ensures.rows in let f = c.loop-search.invariant.rows_count in omega arith in
+    let rows_count : length new_rows ≡ length net.nodes = let e = c.in_ok-node.ensures.rows in let f = c.loop-fixed.invariant.rows_count in omega arith in
     let best_count : length next_best ≡ length net.nodes = let e = c.in_ok-relax.ensures.count in omega arith in
     record {
-      rows_count = c.in_ok-node.ensures.rows ∙ c.loop-search.invariant.rows_count;
+      rows_count = c.in_ok-node.ensures.rows ∙ c.loop-fixed.invariant.rows_count;
       best_count = c.in_ok-relax.ensures.count;
       fixed = rw c.in-Some.is at c.in_ok-node.ensures.fixed;
       queue = c.in_ok-relax.ensures.queue;
       state = state_next value net dest rows new_rows paths new_paths best taken node is_net st fixes next_best rows_count best_count c.in_ok-relax.ensures.routes;
     }
 
-pub returns-clause-rows : goal.returns-clause-rows
-returns-clause-rows g c =
+pub returns-clause-fixed : goal.returns-clause-fixed
+returns-clause-fixed g c =
     let value = g.A.Algebra.sig_value c.args.algebra.now in
     let net = c.args.net.now in
     let dest = c.args.dest.0 in
-    let rows = c.loop-search.fixed.rows in
-    let paths = c.loop-search.fixed.paths in
-    let best = c.loop-search.search.best.items in
+    let rows = c.loop-fixed.fixed.rows in
+    let paths = c.loop-fixed.fixed.paths in
+    let best = c.loop-fixed.search.best.items in
     let done = rw c.in_default.is at c.in_ok-node.ensures.none in
-    rw (done.rows_same, done.paths_same)
-    (last_state net dest (fixed_routes value paths rows) (open_routes value paths rows best) c.node_count-count.ensures.net c.loop-search.invariant.state (nothing_found value (reported_by value paths rows) best done.none))
+    rw (done.rows_same, done.paths_same) record {
+      best_first = last_state net dest (fixed_routes value paths rows) (open_routes value paths rows best) c.node_count.ensures.net c.loop-fixed.invariant.state (nothing_found value (reported_by value paths rows) best done.none);
+      fixed = c.loop-fixed.invariant.fixed;
+      count = c.loop-fixed.invariant.rows_count;
+      few = omega (arith, c.node_count.ensures.few, c.node_count.ensures.count);
+    }
+
+pub returns-clause-clear : goal.returns-clause-clear
+returns-clause-clear g c = rw (c.in_default.is, c.loop-fixed.invariant.best_count) at c.in_ok-node.ensures.clear

@@ -4,11 +4,11 @@ use Rattle.best_first.specs.Found.{none_count}
 use Rattle.best_first.specs.State.{IsState}
 use Rattle.best_first.specs.Fixed.{reported_by, fixed_routes, open_routes, AreFixedBy}
 use Rattle.best_first.specs.Queue.{IsOpen}
-use Rattle.best_first.proofs.solution.fixed_counted.Given as goal
+use Rattle.best_first.proofs.solution.fixed_by.Given as goal
 
 -- what holds between two nodes that are fixed
-abbrev pub invariant-loop-search : goal.invariant-loop-search
-invariant-loop-search g l =
+abbrev pub invariant-loop-fixed : goal.invariant-loop-fixed
+invariant-loop-fixed g l =
     let value = g.A.Algebra.sig_value l.algebra in
     let is_sig = g.A.Algebra.is_sig l.algebra in
     let rows = l.fixed.rows in
@@ -21,5 +21,5 @@ invariant-loop-search g l =
       state : IsState l.net l.fn.dest.0 (fixed_routes value paths rows) (open_routes value paths rows l.search.best.items);
     }
 
-abbrev pub decreases-loop-search : goal.decreases-loop-search
-decreases-loop-search g l = none_count l.fixed.rows
+abbrev pub decreases-loop-fixed : goal.decreases-loop-fixed
+decreases-loop-fixed g l = none_count l.fixed.rows
