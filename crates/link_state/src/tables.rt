@@ -1,14 +1,14 @@
-ghost use Rattle.std.specs.Prelude.{◌≡◌, ◌<◌, ℕ, Option, Some, None, map, length, vec_len, slice_index_or, IfOk, IfSome};
+ghost use Rattle.std.specs.Prelude.{◌≡◌, ◌<◌, ◌≤◌, ℕ, List, Option, Some, flat_map, map, length, vec_len, slice_index_or, IfOk, IfSome};
 ghost use Rattle.meta_base.specs.Numbers.{max_workers};
 ghost use Rattle.net_graph.specs.Nets.{CanBeNumbered};
-ghost use Rattle.best_first.specs.declared.fixed.Fixed.{Fixed};
+ghost use Rattle.best_first.specs.Numbered.{PureFixed};
 ghost use Rattle.arc_labels.specs.Neighbours.{AreListenerLabels};
 ghost use Rattle.link_state.specs.Tables.{AreTablesOf};
-ghost use Rattle.link_state.specs.Routes.{IsFixedOf, AreFixedOf};
+ghost use Rattle.link_state.specs.Routes.{AreFixedOf, IsShareOf, first_of};
 
 use alg_model::Algebra;
 use arc_labels::{NeighbourLabels, label_forms, listener_labels};
-use best_first::{Fixed, fixed_with, table_of_fixed};
+use best_first::{Fixed, fixed_between, table_of_fixed};
 use meta_base::{DestId, List, NoMemory};
 use net_graph::{DestTable, Net};
 use std::alloc::{AllocGlobal, Global};
@@ -34,25 +34,39 @@ fn no_places<T: Drop>(alloc: Global, count: usize) -> Result<Vec<Option<T>>, NoM
     Ok(places)
 }
 
-// The routes of the destination, or none for want of memory.
+// The first destination of a worker, where so many workers share so many destinations.
+fn first_of(dests: usize, workers: usize, worker: usize) -> usize
+    requires dests { CanBeNumbered dests }
+    requires workers { CanBeNumbered workers }
+    requires worker { worker ≤ workers }
+    requires some { 0 < workers }
+    ensures { result ≡ first_of dests workers worker }
+{
+    dests * worker / workers
+}
+
+// The routes of a worker's destinations, or none for want of memory.
 fn fixed_of<A: Algebra>(
     alloc: Global,
     algebra: &A,
     net: &Net,
     labels: &NeighbourLabels<'_, A::Lab>,
-    dest: usize,
-) -> Option<Fixed<A::Sig>>
+    workers: usize,
+    worker: usize,
+) -> Option<List<Fixed<A::Sig>>>
     requires algebra { A.expression algebra.now ≡ net.now.alg.expression }
     requires labels { AreListenerLabels (A.stands_for algebra.now) net.now labels.now }
-    requires dest { dest < length net.now.dests }
-    requires few { CanBeNumbered (length net.now.dests) }
-    ensures { IfSome result (IsFixedOf (A.sig_value algebra.now) (A.is_sig algebra.now) net.now dest) }
+    requires workers { CanBeNumbered workers }
+    requires worker { worker < workers }
+    ensures { IfSome result (IsShareOf (A.sig_value algebra.now) (A.is_sig algebra.now) net.now workers worker) }
 {
-    fixed_with(alloc, algebra, net, labels, DestId(dest as u32)).ok()
+    let dests = net.dest_count();
+    let first = first_of(dests, workers, worker);
+    let end = first_of(dests, workers, worker + 1);
+    fixed_between(alloc, algebra, net, labels, first, end).ok()
 }
 
-// For each destination its routes, or none for want of memory, found by so many workers. Each of them has
-// destinations that follow one another.
+// For each of so many workers the routes of its destinations, or none for want of memory.
 fn found_by<A: Algebra + Sync, R: Threads + Sync>(
     rt: &R,
     alloc: Global,
@@ -60,30 +74,30 @@ fn found_by<A: Algebra + Sync, R: Threads + Sync>(
     net: &Net,
     labels: &NeighbourLabels<'_, A::Lab>,
     workers: usize,
-) -> Result<Vec<Option<Fixed<A::Sig>>>, NoMemory>
+) -> Result<Vec<Option<List<Fixed<A::Sig>>>>, NoMemory>
 where
     A::Sig: Send,
     A::Lab: Sync,
     requires algebra { A.expression algebra.now ≡ net.now.alg.expression }
     requires labels { AreListenerLabels (A.stands_for algebra.now) net.now labels.now }
-    requires workers { 0 < workers }
-    ensures count { IfOk result (λ found. vec_len found ≡ length net.now.dests) }
-    ensures fixed { (k : ℕ) (d : Option (Fixed A.Sig)) → k < length net.now.dests →
+    requires workers { (0 < workers) × CanBeNumbered workers }
+    ensures count { IfOk result (λ found. vec_len found ≡ workers) }
+    ensures fixed { (k : ℕ) (d : Option (List (PureFixed A.Sig))) → k < workers →
         IfOk result (λ found. IfSome (slice_index_or found.items k d)
-        (IsFixedOf (A.sig_value algebra.now) (A.is_sig algebra.now) net.now k)) }
+        (IsShareOf (A.sig_value algebra.now) (A.is_sig algebra.now) net.now workers k)) }
 {
-    let mut found = no_places(alloc, net.dest_count())?;
+    let mut found = no_places(alloc, workers)?;
     thread::for_each_mut(
         rt,
         found.as_mut_slice(),
         workers,
-        &|dest: usize, fixed: &mut Option<Fixed<A::Sig>>|
+        &|worker: usize, fixed: &mut Option<List<Fixed<A::Sig>>>|
             requires { (A.expression algebra.now ≡ net.now.alg.expression)
                 × AreListenerLabels (A.stands_for algebra.now) net.now labels.now
-                × (dest < length net.now.dests) × CanBeNumbered (length net.now.dests) }
-            ensures { IfSome fixed.new
-                (IsFixedOf (A.sig_value algebra.entry.now) (A.is_sig algebra.entry.now) net.entry.now dest) }
-        { *fixed = fixed_of(alloc, algebra, net, labels, dest) },
+                × CanBeNumbered workers × (worker < workers) }
+            ensures { IfSome fixed.new (IsShareOf (A.sig_value algebra.entry.now) (A.is_sig algebra.entry.now)
+                net.entry.now workers worker) }
+        { *fixed = fixed_of(alloc, algebra, net, labels, workers, worker) },
     );
     Ok(found)
 }
@@ -99,6 +113,17 @@ fn all_of<T: Drop>(alloc: Global, found: Vec<Option<T>>) -> Result<List<T>, NoMe
     Ok(List::from_vec(items))
 }
 
+// The items of all lists, in order.
+fn joined<T: Drop>(alloc: Global, lists: List<List<T>>) -> Result<List<T>, NoMemory>
+    ensures { IfOk result (λ items. items ≡ flat_map (λ list. list) lists) }
+{
+    let mut items = Vec::new(alloc);
+    for list in lists.into_vec() {
+        items.append(&mut list.into_vec())?;
+    }
+    Ok(List::from_vec(items))
+}
+
 /// The routes of all destinations of the network, in order, with values in the algebra's own form: those that
 /// [`all_tables`] puts into tables. They are found by so many workers, one at least, each of which takes destinations
 /// that follow one another; no more threads run than there are workers or destinations, the caller's own among them,
@@ -106,7 +131,6 @@ fn all_of<T: Drop>(alloc: Global, found: Vec<Option<T>>) -> Result<List<T>, NoMe
 /// ([`crate::tables_are_unique`]).
 ///
 /// The algebra is the network's, in whatever form its values have. It is refused for want of memory alone.
-#[tactic(auto, using(crate::proofs::Placed::all_fixed_placed))]
 pub fn all_fixed<A: Algebra + Sync, R: AllocGlobal + Threads + Sync>(
     rt: &R,
     algebra: &A,
@@ -124,8 +148,10 @@ where
     let alloc = rt.alloc();
     let forms = label_forms(alloc, algebra, net)?;
     let labels = listener_labels(alloc, algebra, net, &forms)?;
-    let found = found_by(rt, alloc, algebra, net, &labels, workers as usize)?;
-    all_of(alloc, found)
+    let workers = net.dest_count().clamp(1, workers as usize);
+    let found = found_by(rt, alloc, algebra, net, &labels, workers)?;
+    let shares = all_of(alloc, found)?;
+    joined(alloc, shares)
 }
 
 // The tables of these routes, in order. The routes of a destination are dropped before the next table is made.
