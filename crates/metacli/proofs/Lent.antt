@@ -5,7 +5,7 @@ use Rattle.std.proofs.lemmas.List.{at_drop_more}
 use Rattle.std.proofs.lemmas.Option.{slice_get_within, get_or_from_slice_get}
 use Rattle.std.specs.List.{AllByRecursion, range_with_len}
 use Rattle.alg_model.specs.Expressions.{PureValue}
-use Rattle.best_first.specs.declared.fixed.Fixed.{Fixed}
+use Rattle.best_first.specs.Numbered.{PureFixed}
 use Rattle.link_state.specs.Routes.{AreFixedFrom}
 use Rattle.net_graph.proofs.GroupLemmas.{all_at}
 use Rattle.net_graph.specs.Nets.{PureNet}
@@ -18,15 +18,15 @@ use Rattle.metacli.specs.Texts.{one_table_text, rows_text, tables_text}
 -- ---- how they are found
 
 module _ {S : Type 0} (value : S → PureValue) (is_sig : S → Type 0) (net : PureNet) where
-  pub all_fixed_on : (k : ℕ) (found : List (Fixed S)) → AreFixedFrom value is_sig net k found → AreAllFixed is_sig found
+  pub all_fixed_on : (k : ℕ) (found : List (PureFixed S)) → AreFixedFrom value is_sig net k found → AreAllFixed is_sig found
   all_fixed_on k [] h = tt
   all_fixed_on k (f ∷ fs) h = ((h.0.fixed, rw h.0.count h.0.few), all_fixed_on (k + 1) fs h.1)
 
-  pub best_on : (k : ℕ) (found : List (Fixed S)) → AreFixedFrom value is_sig net k found → OnTablesFrom (BestFirst net) k (all_fixed_rows value k found)
+  pub best_on : (k : ℕ) (found : List (PureFixed S)) → AreFixedFrom value is_sig net k found → OnTablesFrom (BestFirst net) k (all_fixed_rows value k found)
   best_on k [] h = tt
   best_on k (f ∷ fs) h = (h.0.best_first, best_on (k + 1) fs h.1)
 
-pub length_fixed : {S : Type 0} (value : S → PureValue) (k : ℕ) (found : List (Fixed S)) → length (all_fixed_rows value k found) ≡ length found
+pub length_fixed : {S : Type 0} (value : S → PureValue) (k : ℕ) (found : List (PureFixed S)) → length (all_fixed_rows value k found) ≡ length found
 length_fixed value k [] = refl
 length_fixed value k (f ∷ fs) = ap suc (length_fixed value (k + 1) fs)
 

@@ -2,11 +2,12 @@
 use Rattle.std.proofs.Common.{◌≡◌, ℕ, ◌+◌, ◌-◌, ◌<◌, ◌≤◌, zero, suc, List, [], ◌∷◌, ◌++◌, Option, Some, None, IfSome, map, option_map, length, drop, get_or, refl, sym, ap, ◌∙◌, arith, append_assoc, length-append}
 use Rattle.std.specs.Prelude.{slice_range}
 use Rattle.std.proofs.lemmas.List.{append-nil, at_drop_all, at_drop_more, drop-append-le, drop_at, length-drop, map-append, take-append-le, take_all}
+use Rattle.std.proofs.lemmas.Option.{slice_get-get_or}
 use Rattle.meta_base.specs.declared.ids.NodeId.{NodeId}
 use Rattle.alg_model.specs.Expressions.{PureCarrier, PureValue}
 use Rattle.code_gen.specs.Encoding.{decoded, IsEncoded}
 use Rattle.net_graph.specs.Routes.{PureRoute}
-use Rattle.best_first.specs.declared.fixed.FixedRoute.{FixedRoute}
+use Rattle.best_first.specs.Numbered.{PureFixedRoute}
 use Rattle.best_first.specs.Found.{found_at, AllFound}
 use Rattle.best_first.specs.Fixed.{fixed_route, fixed_routes}
 use Rattle.word_tables.specs.declared.route.WordRoute.{WordRoute}
@@ -23,9 +24,13 @@ range_added : (words more : List ℕ) → slice_range (words ++ more) (length wo
 range_added words more = rw (drop_at words more (length words) refl) (take_all (length words + length more - length words) more (omega arith))
 
 -- once no row is left, the routes are all
-pub rows_end : {S : Type 0} (value : S → PureValue) (paths : List (List NodeId)) (found whole : List (Option PureRoute)) (rows : List (Option (FixedRoute S))) (i : ℕ) → length rows ≤ i
+pub rows_end : {S : Type 0} (value : S → PureValue) (paths : List (List NodeId)) (found whole : List (Option PureRoute)) (rows : List (Option (PureFixedRoute S))) (i : ℕ) → length rows ≤ i
     → found ++ fixed_routes value paths (drop i rows) ≡ whole → found ≡ whole
 rows_end value paths found whole rows i h e = sym (append-nil found) ∙ ap (λ l. found ++ l) (sym (at_drop_all (fixed_routes value paths) rows i h)) ∙ e
+
+-- what was found at a place is what stands there
+pub found_get : {X : Type 0} (xs : List (Option X)) (i : ℕ) (x : Option X) → i < length xs → found_at xs i ≡ x → x ≡ get_or xs i x
+found_get xs i x h e = sym e ∙ rw (slice_get-get_or xs i x h) refl
 
 -- what all found ones have, where one more is found or not
 pub all_more : {X : Type 0} (P : X → Type 0) (xs : List (Option X)) (x : Option X) → AllFound P xs → IfSome x P → AllFound P (xs ++ x ∷ [])
@@ -46,7 +51,7 @@ found_is P xs h k x e = rw e at (h k)
 
 module _ {S : Type 0} (held : S → List ℕ) (words : List ℕ) (paths : List (List NodeId)) where
   -- the words and the path of the route that was added are there
-  pub added_inside : (row : Option (FixedRoute S)) (made : Option WordRoute) → IsAdded held (length words) row made → IfSome row (λ f. f.path.0 < length paths)
+  pub added_inside : (row : Option (PureFixedRoute S)) (made : Option WordRoute) → IsAdded held (length words) row made → IfSome row (λ f. f.path.0 < length paths)
       → IfSome made (IsInside (length (words ++ added_words held row)) (length paths))
   added_inside None None e h = tt
   added_inside None (Some r) e h = absurd (cc)
@@ -59,14 +64,14 @@ module _ {S : Type 0} (held : S → List ℕ) (words : List ℕ) (paths : List (
   pub inside_kept : (more : List ℕ) (r : WordRoute) → IsInside (length words) (length paths) r → IsInside (length (words ++ more)) (length paths) r
   inside_kept more r h = (h.0, omega (arith, h.1, length-append words more), h.2)
 
-  pub all_inside : (routes : List (Option WordRoute)) (row : Option (FixedRoute S)) (made : Option WordRoute) → AreInside (length words) (length paths) routes → IsAdded held (length words) row made
+  pub all_inside : (routes : List (Option WordRoute)) (row : Option (PureFixedRoute S)) (made : Option WordRoute) → AreInside (length words) (length paths) routes → IsAdded held (length words) row made
       → IfSome row (λ f. f.path.0 < length paths) → AreInside (length (words ++ added_words held row)) (length paths) (routes ++ made ∷ [])
   all_inside routes row made h e path =
       let kept = as_found (IsInside (length (words ++ added_words held row)) (length paths)) routes (λ k r f. inside_kept (added_words held row) r (h k r f)) in
       found_is _ (routes ++ made ∷ []) (all_more _ routes made kept (added_inside row made e path))
 
   -- the words that were added
-  added_are : (f : FixedRoute S) (r : WordRoute) → IsAdded held (length words) (Some f) (Some r) → slice_range (words ++ held f.sig) r.start r.end ≡ held f.sig
+  added_are : (f : PureFixedRoute S) (r : WordRoute) → IsAdded held (length words) (Some f) (Some r) → slice_range (words ++ held f.sig) r.start r.end ≡ held f.sig
   added_are f r e = rw (e.start, e.end) (range_added words (held f.sig))
 
   module _ (c : PureCarrier) where
@@ -83,13 +88,13 @@ module _ {S : Type 0} (held : S → List ℕ) (words : List ℕ) (paths : List (
         let others = routes_kept more routes (λ k s e. h (suc k) s e) in
         rw (first, others) refl
 
-    route_added : (row : Option (FixedRoute S)) (made : Option WordRoute) → IsAdded held (length words) row made
+    route_added : (row : Option (PureFixedRoute S)) (made : Option WordRoute) → IsAdded held (length words) row made
         → option_map (word_route c (words ++ added_words held row) paths) made ≡ option_map (fixed_route (λ s. decoded c (held s)) paths) row
     route_added None made e = rw e refl
     route_added (Some f) None e = absurd e
     route_added (Some f) (Some r) e = rw (added_are f r e, e.path) refl
 
-    pub rows_more : (routes : List (Option WordRoute)) (rows : List (Option (FixedRoute S))) (i : ℕ) (row : Option (FixedRoute S)) (made : Option WordRoute) (whole : List (Option PureRoute)) → i < length rows
+    pub rows_more : (routes : List (Option WordRoute)) (rows : List (Option (PureFixedRoute S))) (i : ℕ) (row : Option (PureFixedRoute S)) (made : Option WordRoute) (whole : List (Option PureRoute)) → i < length rows
         → row ≡ get_or rows i row → AreInside (length words) (length paths) routes → IsAdded held (length words) row made
         → map (option_map (word_route c words paths)) routes ++ fixed_routes (λ s. decoded c (held s)) paths (drop i rows) ≡ whole
         → map (option_map (word_route c (words ++ added_words held row) paths)) (routes ++ made ∷ []) ++ fixed_routes (λ s. decoded c (held s)) paths (drop (i + 1) rows) ≡ whole
@@ -105,7 +110,7 @@ module _ {S : Type 0} (held : S → List ℕ) (words : List ℕ) (paths : List (
         ∙ before
 
     -- the words of routes are those of values
-    pub words_more : (routes : List (Option WordRoute)) (row : Option (FixedRoute S)) (made : Option WordRoute) → AreInside (length words) (length paths) routes → IsAdded held (length words) row made
+    pub words_more : (routes : List (Option WordRoute)) (row : Option (PureFixedRoute S)) (made : Option WordRoute) → AreInside (length words) (length paths) routes → IsAdded held (length words) row made
         → IfSome row (λ f. IsEncoded c (held f.sig)) → AllFound (λ r. IsEncoded c (slice_range words r.start r.end)) routes
         → AllFound (λ r. IsEncoded c (slice_range (words ++ added_words held row) r.start r.end)) (routes ++ made ∷ [])
     words_more routes row made inside e is before =
@@ -113,7 +118,7 @@ module _ {S : Type 0} (held : S → List ℕ) (words : List ℕ) (paths : List (
         (λ k r f. rw (range_kept words (added_words held row) r.start r.end (inside k r f).0 (inside k r f).1) (found_is (λ r. IsEncoded c (slice_range words r.start r.end)) routes before k r f)) in
         all_more _ routes made kept (last row made e is)
       where
-        last : (row : Option (FixedRoute S)) (made : Option WordRoute) → IsAdded held (length words) row made → IfSome row (λ f. IsEncoded c (held f.sig))
+        last : (row : Option (PureFixedRoute S)) (made : Option WordRoute) → IsAdded held (length words) row made → IfSome row (λ f. IsEncoded c (held f.sig))
             → IfSome made (λ r. IsEncoded c (slice_range (words ++ added_words held row) r.start r.end))
         last None made e is = rw e tt
         last (Some f) None e is = absurd e

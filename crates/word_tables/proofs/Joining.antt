@@ -4,7 +4,7 @@ use Rattle.std.proofs.lemmas.List.{at_drop_all, at_drop_more, map-append}
 use Rattle.std.specs.List.{AllByRecursion}
 use Rattle.alg_model.specs.Expressions.{PureCarrier, PureValue}
 use Rattle.net_graph.specs.Tables.{PureRow}
-use Rattle.best_first.specs.declared.fixed.Fixed.{Fixed}
+use Rattle.best_first.specs.Numbered.{PureFixed}
 use Rattle.best_first.specs.Fixed.{fixed_rows}
 use Rattle.word_tables.specs.declared.table.WordTable.{WordTable}
 use Rattle.word_tables.specs.Joined.{all_fixed_rows}
@@ -14,9 +14,9 @@ pub all_push : {X : Type 0} (P : X → Type 0) (xs : List X) (x : X) → AllByRe
 all_push P [] x h p = (p, tt)
 all_push P (y ∷ xs) x h p = (h.0, all_push P xs x h.1 p)
 
-module _ {S : Type 0} (value : S → PureValue) (c : PureCarrier) (found : List (Fixed S)) where
+module _ {S : Type 0} (value : S → PureValue) (c : PureCarrier) (found : List (PureFixed S)) where
   -- the rows of one table more
-  pub tables_more : (tables : List WordTable) (table : WordTable) (k : ℕ) (fixed : Fixed S) (whole : List (List PureRow)) → k < length found → fixed ≡ get_or found k fixed → word_rows c table ≡ fixed_rows value k fixed
+  pub tables_more : (tables : List WordTable) (table : WordTable) (k : ℕ) (fixed : PureFixed S) (whole : List (List PureRow)) → k < length found → fixed ≡ get_or found k fixed → word_rows c table ≡ fixed_rows value k fixed
       → map (word_rows c) tables ++ all_fixed_rows value k (drop k found) ≡ whole → map (word_rows c) (tables ++ table ∷ []) ++ all_fixed_rows value (k + 1) (drop (k + 1) found) ≡ whole
   tables_more tables table k fixed whole h is e before =
       let rest = all_fixed_rows value (k + 1) (drop (k + 1) found) in

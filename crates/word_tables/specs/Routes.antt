@@ -7,7 +7,7 @@ use Rattle.alg_model.specs.Expressions.{PureCarrier}
 use Rattle.code_gen.specs.Encoding.{decoded}
 use Rattle.net_graph.specs.Routes.{PureRoute}
 use Rattle.net_graph.specs.Tables.{PureRow}
-use Rattle.best_first.specs.declared.fixed.FixedRoute.{FixedRoute}
+use Rattle.best_first.specs.Numbered.{PureFixedRoute}
 use Rattle.best_first.specs.Found.{found_at}
 use Rattle.word_tables.specs.declared.lent.LentRoute.{LentRoute}
 use Rattle.word_tables.specs.declared.lent.LentRow.{LentRow}
@@ -32,16 +32,16 @@ abbrev pub AreInside : ℕ → ℕ → List (Option WordRoute) → Type 0
 AreInside words paths routes = (k : ℕ) (r : WordRoute) → found_at routes k ≡ Some r → IsInside words paths r
 
 -- the words that are added for a route, and where they then stand, after so many
-abbrev pub added_words : {S : Type 0} → (S → List ℕ) → Option (FixedRoute S) → List ℕ
+abbrev pub added_words : {S : Type 0} → (S → List ℕ) → Option (PureFixedRoute S) → List ℕ
 added_words held None = []
 added_words held (Some f) = held f.sig
 
-pub record IsAddedRoute {S : Type 0} (held : S → List ℕ) (count : ℕ) (f : FixedRoute S) (r : WordRoute) : Type 0 where
+pub record IsAddedRoute {S : Type 0} (held : S → List ℕ) (count : ℕ) (f : PureFixedRoute S) (r : WordRoute) : Type 0 where
   pub start : r.start ≡ count
   pub end : r.end ≡ count + length (held f.sig)
   pub path : r.path ≡ f.path
 
-abbrev pub IsAdded : {S : Type 0} → (S → List ℕ) → ℕ → Option (FixedRoute S) → Option WordRoute → Type 0
+abbrev pub IsAdded : {S : Type 0} → (S → List ℕ) → ℕ → Option (PureFixedRoute S) → Option WordRoute → Type 0
 IsAdded held count None o = o ≡ None
 IsAdded held count (Some f) None = ⊥
 IsAdded held count (Some f) (Some r) = IsAddedRoute held count f r

@@ -1,5 +1,6 @@
 // Routes whose values are words among those of a table.
-ghost use Rattle.std.specs.Prelude.{◌≡◌, ◌≤◌, ◌++◌, length, slice_range, IfOk, OnOk};
+ghost use Rattle.std.specs.Prelude.{◌≡◌, ◌≤◌, ◌++◌, length, option_map, slice_range, IfOk, OnOk};
+ghost use Rattle.best_first.specs.Numbered.{lent_fixed};
 ghost use Rattle.word_tables.specs.Routes.{added_words, IsAdded};
 
 use best_first::FixedRoute;
@@ -18,10 +19,11 @@ pub struct WordRoute {
 /// Appends the words of the route, if there is one.
 pub fn add_route<W: HeldRow>(
     words: &mut Vec<Word>,
-    route: &Option<FixedRoute<W>>,
+    route: Option<FixedRoute<'_, W>>,
 ) -> Result<Option<WordRoute>, NoMemory>
-    ensures words { OnOk result (words.new.items ≡ words.old.items ++ added_words W.held route.now) }
-    ensures route { IfOk result (IsAdded W.held (length words.old.items) route.now) }
+    ensures words { OnOk result (words.new.items
+        ≡ words.old.items ++ added_words W.held (option_map lent_fixed route.entry)) }
+    ensures route { IfOk result (IsAdded W.held (length words.old.items) (option_map lent_fixed route.entry)) }
 {
     let Some(route) = route else {
         return Ok(None);

@@ -1,4 +1,4 @@
-ghost use Rattle.std.specs.Prelude.{◌≡◌, ◌<◌, Some, length, option_map, slice_get, vec_len, IfOk, IfSome};
+ghost use Rattle.std.specs.Prelude.{◌≡◌, ◌<◌, Some, length, option_map, slice_get, IfOk, IfSome};
 ghost use Rattle.alg_model.specs.Expressions.{PureCarrier};
 ghost use Rattle.net_graph.specs.Nets.{CanBeNumbered};
 ghost use Rattle.code_gen.specs.Encoding.{decoded, IsEncoded};
@@ -37,24 +37,24 @@ impl WordTable {
         fixed: Fixed<W>,
     ) -> Result<WordTable, NoMemory>
         requires inside { (c : PureCarrier)
-            × AreFixedBy (λ row. IsEncoded c (W.held row)) fixed.rows.items fixed.paths }
-        requires few { CanBeNumbered (vec_len fixed.rows) }
+            × AreFixedBy (λ row. IsEncoded c (W.held row)) fixed.rows fixed.paths }
+        requires few { CanBeNumbered (length fixed.rows) }
         ensures rows { (c : PureCarrier) → IfOk result (λ table.
             word_rows c table ≡ fixed_rows (λ row. decoded c (W.held row)) dest.0 fixed) }
-        ensures words { (c : PureCarrier) → AreFixedBy (λ row. IsEncoded c (W.held row)) fixed.rows.items fixed.paths →
+        ensures words { (c : PureCarrier) → AreFixedBy (λ row. IsEncoded c (W.held row)) fixed.rows fixed.paths →
             IfOk result (AreWordsOf c) }
     {
-        let Fixed { rows, paths } = fixed;
-        let mut words = Vec::with_capacity(alloc, rows.len())?;
-        let mut routes = Vec::with_capacity(alloc, rows.len())?;
-        for row in &rows {
-            routes.push(add_route(&mut words, row)?)?;
+        let mut words = Vec::with_capacity(alloc, fixed.node_count())?;
+        let mut routes = Vec::with_capacity(alloc, fixed.node_count())?;
+        for node in 0..fixed.node_count() {
+            let route = fixed.route(NodeId(node as u32));
+            routes.push(add_route(&mut words, route)?)?;
         }
         Ok(WordTable {
             dest,
             routes,
             words,
-            paths,
+            paths: fixed.into_paths(),
         })
     }
 
