@@ -24,13 +24,15 @@ pub fn compare_words(code: &[OrdOp], first: &[Word], second: &[Word]) -> Orderin
     let mut code = code;
     let mut first = first;
     let mut second = second;
-    // Most orders look at numbers first, and most rows differ there.
+    // Most orders look at numbers first, and most rows differ there. Two kinds of operations are told apart by two
+    // looks, where a choice among all kinds is a jump by a table.
     while let ([op, others @ ..], [m, left @ ..], [n, right @ ..]) = (code, first, second) {
-        let found = match op {
-            OrdOp::Less => m.cmp(n),
-            OrdOp::More => n.cmp(m),
-            OrdOp::Rank(_) => return compare_ranks(code, first, second),
-            _ => return compare_steps(code, first, second),
+        let found = if let OrdOp::Less = op {
+            m.cmp(n)
+        } else if let OrdOp::More = op {
+            n.cmp(m)
+        } else {
+            return compare_others(code, first, second);
         };
         if found != Ordering::Equal {
             return found;
@@ -45,8 +47,20 @@ pub fn compare_words(code: &[OrdOp], first: &[Word], second: &[Word]) -> Orderin
     compare_steps(code, first, second)
 }
 
-// The same by numbers and ranks, which most orders compare alone, up to the first operation that does something else.
+// The same of a code whose first operation is another, which goes to the loop that suits that operation.
 #[inline(never)]
+fn compare_others(code: &[OrdOp], first: &[Word], second: &[Word]) -> Ordering
+    requires { FitsBoth code.now first.now second.now }
+    ensures { RunOrder code.now first.now second.now ≡ Some result }
+{
+    if let [OrdOp::Rank(_), ..] = code {
+        return compare_ranks(code, first, second);
+    }
+    compare_steps(code, first, second)
+}
+
+// The same by numbers and ranks, which most orders compare alone, up to the first operation that does something else.
+#[inline(always)]
 fn compare_ranks(code: &[OrdOp], first: &[Word], second: &[Word]) -> Ordering
     requires { FitsBoth code.now first.now second.now }
     ensures { RunOrder code.now first.now second.now ≡ Some result }

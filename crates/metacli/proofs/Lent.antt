@@ -6,7 +6,7 @@ use Rattle.std.proofs.lemmas.Option.{slice_get_within, get_or_from_slice_get}
 use Rattle.std.specs.List.{AllByRecursion, range_with_len}
 use Rattle.alg_model.specs.Expressions.{PureValue}
 use Rattle.best_first.specs.Numbered.{PureFixed}
-use Rattle.link_state.specs.Routes.{AreFixedFrom}
+use Rattle.best_first.specs.Fixed.{AreFixedFrom}
 use Rattle.net_graph.proofs.GroupLemmas.{all_at}
 use Rattle.net_graph.specs.Nets.{PureNet}
 use Rattle.net_graph.specs.RowTexts.{row_text}
