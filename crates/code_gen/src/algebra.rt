@@ -91,6 +91,7 @@ impl<'a, W: HeldRow> Algebra for CodeAlgebra<'a, W> {
         compare_words(self.order.as_slice(), a.as_slice(), b.as_slice())
     }
 
+    #[inline(always)]
     fn apply(&self, alloc: Global, lab: &LabelCode, sig: &W) -> Result<Option<W>, NoMemory> {
         // A row of as many words, whatever they are.
         let mut image = sig.copy(alloc)?;

@@ -78,6 +78,7 @@ pub fn take_all<S: Shelf>(
 ///
 /// It fails only where the sink's count of faults rose, and a front of the piece that isn't all of it was
 /// then appended; where it doesn't fail the count is as it was.
+#[inline(always)]
 pub fn put_all<K: Sink>(out: &mut K, piece: &[u8]) -> Result<(), Failed>
     ensures { Puts (K.holds out.old) piece.now result (K.holds out.new) }
 {

@@ -158,6 +158,7 @@ impl Arcs {
     }
 
     /// Adds an arc with the label of another. After a refusal nothing has changed.
+    #[inline(always)]
     pub fn push_like(&mut self, tail: NodeId, head: NodeId, like: ArcId) -> Result<(), NoMemory>
         requires room { CanBeNumbered (length self.old) }
         requires like { like.0 < length self.old }

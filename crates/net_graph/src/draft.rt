@@ -131,6 +131,7 @@ impl NetDraft {
 
     /// Adds an arc with the label of the arc of that number, which isn't copied. All else is as for
     /// [`NetDraft::add_arc`].
+    #[inline(always)]
     pub fn add_arc_like(&mut self, tail: NodeId, head: NodeId, like: ArcId) -> Result<(), NoMemory>
         requires tail { tail.0 < length self.old.nodes }
         requires head { head.0 < length self.old.nodes }

@@ -170,6 +170,7 @@ impl<'a> RowLines<'a> {
     }
 
     // A space, the names of a row and the space after each, in place of the line before.
+    #[inline(always)]
     fn put_names(&mut self, node: NodeId, dest: DestId) -> Result<(), NoMemory>
         requires node { node.0 < length (net_of self.now).nodes }
         requires dest { dest.0 < length (net_of self.now).dests }

@@ -91,16 +91,19 @@ impl<'a> FileDraft<'a> {
         })
     }
 
-    /// Adds what the first line of the text asks for, and gives the text of the other lines. After an error some of it may
-    /// have been added.
-    pub fn add_first_line(&mut self, text: &'a [u8]) -> Result<&'a [u8], LineError>
+    /// Adds what the first line of the text asks for, and gives the text of the other lines. Where that is the line of an
+    /// arc, its parts are written into the place that is lent. After an error some of it may have been added.
+    pub fn add_first_line(
+        &mut self,
+        text: &'a [u8],
+        place: &mut ArcLine<'a>,
+    ) -> Result<&'a [u8], LineError>
         requires { 0 < length text.now }
         ensures ok { IfOk result (λ others. IsFirstAdded self.old text.now self.new others.now) }
         ensures bad { IfErr result (IsFirstRefused self.old text.now) }
     {
-        let mut line = ArcLine::blank();
-        if let Some(others) = arc_line(text, &mut line) {
-            self.add_arc_line(&line)?;
+        if let Some(others) = arc_line(text, place) {
+            self.add_arc_line(place)?;
             return Ok(others);
         }
         let (line, others) = first_line(text);

@@ -48,15 +48,26 @@ impl<'a> KnownTexts<'a> {
         self.nodes = TextSpots::new(alloc, spots);
     }
 
-    /// An arc whose label the text spells, if one was noted.
+    /// An arc whose label the text spells, if one was noted. Mostly it is at hand.
+    #[inline(always)]
     pub fn arc_of(&mut self, text: &Word<'a>) -> Option<ArcId>
         ensures arc { (net : PureNet) → Knows net self.old →
             IfSome result (λ arc. IsSpelledBy net text.now arc.0) }
         ensures known { (net : PureNet) → Knows net self.old → Knows net self.new }
     {
-        if let Some(arc) = self.labels.get(text) {
-            return Some(arc);
+        match self.labels.get(text) {
+            Some(arc) => Some(arc),
+            None => self.look_up(text),
         }
+    }
+
+    // The same among all texts.
+    #[inline(never)]
+    fn look_up(&mut self, text: &Word<'a>) -> Option<ArcId>
+        ensures arc { (net : PureNet) → Knows net self.old →
+            IfSome result (λ arc. IsSpelledBy net text.now arc.0) }
+        ensures known { (net : PureNet) → Knows net self.old → Knows net self.new }
+    {
         let arc = self.arcs.get(text.text()).copied()?;
         self.labels.note(text.copy(), arc);
         Some(arc)

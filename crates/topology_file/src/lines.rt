@@ -118,6 +118,7 @@ pub fn nodes_of(
 }
 
 // The same, where names that were met before are at hand.
+#[inline(always)]
 fn known_nodes<'a>(
     draft: &NetDraft,
     known: &mut KnownTexts<'a>,
@@ -220,6 +221,7 @@ fn add_nodes(draft: &mut NetDraft, names: &[u8]) -> Result<(), LineError>
 
 // Adds an arc, with the label that the text spells, where so many arcs may be added. After an error it may have
 // been added.
+#[inline(always)]
 fn add_arc<'a>(
     alloc: Global,
     draft: &mut NetDraft,

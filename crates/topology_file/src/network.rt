@@ -8,6 +8,7 @@ ghost use Rattle.topology_file.specs.Views.{pure_file};
 
 use crate::NetError;
 use crate::draft::FileDraft;
+use crate::forms::ArcLine;
 use alg_model::Alg;
 use meta_base::{List, MAX_FILE_BYTES};
 use net_graph::{Change, Net};
@@ -65,8 +66,9 @@ pub fn read_net(alloc: Global, alg: Alg, source: &[u8]) -> Result<NetFile, NetEr
     file.reserve(source.len())?;
     let mut number: u32 = 1;
     let mut rest = source;
+    let mut place = ArcLine::blank();
     while !rest.is_empty() {
-        match file.add_first_line(rest) {
+        match file.add_first_line(rest, &mut place) {
             Ok(others) => rest = others,
             Err(error) => return Err(error.at(number)),
         }
