@@ -172,7 +172,9 @@ impl Arcs {
             head,
             label: self.arcs[like.0 as usize].label,
         };
-        self.arcs.push(arc)?;
+        // Mostly there is room, and then no call is made.
+        self.arcs.reserve(1)?;
+        self.arcs.push_reserved(arc);
         Ok(())
     }
 

@@ -11,5 +11,5 @@ returns-clause-ok c =
     let arcs = c.self.inside.arcs.items in
     let within : c.args.like.0 < length arcs = rw (length-map arcs (kept_arc labels)) at (rw (← c.self.view_is) at c.requires.like) in
     let read = kept_at labels arcs c.args.like.0 c.index.result.now within c.index.ensures in
-    rw (← c.self.view_is, read, c.in_ok-push.ensures.items)
+    rw (← c.self.view_is, read, c.push_reserved.ensures.items, c.reserve.ensures.items)
     (pushed_like labels arcs (record { id = record { 0 = c.len.result }; tail = c.args.tail; head = c.args.head; label = c.index.result.now.label }) c.index.result.now refl (c.len.ensures ∙ c.self.inside.arcs.ok.0))
