@@ -176,7 +176,14 @@ fn searched_between<A: Algebra, L: Ledger>(
     let mut search = Open::<A, L>::new(alloc, net.node_count(), blank)?;
     let mut found = Vec::with_capacity(alloc, end - first)?;
     for dest in first..end {
-        let fixed = fixed_by(alloc, algebra, net, labels, DestId(dest as u32), &mut search)?;
+        let fixed = fixed_by(
+            alloc,
+            algebra,
+            net,
+            labels,
+            DestId(dest as u32),
+            &mut search,
+        )?;
         found.push(fixed)?;
     }
     Ok(List::from_vec(found))

@@ -61,8 +61,7 @@ module _ {S : Type 0} (value : S → PureValue) (is_sig : S → Type 0) (net : P
   shares_joined k (share ∷ shares) each =
       let rest = shares_joined (k + 1) shares each.1 in
       let long = length-append share (flat_map (λ s. s) shares) in
-      let next : k + suc (length shares) ≡ (k + 1) + length shares = omega arith in
-      (
+      let next : k + suc (length shares) ≡ (k + 1) + length shares = omega arith in (
         from_joined (IsFixedOf value is_sig net) _ share (flat_map (λ s. s) shares) each.0.fixed_from (rw (each.0.count) rest.0),
         rw next (omega (arith, long, each.0.count, rest.1)),
       )
