@@ -24,8 +24,8 @@ pub fn compare_words(code: &[OrdOp], first: &[Word], second: &[Word]) -> Orderin
     let mut code = code;
     let mut first = first;
     let mut second = second;
-    // Most orders look at numbers first, and most rows differ there. Two kinds of operations are told apart by two
-    // looks, where a choice among all kinds is a jump by a table.
+    // Most orders look at numbers first, and most rows differ there. Two looks distinguish two kinds of operations, where
+    // a choice among all kinds is a jump by a table.
     while let ([op, others @ ..], [m, left @ ..], [n, right @ ..]) = (code, first, second) {
         let found = if let OrdOp::Less = op {
             m.cmp(n)

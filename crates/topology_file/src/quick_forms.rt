@@ -110,7 +110,7 @@ fn name_front(text: &[u8]) -> (usize, u64)
 
 // Kept apart for the same reason.
 // The text from the first byte on that may end what a line says. The bytes before it are written where they are lent.
-#[inline(always)]
+#[inline(never)]
 fn split_said<'a>(text: &'a [u8], said: &mut Word<'a>) -> &'a [u8]
     ensures front { said.new ≡ front is_said_byte text.now }
     ensures after_front { result.now ≡ after_front is_said_byte text.now }
@@ -143,7 +143,6 @@ fn said_front(text: &[u8]) -> (usize, u64)
 
 // The text after a carriage return or a comment.
 #[tactic(auto, using(crate::proofs::QuickForms::after_return, crate::proofs::QuickForms::after_comment, crate::proofs::QuickForms::after_nothing))]
-#[inline(always)]
 fn after_end(text: &[u8]) -> &[u8]
     ensures { IsAfterEnd text.now result.now }
 {
