@@ -19,7 +19,7 @@ pub struct FixedRoute<'f, S> {
 }
 
 /// The routes of the nodes that are fixed, and their paths. Contracts see for each node its route, or none.
-#[derive(Drop)]
+#[derive(Debug, Drop)]
 pub struct Fixed<S> {
     // By number of node: the path of its route, or none.
     ids: Vec<Option<PathId>>,
@@ -108,15 +108,6 @@ impl<S> Fixed<S> {
         ensures { result.now ≡ self.now.paths }
     {
         &self.paths
-    }
-
-    /// The paths of the routes, which are all that is left.
-    pub fn into_paths(self) -> Paths
-    where
-        S: Drop,
-        ensures { result ≡ self.paths }
-    {
-        self.paths
     }
 }
 

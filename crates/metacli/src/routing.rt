@@ -23,7 +23,7 @@ use alg_classes::Property;
 use alg_model::{Alg, carrier_of};
 use best_first::{best_first_is_optimal, best_first_rows_are_the_networks};
 use code_gen::{CodeAlgebra, row_width, rows_have_their_width};
-use label_code::{FixedRow, HeldRow, Words};
+use label_code::{FixedRow, Words};
 use link_state::all_fixed;
 use meta_base::NoMemory;
 use net_facts::{Missing, first_missing};
@@ -32,7 +32,7 @@ use settled_laws::{best_first_is_stable, stable_rows_are_settled, strict_is_mono
 use std::alloc::AllocGlobal;
 use std::thread::Threads;
 use topology_file::NetFile;
-use word_tables::WordRows;
+use word_tables::{TableRow, WordRows};
 
 /// Which routes of a network are asked for.
 #[derive(Clone, Copy, Debug)]
@@ -199,7 +199,7 @@ fn rows_of<R: AllocGlobal + Threads + Sync>(
 }
 
 // The same by rows of words of this kind.
-fn rows_over<W: HeldRow + Send + Sync, R: AllocGlobal + Threads + Sync>(
+fn rows_over<W: TableRow + Send + Sync, R: AllocGlobal + Threads + Sync>(
     rt: &R,
     net: &Net,
     workers: u32,

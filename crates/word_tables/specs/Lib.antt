@@ -1,4 +1,5 @@
 pub mod Routes
+pub mod Found
 pub mod Tables
 pub mod Joined
 pub mod Rows

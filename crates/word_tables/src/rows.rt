@@ -8,10 +8,10 @@ ghost use Rattle.code_gen.specs.Encoding.{decoded, IsEncoded};
 ghost use Rattle.word_tables.specs.Tables.{word_rows, AreWordsOf};
 ghost use Rattle.word_tables.specs.Joined.{all_fixed_rows, AreAllFixed};
 
-use crate::table::WordTable;
+use crate::found::FoundTable;
+use crate::table::{TableRow, WordTable};
 use alg_model::Carrier;
 use best_first::Fixed;
-use label_code::HeldRow;
 use meta_base::{DestId, List, NoMemory};
 use std::alloc::Global;
 
@@ -23,7 +23,7 @@ pub struct WordRows {
 }
 
 // The tables of these routes, in the same order.
-fn tables_of<W: HeldRow>(alloc: Global, found: List<Fixed<W>>) -> Result<List<WordTable>, NoMemory>
+fn tables_of<W: TableRow>(alloc: Global, found: List<Fixed<W>>) -> Result<List<WordTable>, NoMemory>
     requires found { (c : PureCarrier) × AreAllFixed (λ row. IsEncoded c (W.held row)) found }
     requires few { CanBeNumbered (length found) }
     ensures tables { (c : PureCarrier) → IfOk result (λ tables. map (word_rows c) tables
@@ -34,7 +34,8 @@ fn tables_of<W: HeldRow>(alloc: Global, found: List<Fixed<W>>) -> Result<List<Wo
     let mut tables = Vec::with_capacity(alloc, found.as_slice().len())?;
     let mut dest = 0;
     for fixed in found.into_vec() {
-        tables.push(WordTable::of(alloc, DestId(dest), fixed)?)?;
+        let table = FoundTable::of(DestId(dest), fixed);
+        tables.push(W::table_of(table))?;
         dest += 1;
     }
     Ok(List::from_vec(tables))
@@ -43,7 +44,7 @@ fn tables_of<W: HeldRow>(alloc: Global, found: List<Fixed<W>>) -> Result<List<Wo
 impl WordRows {
     /// The rows of these routes, which are of destinations 0, 1 and so on. Their values are of the carrier. It is refused for
     /// want of memory alone.
-    pub fn of<W: HeldRow>(
+    pub fn of<W: TableRow>(
         alloc: Global,
         carrier: Carrier,
         found: List<Fixed<W>>,

@@ -1,96 +1,69 @@
-ghost use Rattle.std.specs.Prelude.{◌≡◌, ◌<◌, Some, length, option_map, slice_get, IfOk, IfSome};
-ghost use Rattle.alg_model.specs.Expressions.{PureCarrier};
-ghost use Rattle.net_graph.specs.Nets.{CanBeNumbered};
-ghost use Rattle.code_gen.specs.Encoding.{decoded, IsEncoded};
-ghost use Rattle.best_first.specs.Fixed.{fixed_rows, AreFixedBy};
-ghost use Rattle.best_first.specs.Found.{found_at};
-ghost use Rattle.word_tables.specs.Routes.{lent_route, lent_row, word_route, AreInside};
+// The tables of all forms of rows.
+ghost use Rattle.word_tables.specs.Tables.{fixed_words, own_words, IsTableOf};
 
-use crate::lent::{LentRoute, LentRow};
-use crate::route::{WordRoute, add_route, words_of};
-use best_first::Fixed;
-use label_code::{HeldRow, Word};
-use meta_base::{DestId, NoMemory, NodeId};
-use path_store::Paths;
-use std::alloc::Global;
+use crate::found::FoundTable;
+use label_code::{FixedRow, HeldRow, Words};
 
-/// The routes of all nodes for a destination. Their values are words of a carrier that the table doesn't know.
+/// The routes of all nodes for a destination, by how many words each value has. Their values are words of a carrier that
+/// the table doesn't know. What goes over the rows matches once, and then knows the form of all of them.
 #[derive(Debug, Drop)]
-pub struct WordTable {
-    dest: DestId,
-    // By number of node, with none where there is no route.
-    routes: Vec<Option<WordRoute>>,
-    // The words of all routes, one after another.
-    words: Vec<Word>,
-    paths: Paths,
-    ghost inside: { AreInside (length words.items) (length paths) routes.items },
-    ghost few: { CanBeNumbered (length routes.items) },
+pub enum WordTable {
+    /// One each.
+    One(FoundTable<FixedRow<1>>),
+    /// Two each.
+    Two(FoundTable<FixedRow<2>>),
+    /// Three each.
+    Three(FoundTable<FixedRow<3>>),
+    /// Four each.
+    Four(FoundTable<FixedRow<4>>),
+    /// Any number.
+    Any(FoundTable<Words>),
 }
 
-impl WordTable {
-    ghost use Rattle.word_tables.specs.Tables.{word_rows, AreWordsOf};
+/// A row of words whose tables are among [`WordTable`]'s.
+pub trait TableRow: HeldRow {
+    /// The table in the variant of this form of rows, with the same routes.
+    fn table_of(found: FoundTable<Self>) -> WordTable
+        ensures { IsTableOf Self.held found result };
+}
 
-    /// The table of these routes, with their paths. It is refused for want of memory alone.
-    pub fn of<W: HeldRow>(
-        alloc: Global,
-        dest: DestId,
-        fixed: Fixed<W>,
-    ) -> Result<WordTable, NoMemory>
-        requires inside { (c : PureCarrier)
-            × AreFixedBy (λ row. IsEncoded c (W.held row)) fixed.rows fixed.paths }
-        requires few { CanBeNumbered (length fixed.rows) }
-        ensures rows { (c : PureCarrier) → IfOk result (λ table.
-            word_rows c table ≡ fixed_rows (λ row. decoded c (W.held row)) dest.0 fixed) }
-        ensures words { (c : PureCarrier) → AreFixedBy (λ row. IsEncoded c (W.held row)) fixed.rows fixed.paths →
-            IfOk result (AreWordsOf c) }
+// Each of these repeats the trait's clause at its own words, since rt can't give it to a method of such an impl.
+impl TableRow for FixedRow<1> {
+    fn table_of(found: FoundTable<FixedRow<1>>) -> WordTable
+        ensures { IsTableOf fixed_words found result }
     {
-        let mut words = Vec::with_capacity(alloc, fixed.node_count())?;
-        let mut routes = Vec::with_capacity(alloc, fixed.node_count())?;
-        for node in 0..fixed.node_count() {
-            let route = fixed.route(NodeId(node as u32));
-            routes.push(add_route(&mut words, route)?)?;
-        }
-        Ok(WordTable {
-            dest,
-            routes,
-            words,
-            paths: fixed.into_paths(),
-        })
+        WordTable::One(found)
     }
+}
 
-    /// How many nodes there are.
-    pub fn node_count(&self) -> usize
-        ensures { (c : PureCarrier) → result ≡ length (word_rows c self.now) }
+impl TableRow for FixedRow<2> {
+    fn table_of(found: FoundTable<FixedRow<2>>) -> WordTable
+        ensures { IsTableOf fixed_words found result }
     {
-        self.routes.len()
+        WordTable::Two(found)
     }
+}
 
-    /// Lends the row of the node of that number.
-    pub fn row(&self, node: usize) -> LentRow<'_>
-        requires node { (c : PureCarrier) × (node < length (word_rows c self.now)) }
-        ensures row { (c : PureCarrier) → slice_get (word_rows c self.now) node ≡ Some (lent_row c result) }
-        ensures words { (c : PureCarrier) → AreWordsOf c self.now → IfSome result.route (λ r. IsEncoded c r.words.now) }
+impl TableRow for FixedRow<3> {
+    fn table_of(found: FoundTable<FixedRow<3>>) -> WordTable
+        ensures { IsTableOf fixed_words found result }
     {
-        LentRow {
-            node: NodeId(node as u32),
-            dest: self.dest,
-            route: self.route(node),
-        }
+        WordTable::Three(found)
     }
+}
 
-    // Lends the route of that node.
-    fn route(&self, node: usize) -> Option<LentRoute<'_>>
-        requires node { node < length self.now.routes.items }
-        ensures route { (c : PureCarrier) → option_map (lent_route c) result
-            ≡ option_map (word_route c self.now.words.items self.now.paths) (found_at self.now.routes.items node) }
-        ensures words { (c : PureCarrier) → AreWordsOf c self.now → IfSome result (λ r. IsEncoded c r.words.now) }
+impl TableRow for FixedRow<4> {
+    fn table_of(found: FoundTable<FixedRow<4>>) -> WordTable
+        ensures { IsTableOf fixed_words found result }
     {
-        match &self.routes[node] {
-            Some(route) => Some(LentRoute {
-                words: words_of(&self.words, route),
-                path: self.paths.path(route.path),
-            }),
-            None => None,
-        }
+        WordTable::Four(found)
+    }
+}
+
+impl TableRow for Words {
+    fn table_of(found: FoundTable<Words>) -> WordTable
+        ensures { IsTableOf own_words found result }
+    {
+        WordTable::Any(found)
     }
 }

@@ -1,4 +1,4 @@
-use Rattle.std.proofs.Common.{length, arith, refl}
+use Rattle.std.proofs.Common.{length, arith, refl, ◌∙◌}
 use Rattle.std.proofs.lemmas.Iterator.Adapters.{YieldsList-from_vec}
 use Rattle.std.proofs.lemmas.Iterator.Consumers.{YieldsList-end, YieldsList-turn}
 use Rattle.std.proofs.lemmas.List.{length_push}
@@ -8,13 +8,13 @@ use Rattle.word_tables.specs.Tables.{AreWordsOf}
 use Rattle.word_tables.proofs.Joining.{all_push, tables_end, tables_more}
 use Rattle.word_tables.proofs.rows.tables_of.Goals as goal
 
-pub of-requires-clause-inside : goal.of-requires-clause-inside
-of-requires-clause-inside g c =
+pub of-table-requires-clause-ids : goal.of-table-requires-clause-ids
+of-table-requires-clause-ids g c =
     let turn = YieldsList-turn (YieldsList-from_vec c.args.found c.loop-fixed.invariant.items c.loop-fixed.invariant.many) c.loop-fixed.yielded c.loop-fixed.fixed-iterator c.loop-fixed.yielded_by c.next.result c.next.new.self c.in-Some.fixed c.in-Some.is c.next.ensures.steps in
-    (c.requires.found.0, (all_at _ c.args.found (length c.loop-fixed.yielded) c.in-Some.fixed c.requires.found.1 turn.0 turn.1).0)
+    (all_at _ c.args.found (length c.loop-fixed.yielded) c.in-Some.fixed c.requires.found.1 turn.0 turn.1).0.ids
 
-pub of-requires-clause-few : goal.of-requires-clause-few
-of-requires-clause-few g c =
+pub of-table-requires-clause-few : goal.of-table-requires-clause-few
+of-table-requires-clause-few g c =
     let turn = YieldsList-turn (YieldsList-from_vec c.args.found c.loop-fixed.invariant.items c.loop-fixed.invariant.many) c.loop-fixed.yielded c.loop-fixed.fixed-iterator c.loop-fixed.yielded_by c.next.result c.next.new.self c.in-Some.fixed c.in-Some.is c.next.ensures.steps in
     (all_at _ c.args.found (length c.loop-fixed.yielded) c.in-Some.fixed c.requires.found.1 turn.0 turn.1).1
 
@@ -32,14 +32,14 @@ loop-fixed-preserved g c =
     let held = g.W.HeldRow.held in
     let done = c.loop-fixed.yielded in
     let tables = c.loop-fixed.tables.items in
-    let table = c.in_ok-of.field-0 in
+    let table = c.table_of.result in
     let turn = YieldsList-turn (YieldsList-from_vec c.args.found c.loop-fixed.invariant.items c.loop-fixed.invariant.many) c.loop-fixed.yielded c.loop-fixed.fixed-iterator c.loop-fixed.yielded_by c.next.result c.next.new.self c.in-Some.fixed c.in-Some.is c.next.ensures.steps in
     record {
       count = omega (arith, length_push done c.in-Some.fixed, c.loop-fixed.invariant.count);
       so_far = λ d. rw (c.in_ok-push.ensures.items, length_push done c.in-Some.fixed)
-          (tables_more (λ row. decoded d (held row)) d c.args.found tables table (length done) c.in-Some.fixed _ turn.0 turn.1 (rw c.loop-fixed.invariant.count at (c.in_ok-of.ensures.rows d)) (c.loop-fixed.invariant.so_far d));
+          (tables_more (λ row. decoded d (held row)) d c.args.found tables table (length done) c.in-Some.fixed _ turn.0 turn.1 (c.table_of.ensures.rows d ∙ rw c.loop-fixed.invariant.count at (c.of-table.ensures.rows d)) (c.loop-fixed.invariant.so_far d));
       words = λ d fixed. rw c.in_ok-push.ensures.items
-          (all_push (AreWordsOf d) tables table (c.loop-fixed.invariant.words d fixed) (c.in_ok-of.ensures.words d (all_at _ c.args.found (length done) c.in-Some.fixed fixed turn.0 turn.1).0));
+          (all_push (AreWordsOf d) tables table (c.loop-fixed.invariant.words d fixed) (c.table_of.ensures.words d (c.of-table.ensures.words d (all_at _ c.args.found (length done) c.in-Some.fixed fixed turn.0 turn.1).0)));
       items = c.loop-fixed.invariant.items;
       many = c.loop-fixed.invariant.many;
     }
