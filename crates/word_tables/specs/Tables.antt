@@ -8,10 +8,11 @@ use Rattle.word_tables.specs.declared.table.WordTable.{WordTable}
 use Rattle.word_tables.specs.declared.table.WordTable.TheVariants.{One, Two, Three, Four, Any}
 use Rattle.word_tables.specs.Found.{found_rows, AreFoundWords}
 
--- the words of a row of so many, and of one of any number
+-- the words of a row of so many
 abbrev pub fixed_words : {n : ℕ} → FixedRow n → List ℕ
 fixed_words row = row.words
 
+-- and of one of any number, which is the list of them
 abbrev pub own_words : List ℕ → List ℕ
 own_words row = row
 

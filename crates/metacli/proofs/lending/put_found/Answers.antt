@@ -13,7 +13,6 @@ use Rattle.metacli.proofs.lending.put_found.Goals as goal
 
 pub row-requires : goal.row-requires
 row-requires g c =
-    let held = g.W.HeldRow.held in
     let d = pure_carrier c.args.carrier.now in
     let many = c.node_count-node-end.ensures d in
     let below = c.loop-node-test.true in
@@ -24,6 +23,9 @@ write_lent-requires-clause-row g c =
     let held = g.W.HeldRow.held in
     let d = pure_carrier c.args.carrier.now in
     rw c.loop-node.invariant.1 (word_row_at (IsRowOf (net_of c.args.lines.now)) (found_rows held d c.args.found.now) c.loop-node.node (lent_row d c.row.result) (c.row.ensures.row d) c.requires.rows)
+
+pub write_lent-requires-clause-words : goal.write_lent-requires-clause-words
+write_lent-requires-clause-words g c = c.row.ensures.words (pure_carrier c.args.carrier.now) c.requires.words
 
 pub returns-in_err-put_all-clause-text : goal.returns-in_err-put_all-clause-text
 returns-in_err-put_all-clause-text g c =
