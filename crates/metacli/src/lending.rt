@@ -72,7 +72,8 @@ fn put_found<K: Sink, W: HeldRow>(
     requires carrier { pure_carrier carrier.now ≡ net_carrier (net_of lines.old) }
     requires may_be { IsCarrier (pure_carrier carrier.now) }
     requires words { AreFoundWords W.held (pure_carrier carrier.now) found.now }
-    requires rows { AllByRecursion (IsRowOf (net_of lines.old)) (found_rows W.held (pure_carrier carrier.now) found.now) }
+    requires rows { AllByRecursion (IsRowOf (net_of lines.old))
+        (found_rows W.held (pure_carrier carrier.now) found.now) }
     ensures text { PutsText (K.holds out.old)
         (rows_text (net_of lines.old) (found_rows W.held (pure_carrier carrier.now) found.now)) result (K.holds out.new) }
     ensures net { net_of lines.new ≡ net_of lines.old }
