@@ -75,7 +75,8 @@ fn put_found<K: Sink, W: HeldRow>(
     requires rows { AllByRecursion (IsRowOf (net_of lines.old))
         (found_rows W.held (pure_carrier carrier.now) found.now) }
     ensures text { PutsText (K.holds out.old)
-        (rows_text (net_of lines.old) (found_rows W.held (pure_carrier carrier.now) found.now)) result (K.holds out.new) }
+        (rows_text (net_of lines.old) (found_rows W.held (pure_carrier carrier.now) found.now))
+        result (K.holds out.new) }
     ensures net { net_of lines.new ≡ net_of lines.old }
 {
     for node in 0..found.node_count() {

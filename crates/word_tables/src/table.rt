@@ -4,8 +4,8 @@ ghost use Rattle.word_tables.specs.Tables.{fixed_words, own_words, IsTableOf};
 use crate::found::FoundTable;
 use label_code::{FixedRow, HeldRow, Words};
 
-/// The routes of all nodes for a destination, by how many words each value has. Their values are words of a carrier that
-/// the table doesn't know. What goes over the rows matches once, and then knows the form of all of them.
+/// The routes of all nodes for a destination, by how many words each value has. Their values are words of a carrier
+/// that the table doesn't know. What goes over the rows matches once, and then knows the form of all of them.
 #[derive(Debug, Drop)]
 pub enum WordTable {
     /// One each.
@@ -22,7 +22,7 @@ pub enum WordTable {
 
 /// A row of words whose tables are among [`WordTable`]'s.
 pub trait TableRow: HeldRow {
-    /// The table in the variant of this form of rows, with the same routes.
+    /// The table in the variant of this form of rows, with the same routes. It takes no memory.
     fn table_of(found: FoundTable<Self>) -> WordTable
         ensures { IsTableOf Self.held found result };
 }
