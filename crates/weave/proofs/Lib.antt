@@ -11,5 +11,9 @@ mod Round
 mod OneRound
 mod Waiting
 mod Returns
+mod Going
+mod Delivering
+mod Starting
+mod Queues
 mod Ending
 pub mod Sent

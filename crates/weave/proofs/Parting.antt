@@ -7,7 +7,7 @@ use Rattle.std.proofs.lemmas.List.FromFn.{map-range_with_len_more}
 use Rattle.meta_base.specs.declared.ids.Delivery.{Delivery}
 use Rattle.journal_merge.specs.declared.log.NodeLog.{NodeLog}
 use Rattle.weave.specs.Views.{View}
-use Rattle.weave.specs.Apart.{AreNodesOf, log_across, logs_across}
+use Rattle.weave.specs.Apart.{AreNodesOf, logs_across}
 use Rattle.weave.specs.Gathered.{block_of}
 use Rattle.weave.proofs.Deals.{got_before, got_last}
 
@@ -40,4 +40,4 @@ module _ {N S M : Type 0} (state : N → S) (count : ℕ) (views : ℕ → View 
   pub logs_more : (n : ℕ) (logs more : List NodeLog) (log : List Delivery) → more ≡ logs ++ record { node = record { 0 = n }; entries = log } ∷ [] → logs ≡ logs_across count views n → (views (block_of count n)).log n ≡ log
       → more ≡ logs_across count views (n + 1)
   logs_more n logs more log pushed before here =
-      pushed ∙ (ap₂ (λ l k. l ++ record { node = record { 0 = n }; entries = k } ∷ []) before (sym here) ∙ sym (map-range_with_len_more (log_across count views) 0 n n (omega arith)))
+      pushed ∙ (ap₂ (λ l k. l ++ record { node = record { 0 = n }; entries = k } ∷ []) before (sym here) ∙ sym (map-range_with_len_more (λ i. record { node = record { 0 = i }; entries = (views (block_of count i)).log i }) 0 n n (omega arith)))

@@ -110,7 +110,7 @@ module _ {S M : Type 0} (k : Kind S M) (net : PureNet) where
     stepped : S × List (ℕ × M)
     stepped = k.step x.node e.arc.0 x.message e.clock
 
-    spoken_out : AllByRecursion (λ (p : ℕ × M). speaker net p.0 ≡ Some x.number) (k.step x.node e.arc.0 x.message e.clock).1
+    pub spoken_out : AllByRecursion (λ (p : ℕ × M). speaker net p.0 ≡ Some x.number) (k.step x.node e.arc.0 x.message e.clock).1
     spoken_out =
         subst (λ n. AllByRecursion (λ (p : ℕ × M). speaker net p.0 ≡ Some n) (k.step x.node e.arc.0 x.message e.clock).1) place.number_is
         (subst (λ m. AllByRecursion (λ (p : ℕ × M). speaker m p.0 ≡ Some (k.number x.node)) (k.step x.node e.arc.0 x.message e.clock).1) place.net_is

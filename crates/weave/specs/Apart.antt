@@ -1,19 +1,15 @@
 -- How blocks are taken apart.
 use Rattle.std.specs.Prelude.{◌≡◌, ℕ, ◌<◌, ◌==◌, false, List, Some, length, map, slice_get}
-use Rattle.std.specs.List.{range_with_len}
 use Rattle.meta_base.specs.declared.ids.Delivery.{Delivery}
 use Rattle.journal_merge.specs.declared.log.NodeLog.{NodeLog}
+use Rattle.weave.specs.Going.{logs_by}
 use Rattle.weave.specs.Views.{View}
 use Rattle.weave.specs.Gathered.{block_of}
 
 module _ {S M : Type 0} where
-  -- the log of a node, among so many blocks
-  abbrev pub log_across : ℕ → (ℕ → View S M) → ℕ → NodeLog
-  log_across count views i = record { node = record { 0 = i }; entries = (views (block_of count i)).log i }
-
-  -- the logs of the first n nodes, in order
+  -- the logs of the first n nodes, in order, among so many blocks
   abbrev pub logs_across : ℕ → (ℕ → View S M) → ℕ → List NodeLog
-  logs_across count views n = map (log_across count views) (range_with_len 0 n)
+  logs_across count views n = logs_by (λ i. (views (block_of count i)).log i) n
 
   -- the block had that node at the number, with that log, and nothing else was taken
   pub record IsSeatTaken (old new : ℕ → View S M) (block i : ℕ) (s : S) (log : List Delivery) : Type 0 where

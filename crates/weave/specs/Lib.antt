@@ -3,6 +3,9 @@ pub mod Lanes
 pub mod Views
 pub mod Blocks
 pub mod Gathered
+pub mod Going
+pub mod Started
+pub mod Queued
 pub mod Rounds
 pub mod Between
 pub mod Arcs

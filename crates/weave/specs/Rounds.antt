@@ -1,17 +1,17 @@
 -- A round of workers.
-use Rattle.std.specs.Prelude.{◌≡◌, ℕ, ◌+◌, ◌/◌, ◌%◌, ◌==◌, ◌≤◌, ◌⊎◌, ◌++◌, cond, List, Some, slice_get, map}
+use Rattle.std.specs.Prelude.{◌≡◌, ℕ, ◌+◌, ◌/◌, ◌%◌, ◌==◌, ◌≤◌, ◌++◌, cond, List, Some, slice_get, map}
 use Rattle.net_graph.specs.Nets.{PureNet}
 use Rattle.node_core.specs.Kinds.{Kind}
 use Rattle.node_core.specs.Machine.{Machine}
-use Rattle.node_core.specs.Running.{IsRunning}
 use Rattle.quiet_ledger.specs.declared.totals.Totals.{Totals}
 use Rattle.woven_laws.specs.Histories.{Taken, entry_of}
 use Rattle.woven_laws.specs.Woven.{Woven}
-use Rattle.woven_laws.specs.Counts.{sent_by_all, taken_by_all, waiting_on}
+use Rattle.woven_laws.specs.Counts.{sent_by_all, taken_by_all}
 use Rattle.weave.specs.declared.block.Block.{Block}
 use Rattle.weave.specs.declared.part.Part.{Part}
 use Rattle.weave.specs.Views.{View, HasRun}
 use Rattle.weave.specs.Blocks.{IsFresh}
+use Rattle.weave.specs.Going.{HasGone}
 use Rattle.weave.specs.Gathered.{block_of, machine_across, AreGathered}
 
 -- the turns of one of so many workers, of which one gets those that can't be shared
@@ -41,18 +41,7 @@ module _ {S M : Type 0} (k : Kind S M) (net : PureNet) (count : ℕ) where
     pub history : ℕ → List (Taken M)
     pub run : HasRun k net (first w) history (second w)
 
-  -- From machine c the rounds so far led to these views: each node took and logged what its history says, no more was
-  -- taken than there are turns, and the totals count what waited at first and all that was sent and taken.
+  -- From machine c the rounds so far led to these views.
   pub record HasCome (turns : ℕ) (c : Machine S M) (views : ℕ → View S M) (totals : Totals) : Type 0 where
-    pub history : ℕ → List (Taken M)
-    pub woven : Woven k net c history (machine_across net count views)
-    pub running : IsRunning k net (machine_across net count views)
+    pub gone : HasGone k net turns c (machine_across net count views) (λ i. (views (block_of count i)).log i) totals
     pub gathered : AreGathered net count views
-    pub log_is : (i : ℕ) → (views (block_of count i)).log i ≡ map entry_of (history i)
-    pub sent : totals.sent ≡ waiting_on net c + sent_by_all k net c.node history
-    pub taken : totals.taken ≡ taken_by_all net history
-    pub few : totals.taken ≤ turns
-
--- nothing is on its way, or all turns are used up
-abbrev pub IsOver : ℕ → Totals → Type 0
-IsOver turns totals = (totals.sent ≡ totals.taken) ⊎ (totals.taken ≡ turns)

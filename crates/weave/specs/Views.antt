@@ -1,5 +1,5 @@
 -- What a block has, as contracts see it, and what its worker makes of it.
-use Rattle.std.specs.Prelude.{◌≡◌, ℕ, ◌+◌, ◌<◌, ◌==◌, max, true, List, [], ◌∷◌, ◌++◌, Option, Some, None, cond, map, length}
+use Rattle.std.specs.Prelude.{◌≡◌, ℕ, ◌+◌, ◌<◌, ◌≤◌, ◌==◌, max, true, List, [], ◌∷◌, ◌++◌, Option, Some, None, cond, map, length}
 use Rattle.std.specs.List.{AllByRecursion}
 use Rattle.meta_base.specs.declared.ids.Delivery.{Delivery}
 use Rattle.net_graph.specs.Nets.{PureNet}
@@ -15,6 +15,15 @@ pub record View (S M : Type 0) : Type 0 where
   pub clock : ℕ → ℕ
   pub log : ℕ → List Delivery
   pub lane : ℕ → PureLane M
+
+-- A node can hear a message that came on an arc, at the clock that it gets by that: it is begun, listens there, and its
+-- last clock is known.
+pub record CanHear {S M : Type 0} (k : Kind S M) (s : S) (last a : ℕ) (m : M) (clock : ℕ) : Type 0 where
+  pub begun : k.is_begun s ≡ true
+  pub last_is : k.last s ≡ last
+  pub listens : listener (k.net s) a ≡ Some (k.number s)
+  pub timed : clock ≡ max last (k.stamp m) + 1
+  pub early : clock ≤ max_turns
 
 module _ {S M : Type 0} (k : Kind S M) (net : PureNet) where
   -- a node of the network that is begun, at its place, with its clock

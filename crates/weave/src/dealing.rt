@@ -1,11 +1,9 @@
 // How nodes, and what waits on arcs, are dealt to blocks, one for each worker.
-ghost use Rattle.std.specs.Prelude.{◌≡◌, ◌<◌, ◌≤◌, ◌^◌, ℕ, length, vec_len, IfOk, OnOk};
+ghost use Rattle.std.specs.Prelude.{◌≡◌, ◌<◌, ℕ, length, vec_len, IfOk, OnOk};
 ghost use Rattle.net_graph.specs.Nets.{IsNet};
-ghost use Rattle.node_core.specs.Configs.{waits_on};
 ghost use Rattle.weave.specs.Blocks.{view_of};
 ghost use Rattle.weave.specs.Dealt.{AreLaid, AreSeatedFresh, IsDealt, IsEmptyView};
 ghost use Rattle.weave.specs.Gathered.{view_at};
-ghost use Rattle.woven_laws.specs.Counts.{total};
 
 use crate::block::Block;
 use crate::lane::Lane;
@@ -13,6 +11,7 @@ use crate::links::block_at;
 use crate::replacing::replace_lane;
 use crate::seat::Seat;
 use crate::seating::put_seat;
+use crate::started::keeps_rules;
 use link_queues::Local;
 use meta_base::{ArcId, List, NoMemory};
 use net_graph::Net;
@@ -94,13 +93,6 @@ fn lay_all<N: NodeCore>(
     Ok(())
 }
 
-// A network keeps its rules, which the caller doesn't say.
-fn keeps_rules(net: &Net)
-    ensures { IsNet net.now }
-{
-    let _edition = net.edition();
-}
-
 /// So many blocks, in which the nodes of the network and what waits on its arcs are dealt: node k to block k modulo
 /// their number, with a clock of 0 and an empty log, and an arc to the block of its listener.
 pub(crate) fn blocks_of<N: NodeCore>(
@@ -122,17 +114,4 @@ pub(crate) fn blocks_of<N: NodeCore>(
     seat_all(alloc, &mut blocks, nodes)?;
     lay_all(net, &mut blocks, links)?;
     Ok(blocks)
-}
-
-/// How many messages wait on all arcs, of which there are at most 2^13, with at most 2^16 messages on each.
-pub(crate) fn waiting_in<M>(links: &[VecDeque<M>]) -> u64
-    requires arcs { length links.now ≤ 2 ^ 13 }
-    requires few { (a : ℕ) → length (waits_on links.now a) ≤ 2 ^ 16 }
-    ensures { result ≡ total (length links.now) (λ a. length (waits_on links.now a)) }
-{
-    let mut waiting = 0;
-    for link in links {
-        waiting += link.len() as u64;
-    }
-    waiting
 }

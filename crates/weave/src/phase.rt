@@ -1,27 +1,19 @@
-ghost use Rattle.std.specs.Prelude.{◌≡◌, ◌<◌, ◌≤◌, ◌^◌, ℕ, [], map, length, nat_lt, slice_get, vec_len, IfOk, IfNone, IfSome};
-ghost use Rattle.net_graph.specs.Nets.{IsNet};
+ghost use Rattle.std.specs.Prelude.{◌<◌, ◌≤◌, map, IfOk};
 ghost use Rattle.node_core.specs.declared.node.TheConstants.{MAX_CLOCK};
 ghost use Rattle.node_core.specs.Kinds.{IsLawful};
-ghost use Rattle.node_core.specs.Machine.{AreUnbegun, Drained, Machine};
-ghost use Rattle.node_core.specs.Running.{AreUpTo, IsRunning};
+ghost use Rattle.node_core.specs.Machine.{AreUnbegun, Machine};
 ghost use Rattle.quiet_ledger.specs.declared.book.TheConstants.{MAX_WORKERS};
-ghost use Rattle.woven_laws.specs.Counts.{waiting_on};
-ghost use Rattle.weave.specs.Gathered.{machine_across, view_at};
-ghost use Rattle.weave.specs.Lanes.{lane_in, waits_inside};
+ghost use Rattle.weave.specs.Going.{HasEnded};
 ghost use Rattle.weave.specs.Phases.{IsPhaseEnd};
-ghost use Rattle.weave.specs.Rounds.{HasCome, IsOver};
+ghost use Rattle.weave.specs.Started.{IsStarted};
 
-use crate::between::deliver_between;
-use crate::block::Block;
-use crate::dealing::{blocks_of, waiting_in};
-use crate::gathering::take_apart;
-use crate::lane::Lane;
-use crate::links::block_at;
-use crate::rounds::{Plan, run_round};
+use crate::at_once::run_at_once;
+use crate::queued::run_queued;
+use crate::started::{Ended, Started, keeps_rules, start};
 use journal_merge::Journal;
-use meta_base::{ArcId, Gate, List, NoMemory};
+use meta_base::{Gate, List, NoMemory};
 use net_graph::Net;
-use node_core::{Config, NodeCore};
+use node_core::NodeCore;
 use quiet_ledger::Totals;
 use std::alloc::Global;
 use std::sync::Wait;
@@ -79,15 +71,13 @@ where
     histories_replay::<N>();
     histories_count::<N>();
     replays_count::<N>();
-    let (nodes, links) = Config::start(alloc, net, nodes)?.into_parts();
-    let totals = Totals {
-        sent: waiting_in(&links),
-        taken: 0,
-    };
-    let blocks = blocks_of(alloc, net, nodes, links, block_count(net, workers))?;
+    let started = start(alloc, net, nodes)?;
     let budget = Budget { workers, turns };
-    let (blocks, totals) = run_rounds(rt, alloc, net, blocks, totals, budget, gate)?;
-    let (nodes, logs) = take_apart(alloc, net, blocks)?;
+    let Ended {
+        nodes,
+        logs,
+        totals,
+    } = run_all(rt, alloc, net, started, budget, gate)?;
     let journal = Journal::from_logs(logs)?;
     Ok(WeaveEnd {
         nodes,
@@ -97,11 +87,28 @@ where
     })
 }
 
-// A network keeps its rules, which the caller doesn't say.
-fn keeps_rules(net: &Net)
-    ensures { IsNet net.now }
+// Makes deliveries, until nothing is on its way or all turns are used up. One worker needs no blocks.
+fn run_all<N: NodeCore + Send, G: Gate, R: Threads + Wait + Sync>(
+    rt: &R,
+    alloc: Global,
+    net: &Net,
+    started: Started<N, N::Message>,
+    budget: Budget,
+    gate: &G,
+) -> Result<Ended<N>, NoMemory>
+where
+    N::Message: Send,
+    requires workers { (0 < budget.workers) × (budget.workers ≤ MAX_WORKERS) }
+    requires turns { budget.turns ≤ MAX_CLOCK }
+    requires started { (c : Machine N.State N.Note) × IsStarted N.state N.note N.kind net.now c started }
+    ensures { (c : Machine N.State N.Note) → IsStarted N.state N.note N.kind net.now c started
+        → IfOk result (λ e. HasEnded N.kind net.now budget.turns c (map N.state e.nodes) e.logs e.totals) }
 {
-    let _edition = net.edition();
+    let count = block_count(net, budget.workers);
+    if count == 1 {
+        return run_queued(alloc, net, started, budget.turns, gate);
+    }
+    run_at_once(rt, alloc, net, started, count, budget, gate)
 }
 
 /// What holds of every kind of node. Where threads are started, the bound itself doesn't say it.
@@ -116,91 +123,4 @@ fn block_count(net: &Net, workers: u32) -> usize
     ensures { (0 < result) × (result ≤ MAX_WORKERS) }
 {
     net.node_count().clamp(1, workers as usize)
-}
-
-// Rounds, until nothing is on its way or all turns are used up. Each but the first begins with a delivery.
-fn run_rounds<N: NodeCore + Send, G: Gate, R: Threads + Wait + Sync>(
-    rt: &R,
-    alloc: Global,
-    net: &Net,
-    blocks: Vec<Block<N>>,
-    totals: Totals,
-    budget: Budget,
-    gate: &G,
-) -> Result<(Vec<Block<N>>, Totals), NoMemory>
-where
-    N::Message: Send,
-    requires net { IsNet net.now }
-    requires count { (0 < vec_len blocks) × (vec_len blocks ≤ MAX_WORKERS) }
-    requires turns { budget.turns ≤ MAX_CLOCK }
-    requires begun { (c : Machine N.State N.Note) × IsRunning N.kind net.now c × (waiting_on net.now c ≤ 2 ^ 20)
-        × HasCome N.kind net.now (vec_len blocks) budget.turns c (view_at N.state N.note blocks.items) totals
-        × AreUpTo N.kind c 0 }
-    ensures count { IfOk result (λ r. vec_len r.0 ≡ vec_len blocks) }
-    ensures come { IfOk result (λ r. (c : Machine N.State N.Note)
-        → IsRunning N.kind net.now c → waiting_on net.now c ≤ 2 ^ 20
-        → HasCome N.kind net.now (vec_len blocks) budget.turns c (view_at N.state N.note blocks.items) totals
-        → HasCome N.kind net.now (vec_len blocks) budget.turns c (view_at N.state N.note r.0.items) r.1) }
-    ensures over { IfOk result (λ r. IsOver budget.turns r.1) }
-{
-    let Budget { workers, turns } = budget;
-    keeps_laws::<N>();
-    histories_count::<N>();
-    if totals.sent == totals.taken || totals.taken == turns {
-        return Ok((blocks, totals));
-    }
-    let plan = Plan {
-        totals,
-        turns: turns - totals.taken,
-        arc: first_waiting(net, &blocks),
-    };
-    let (mut blocks, mut totals) = run_round(rt, alloc, net, blocks, plan, gate)?;
-    loop {
-        if totals.sent == totals.taken || totals.taken == turns {
-            return Ok((blocks, totals));
-        }
-        let Some(arc) = first_waiting(net, &blocks) else {
-            unreachable!()
-        };
-        let sent = deliver_between(alloc, net, &mut blocks, arc, workers, gate)?;
-        totals.sent += sent;
-        totals.taken += 1;
-        let plan = Plan {
-            totals,
-            turns: turns - totals.taken,
-            arc: Some(arc),
-        };
-        (blocks, totals) = run_round(rt, alloc, net, blocks, plan, gate)?;
-    }
-}
-
-// The first arc on which a message waits, if one waits anywhere.
-fn first_waiting<N: NodeCore>(net: &Net, blocks: &[Block<N>]) -> Option<ArcId>
-    requires { 0 < length blocks.now }
-    ensures arc { IfSome result (λ arc. arc.0 < length net.now.arcs) }
-    ensures some { IfSome result (λ arc. 0 < length ((machine_across net.now (length blocks.now)
-        (view_at N.state N.note blocks.now)).link arc.0)) }
-    ensures first { IfSome result (λ arc. (a : ℕ) → a < arc.0 → (machine_across net.now (length blocks.now)
-        (view_at N.state N.note blocks.now)).link a ≡ []) }
-    ensures none { IfNone result (Drained (machine_across net.now (length blocks.now)
-        (view_at N.state N.note blocks.now))) }
-{
-    for id in 0..net.arc_count() {
-        let arc = ArcId(id as u32);
-        let block = block_at(net.arc(arc).tail, blocks.len());
-        if waits_on(&blocks[block].lanes, id) {
-            return Some(arc);
-        }
-    }
-    None
-}
-
-// Whether a message waits on the arc of that number, inside a block.
-fn waits_on<M>(lanes: &[Lane<M>], id: usize) -> bool
-    ensures { result ≡ nat_lt 0 (length (waits_inside (lane_in (slice_get lanes.now id)))) }
-{
-    match lanes.get(id) {
-        Some(Lane::Inside(queue)) => queue.waiting() > 0,
-        Some(Lane::Elsewhere | Lane::From(_) | Lane::To(_)) | None => false,
-    }
 }

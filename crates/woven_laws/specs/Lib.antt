@@ -1,6 +1,7 @@
 pub mod Histories
 pub mod Woven
 pub mod Counts
+pub mod Delivered
 pub mod ArcEnds
 pub mod HistoryLaws
 pub mod CountLaws

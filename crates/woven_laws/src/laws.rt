@@ -6,6 +6,7 @@ ghost use Rattle.woven_laws.specs.Counts.{sent_by_all, taken_by_all, waiting_on}
 ghost use Rattle.woven_laws.specs.Histories.{Taken};
 ghost use Rattle.woven_laws.specs.Woven.{IsMergeOf, Woven};
 
+use crate::all_nodes::AllNodes;
 use node_core::NodeCore;
 
 /// A journal in order that merges what the nodes took replays, from where they were to where they are.
@@ -20,6 +21,13 @@ pub fn histories_count<N: NodeCore>()
     ensures { (net : PureNet) (c d : Machine N.State N.Note) (history : ℕ → List (Taken N.Note))
         → IsNet net → Woven N.kind net c history d
         → waiting_on net c + sent_by_all N.kind net c.node history ≡ taken_by_all net history + waiting_on net d }
+{}
+
+/// The same of nodes that one worker runs.
+pub fn deliveries_count<A: AllNodes>()
+    ensures { (net : PureNet) (c d : Machine A.State A.Note) (history : ℕ → List (Taken A.Note))
+        → IsNet net → Woven A.kind net c history d
+        → waiting_on net c + sent_by_all A.kind net c.node history ≡ taken_by_all net history + waiting_on net d }
 {}
 
 /// The messages that are sent in a replay are those that it takes and those that wait at its end.

@@ -1,6 +1,6 @@
 use Rattle.std.proofs.Common.{◌≡◌, ◌<◌, ℕ, [], length}
 use Rattle.weave.specs.Gathered.{machine_across, view_at}
-use Rattle.weave.proofs.phase.first_waiting.Given as goal
+use Rattle.weave.proofs.at_once.first_waiting.Given as goal
 
 -- nothing waits on the arcs so far
 abbrev pub invariant-loop-id : goal.invariant-loop-id

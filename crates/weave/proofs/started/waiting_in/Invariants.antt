@@ -1,7 +1,7 @@
 use Rattle.std.proofs.Common.{◌≡◌, ◌*◌, ◌≤◌, ◌^◌, length}
 use Rattle.node_core.specs.Configs.{waits_on}
 use Rattle.woven_laws.specs.Counts.{total}
-use Rattle.weave.proofs.dealing.waiting_in.Given as goal
+use Rattle.weave.proofs.started.waiting_in.Given as goal
 
 abbrev pub invariant-loop-link : goal.invariant-loop-link
 invariant-loop-link g l =

@@ -4,14 +4,14 @@ use Rattle.node_core.specs.Machine.{Drained, front_clock}
 use Rattle.node_core.specs.Running.{IsRunning}
 use Rattle.weave.specs.Gathered.{machine_across, view_at, AreGathered}
 use Rattle.weave.specs.Rounds.{IsRound}
-use Rattle.weave.proofs.Ending.{come_on, come_one, next_early, sent_small, something_waits}
-use Rattle.weave.proofs.phase.run_rounds.Goals as goal
+use Rattle.weave.proofs.Ending.{come_early, come_on, come_one, come_small, come_waits}
+use Rattle.weave.proofs.at_once.run_rounds.Goals as goal
 
 pub run_round-requires-clause-base : goal.run_round-requires-clause-base
 run_round-requires-clause-base g c _ _ =
     let k = g.N.NodeCore in
     let began = c.requires.begun in
-    sent_small k.kind c.keeps_laws.ensures c.args.net.now c.requires.net (vec_len c.args.blocks) c.args.budget.turns began.0 (view_at k.state k.note c.args.blocks.items) c.args.totals began.1 began.3 c.requires.turns began.2
+    come_small k.kind c.keeps_laws.ensures c.args.net.now c.requires.net (vec_len c.args.blocks) c.args.budget.turns began.0 (view_at k.state k.note c.args.blocks.items) c.args.totals began.3 began.1 c.requires.turns began.2
 
 pub loop-totals-init : goal.loop-totals-init
 loop-totals-init g c =
@@ -21,7 +21,7 @@ loop-totals-init g c =
     record {
       count = c.in_ok-blocks.ensures.count;
       come = λ machine running few first.
-          let most = first.few in
+          let most = first.gone.few in
           come_on k.kind c.keeps_laws.ensures c.args.net.now c.requires.net n c.args.budget.turns machine (view_at k.state k.note c.args.blocks.items) (view_at k.state k.note c.in_ok-blocks.blocks.items) c.args.totals c.in_ok-blocks.totals
           (c.args.budget.turns - c.args.totals.taken) first (omega (arith, most)) round;
     }
@@ -40,7 +40,7 @@ unreachable-requires g c =
     let is : c.first_waiting-in-loop-totals.result ≡ None = c.in_default.is in
     let none = rw is at c.first_waiting-in-loop-totals.ensures.none in
     let here = subst (λ xs. Drained (machine_across net (length xs) (view xs))) c.deref-in-loop-totals.ensures.value none in
-    something_waits k.kind c.keeps_laws.ensures net c.requires.net n c.args.budget.turns began.0 (view blocks.items) totals come
+    come_waits k.kind c.keeps_laws.ensures net c.requires.net n c.args.budget.turns began.0 (view blocks.items) totals come
     (λ d history w. c.histories_count.ensures net began.0 d history c.requires.net w) c.if-totals-2.false
     (subst (λ m. Drained (machine_across net m (view blocks.items))) len here)
 
@@ -55,7 +55,7 @@ deliver_between-requires-clause-early g c _ _ t front =
     let began = c.requires.begun in
     let come = c.loop-totals.invariant.come began.0 began.1 began.2 began.3 in
     let a = c.in-Some.arc.0 in
-    next_early k.kind c.keeps_laws.ensures net c.requires.net n c.args.budget.turns began.0 (view blocks.items) totals began.1 began.4 come c.requires.turns c.if-totals-turns-2.false a t
+    come_early k.kind c.keeps_laws.ensures net c.requires.net n c.args.budget.turns began.0 (view blocks.items) totals come began.1 began.4 c.requires.turns c.if-totals-turns-2.false a t
     (subst (λ m. front_clock k.kind net (machine_across net m (view blocks.items)) a ≡ Some t) c.loop-totals.invariant.count front)
 
 pub overflow_add-totals : goal.overflow_add-totals
@@ -68,7 +68,7 @@ overflow_add-totals g c =
     let totals = c.loop-totals.totals in
     let began = c.requires.begun in
     let come = c.loop-totals.invariant.come began.0 began.1 began.2 began.3 in
-    let small = (sent_small k.kind c.keeps_laws.ensures net c.requires.net n c.args.budget.turns began.0 (view blocks.items) totals began.1 come c.requires.turns began.2).0 in
+    let small = (come_small k.kind c.keeps_laws.ensures net c.requires.net n c.args.budget.turns began.0 (view blocks.items) totals come began.1 c.requires.turns began.2).0 in
     let few = c.in_ok-sent.ensures.few in
     omega (arith, small, few)
 
@@ -102,7 +102,7 @@ run_round-requires-in-loop-totals-clause-running g c _ _ =
     let made = c.deliver_between.new.blocks in
     let next = come_one k.kind c.keeps_laws.ensures net c.requires.net n c.args.budget.turns began.0 (view blocks.items) (view made.items) totals after c.in_ok-sent.sent (vec_len blocks) c.loop-totals.invariant.count
     come c.if-totals-turns-2.false c.in_ok-sent.ensures.made refl refl in
-    subst (λ m. IsRunning k.kind net (machine_across net m (view made.items))) (sym (c.deliver_between.ensures.count ∙ c.loop-totals.invariant.count)) next.running
+    subst (λ m. IsRunning k.kind net (machine_across net m (view made.items))) (sym (c.deliver_between.ensures.count ∙ c.loop-totals.invariant.count)) next.gone.running
 
 pub run_round-requires-in-loop-totals-clause-base : goal.run_round-requires-in-loop-totals-clause-base
 run_round-requires-in-loop-totals-clause-base g c _ _ =
@@ -118,7 +118,7 @@ run_round-requires-in-loop-totals-clause-base g c _ _ =
     let made = c.deliver_between.new.blocks in
     let next = come_one k.kind c.keeps_laws.ensures net c.requires.net n c.args.budget.turns began.0 (view blocks.items) (view made.items) totals after c.in_ok-sent.sent (vec_len blocks) c.loop-totals.invariant.count
     come c.if-totals-turns-2.false c.in_ok-sent.ensures.made refl refl in
-    sent_small k.kind c.keeps_laws.ensures net c.requires.net n c.args.budget.turns began.0 (view made.items) after began.1 next c.requires.turns began.2
+    come_small k.kind c.keeps_laws.ensures net c.requires.net n c.args.budget.turns began.0 (view made.items) after next began.1 c.requires.turns began.2
 
 pub loop-totals-preserved : goal.loop-totals-preserved
 loop-totals-preserved g c =
@@ -140,7 +140,7 @@ loop-totals-preserved g c =
           let come = c.loop-totals.invariant.come machine running few first in
           let next = come_one k.kind lawful net c.requires.net n c.args.budget.turns machine (view blocks.items) (view made.items) totals after c.in_ok-sent.sent (vec_len blocks) c.loop-totals.invariant.count
           come c.if-totals-turns-2.false c.in_ok-sent.ensures.made refl refl in
-          let most = next.few in
+          let most = next.gone.few in
           come_on k.kind lawful net c.requires.net n c.args.budget.turns machine (view made.items) (view last.items) after c.in_ok-blocks-2.field-0-1 left next (omega (arith, most))
           (subst (λ m. IsRound k.kind net m left (view made.items) (view last.items) after c.in_ok-blocks-2.field-0-1) count c.in_ok-blocks-2.ensures.round);
     }

@@ -8,7 +8,7 @@ use Rattle.node_core.specs.Kinds.{listener}
 use Rattle.weave.specs.declared.block.Block.{Block}
 use Rattle.weave.specs.Lanes.{lane_in, waits_inside}
 use Rattle.weave.proofs.Waiting.{none_at_all, none_more, waits_at}
-use Rattle.weave.proofs.phase.first_waiting.Goals as goal
+use Rattle.weave.proofs.at_once.first_waiting.Goals as goal
 
 pub loop-id-preserved : goal.loop-id-preserved
 loop-id-preserved g c =

@@ -4,7 +4,7 @@ use Rattle.node_core.specs.Running.{IsRunning}
 use Rattle.woven_laws.specs.Counts.{waiting_on}
 use Rattle.weave.specs.Gathered.{view_at}
 use Rattle.weave.specs.Rounds.{HasCome}
-use Rattle.weave.proofs.phase.run_rounds.Given as goal
+use Rattle.weave.proofs.at_once.run_rounds.Given as goal
 
 -- the rounds so far led to the blocks and totals
 abbrev pub invariant-loop-totals : goal.invariant-loop-totals
