@@ -1,5 +1,5 @@
 -- A phase of several workers, from its start to its end.
-use Rattle.std.proofs.Common.{ltb, ◌≡◌, ℕ, ◌+◌, ◌<◌, ◌≤◌, ◌^◌, Bool, true, false, List, [], Some, slice_get, map, length, refl, sym, ap, subst, ◌∙◌, arith}
+use Rattle.std.proofs.Common.{ltb, ◌≡◌, ℕ, ◌+◌, ◌<◌, ◌≤◌, ◌^◌, Bool, true, false, List, Some, slice_get, map, length, refl, sym, ap, subst, ◌∙◌, arith}
 use Rattle.std.proofs.lemmas.Bool.Decides.{nat_tests}
 use Rattle.std.proofs.lemmas.List.{length-map}
 use Rattle.std.proofs.lemmas.Option.{slice_get_past}
@@ -19,7 +19,7 @@ use Rattle.weave.specs.declared.started.Started.{Started}
 use Rattle.weave.specs.Apart.{logs_across, AreThere, AreNodesOf}
 use Rattle.weave.specs.Between.{IsOneRound}
 use Rattle.weave.specs.Dealt.{IsDealt}
-use Rattle.weave.specs.Gathered.{block_of, machine_across, AreGathered}
+use Rattle.weave.specs.Gathered.{block_of, machine_across}
 use Rattle.weave.specs.Going.{HasEnded, IsOver}
 use Rattle.weave.specs.Rounds.{IsRound, HasCome}
 use Rattle.weave.specs.Started.{IsStarted}

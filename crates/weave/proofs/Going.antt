@@ -1,5 +1,5 @@
 -- How far a phase has come, and how it ends, whoever makes its deliveries.
-use Rattle.std.proofs.Common.{ltb, ◌≡◌, ℕ, zero, suc, ◌+◌, ◌*◌, ◌<◌, ◌≤◌, ◌^◌, Bool, true, false, List, [], ◌∷◌, ◌++◌, Option, Some, None, slice_get, map, length, length-append, refl, sym, ap, subst, ◌∙◌, arith, inl, inr}
+use Rattle.std.proofs.Common.{ltb, ◌≡◌, ℕ, zero, suc, ◌+◌, ◌*◌, ◌<◌, ◌≤◌, ◌^◌, Bool, true, false, List, [], ◌∷◌, ◌++◌, Option, Some, None, map, length, length-append, refl, sym, ap, subst, ◌∙◌, arith, inl, inr}
 use Rattle.std.specs.Prelude.{◌==◌}
 use Rattle.std.specs.List.{AllByRecursion, range_with_len}
 use Rattle.std.proofs.lemmas.Bool.{eqb-true, eqb-false}
@@ -10,7 +10,7 @@ use Rattle.net_graph.specs.Nets.{PureNet, IsNet}
 use Rattle.net_graph.specs.declared.limits.TheConstants.{MAX_ARCS}
 use Rattle.node_core.specs.declared.node.TheConstants.{MAX_CLOCK}
 use Rattle.node_core.specs.Kinds.{Kind, IsLawful}
-use Rattle.node_core.specs.Machine.{Machine, AreUnbegun, Start, Drained, Ordered, Replay, SentIn, front_clock, replay_from}
+use Rattle.node_core.specs.Machine.{Machine, Start, Drained, Ordered, Replay, SentIn, front_clock, replay_from}
 use Rattle.node_core.specs.OrderLaws.{front_up_to}
 use Rattle.node_core.specs.Running.{AreUpTo, IsRunning}
 use Rattle.quiet_ledger.specs.declared.book.TheConstants.{MAX_BASE}
@@ -24,7 +24,7 @@ use Rattle.woven_laws.specs.ClockLaws.{woven_up_to}
 use Rattle.woven_laws.specs.Counts.{total, sent_by_all, taken_by_all, waiting_on}
 use Rattle.woven_laws.specs.CountLaws.{total_same, total_plus, total_below}
 use Rattle.woven_laws.specs.MergedLogs.{logs_of, logs_mergeable, timed_ascends, merged_is, merged_count}
-use Rattle.weave.specs.Going.{HasEnded, HasGone, IsOver, logs_by}
+use Rattle.weave.specs.Going.{HasEnded, HasGone, IsOver}
 use Rattle.weave.specs.Phases.{IsPhaseEnd}
 use Rattle.weave.proofs.Runs.{map_join, none_sent, none_taken}
 use Rattle.weave.proofs.Working.{few_sent}

@@ -1,22 +1,20 @@
 -- All nodes with one queue of what waits.
-use Rattle.std.proofs.Common.{◌≡◌, ℕ, zero, suc, ◌+◌, ◌<◌, ◌≤◌, max, Bool, true, false, cond, List, [], ◌∷◌, ◌++◌, Option, Some, None, map, length, slice_get, slice_set, option_map, inl, inr, refl, sym, ap, ap₂, subst, ◌∙◌, append_assoc, append-nil, arith}
-use Rattle.std.specs.Prelude.{◌==◌, option_and_then}
+use Rattle.std.proofs.Common.{◌≡◌, ℕ, zero, suc, ◌+◌, ◌<◌, ◌≤◌, ◌⊎◌, max, Bool, true, false, cond, List, [], ◌∷◌, ◌++◌, Option, Some, None, map, length, slice_get, slice_set, option_map, inl, inr, refl, sym, ap, ap₂, subst, ◌∙◌, append-nil, arith}
+use Rattle.std.specs.Prelude.{◌==◌}
 use Rattle.std.specs.List.{range_with_len}
 use Rattle.std.specs.declared.alloc.Global.{Global}
 use Rattle.std.specs.declared.collections.VecDeque.{VecDeque}
-use Rattle.std.proofs.lemmas.Bool.{cases_lt, eqb-true, eqb-false, false_from_ne_true}
+use Rattle.std.proofs.lemmas.Bool.{cases_lt, eqb-true, false_from_ne_true}
 use Rattle.std.proofs.lemmas.List.{length-map, map-append}
-use Rattle.std.proofs.lemmas.Option.{slice_get-map, slice_get_past, slice_get_within}
+use Rattle.std.proofs.lemmas.Option.{slice_get-map, slice_get_within}
 use Rattle.meta_base.specs.declared.ids.ArcId.{ArcId}
-use Rattle.meta_base.specs.declared.ids.Delivery.{Delivery}
-use Rattle.net_graph.specs.Nets.{PureArc, PureNet, IsNet}
+use Rattle.net_graph.specs.Nets.{PureNet, IsNet}
 use Rattle.node_core.specs.declared.node.TheConstants.{MAX_CLOCK}
 use Rattle.node_core.specs.Configs.{noted, waits_on}
-use Rattle.node_core.specs.Kinds.{Kind, IsLawful, listener, on_arc}
+use Rattle.node_core.specs.Kinds.{Kind, listener, on_arc}
 use Rattle.node_core.specs.Machine.{Machine, Drained, changed_at, front_clock}
 use Rattle.node_core.specs.MachineLaws.{on_arc_join, same_test}
 use Rattle.node_core.specs.Running.{IsRunning}
-use Rattle.quiet_ledger.specs.declared.totals.Totals.{Totals}
 use Rattle.journal_merge.specs.declared.log.NodeLog.{NodeLog}
 use Rattle.woven_laws.specs.ArcEnds.{hearer_within}
 use Rattle.woven_laws.specs.Delivered.{HasDelivered}
@@ -40,7 +38,8 @@ module _ {N X : Type 0} where
       ap₂ (λ (l : NodeLog) ls. l ∷ ls) (sym first) (logs_by_number (n + 1) seats f next)
 
   pub logs_are : (seats : List (Seat N X)) → logs_from 0 seats ≡ logs_by (queued_log seats) (length seats)
-  logs_are seats = logs_by_number 0 seats (λ i. record { node = record { 0 = i }; entries = queued_log seats i }) (λ i. refl)
+  logs_are seats = logs_by_number 0 seats (λ i. record { node = record { 0 = i }; entries = queued_log seats i })
+      (λ i. let same : 0 + i ≡ i = omega arith in ap (λ n. record { node = record { 0 = 0 + i }; entries = queued_log seats n }) same)
 
 module _ {N X S M : Type 0} (state : N → S) (note : X → M) where
   abbrev state_in : Seat N X → S
@@ -137,11 +136,14 @@ module _ {N X S M : Type 0} (state : N → S) (note : X → M) where
       by : (t : Bool) → [] ≡ cond {A = List M} t [] []
       by true = refl
       by false = refl
-  one_link a n (m ∷ waits) = by (n == a) refl
+  one_link a n (m ∷ waits) = by (n == a) refl (one_link a n waits)
     where
-      by : (t : Bool) → (n == a) ≡ t → cond t (note m ∷ on_arc a (map (noted note) (map (on_its_arc n) waits))) (on_arc a (map (noted note) (map (on_its_arc n) waits))) ≡ cond t (note m ∷ map note waits) []
-      by true e = ap (λ l. note m ∷ l) (one_link a n waits ∙ rw e refl)
-      by false e = one_link a n waits ∙ rw e refl
+      rest : List M
+      rest = on_arc a (map (noted note) (map (on_its_arc n) waits))
+
+      by : (t : Bool) → (n == a) ≡ t → rest ≡ cond (n == a) (map note waits) [] → cond t (note m ∷ rest) rest ≡ cond t (note m ∷ map note waits) []
+      by true e same = ap (λ l. note m ∷ l) (same ∙ rw e refl)
+      by false e same = same ∙ rw e refl
 
   both_links : (a n : ℕ) (link : VecDeque X Global) (links : List (VecDeque X Global)) → on_arc a (map (noted note) (queue_from n (link ∷ links))) ≡ cond (n == a) (map note link.items) [] ++ on_arc a (map (noted note) (queue_from (n + 1) links))
   both_links a n link links =
@@ -172,22 +174,25 @@ module _ {N X S M : Type 0} (state : N → S) (note : X → M) where
     fresh_node None = refl
     fresh_node (Some n) = refl
 
-    fresh_clock : (o : Option N) → clock_in (option_map fresh_seat o) ≡ 0
+    fresh_clock : (o : Option N) → clock_in {N = N} {X = X} (option_map fresh_seat o) ≡ 0
     fresh_clock None = refl
     fresh_clock (Some n) = refl
 
-    fresh_log : (o : Option N) → log_in (option_map fresh_seat o) ≡ []
+    fresh_log : (o : Option N) → log_in {N = N} {X = X} (option_map fresh_seat o) ≡ []
     fresh_log None = refl
     fresh_log (Some n) = refl
 
     found : (i : ℕ) → slice_get seats i ≡ option_map fresh_seat (slice_get started.nodes i)
     found i = ap (λ (l : List (Seat N X)). slice_get l i) seats_are ∙ slice_get-map fresh_seat started.nodes i
 
+    whole : (a : ℕ) → on_arc a (map (noted note) (queue_from 0 started.links.items)) ≡ map note (waits_on started.links.items a)
+    whole a = let same : 0 + a ≡ a = omega arith in subst (λ b. on_arc b (map (noted note) (queue_from 0 started.links.items)) ≡ map note (waits_on started.links.items a)) same (on_link 0 a started.links.items)
+
     same : queued_machine state note seats queue ≡ c
     same = same_machine c (queued_machine state note seats queue)
         (λ i. ap (option_map state_in) (found i) ∙ (fresh_node (slice_get started.nodes i) ∙ sym (is.nodes_are i)))
         (λ i. ap clock_in (found i) ∙ (fresh_clock (slice_get started.nodes i) ∙ sym (is.clock_is i)))
-        (λ a. ap (λ q. on_arc a (map (noted note) q)) queue_is ∙ (on_link 0 a started.links.items ∙ sym (is.links_are a)))
+        (λ a. ap (λ q. on_arc a (map (noted note) q)) queue_is ∙ (whole a ∙ sym (is.links_are a)))
 
     pub queued_gone : HasGone k net turns c (queued_machine state note seats queue) (queued_log seats) (record { sent = started.waiting; taken = 0 })
     queued_gone = gone_first k net turns c (queued_machine state note seats queue) (queued_log seats) (record { sent = started.waiting; taken = 0 }) same is.running

@@ -1,5 +1,5 @@
 -- What a phase starts with.
-use Rattle.std.proofs.Common.{◌≡◌, ℕ, zero, suc, ◌+◌, ◌*◌, ◌<◌, ◌≤◌, ◌^◌, List, [], ◌∷◌, Option, Some, None, map, length, slice_get, vec_len, option_map, refl, sym, ap, subst, ◌∙◌, arith}
+use Rattle.std.proofs.Common.{◌≡◌, ℕ, zero, suc, ◌*◌, ◌<◌, ◌≤◌, ◌^◌, List, [], ◌∷◌, Option, Some, None, map, length, slice_get, vec_len, option_map, refl, sym, ap, subst, ◌∙◌, arith}
 use Rattle.std.specs.declared.alloc.Global.{Global}
 use Rattle.std.specs.declared.collections.VecDeque.{VecDeque}
 use Rattle.std.proofs.lemmas.List.{length-map}
@@ -9,7 +9,7 @@ use Rattle.node_core.specs.Configs.{waits_on}
 use Rattle.node_core.specs.Kinds.{Kind, IsLawful}
 use Rattle.node_core.specs.Machine.{Machine, AreUnbegun, Start}
 use Rattle.node_core.specs.OrderLaws.{start_up_to}
-use Rattle.node_core.specs.Running.{AreUpTo, IsRunning}
+use Rattle.node_core.specs.Running.{IsRunning}
 use Rattle.woven_laws.specs.Counts.{total, waiting_on}
 use Rattle.woven_laws.specs.CountLaws.{total_same}
 use Rattle.weave.specs.declared.started.Started.{Started}

@@ -73,17 +73,13 @@ where
     replays_count::<N>();
     let started = start(alloc, net, nodes)?;
     let budget = Budget { workers, turns };
-    let Ended {
-        nodes,
-        logs,
-        totals,
-    } = run_all(rt, alloc, net, started, budget, gate)?;
-    let journal = Journal::from_logs(logs)?;
+    let ended = run_all(rt, alloc, net, started, budget, gate)?;
+    let journal = Journal::from_logs(ended.logs)?;
     Ok(WeaveEnd {
-        nodes,
+        nodes: ended.nodes,
         journal,
-        totals,
-        quiet: totals.sent == totals.taken,
+        totals: ended.totals,
+        quiet: ended.totals.sent == ended.totals.taken,
     })
 }
 

@@ -1,4 +1,4 @@
-use Rattle.std.proofs.Common.{◌≡◌, ◌∙◌, sym, subst, vec_len, refl}
+use Rattle.std.proofs.Common.{sym, subst, vec_len}
 use Rattle.weave.specs.Dealt.{IsDealt}
 use Rattle.weave.specs.Gathered.{view_at}
 use Rattle.weave.proofs.Ending.{all_there, come_ended, first_come}
@@ -36,7 +36,7 @@ take_apart-requires g c =
     let views = view_at k.state k.note c.in_ok-blocks.blocks.items in
     let dealt = subst (λ m. IsDealt k.note net m k.state started.nodes started.links.items views) (sym c.in_ok-blocks.ensures.count) c.in_ok-blocks.ensures.dealt in
     let come = c.in_ok-blocks-2.ensures.come machine is.running is.few (first_come k.kind c.keeps_laws.ensures net c.keeps_rules.ensures n c.args.budget.turns k.state k.note machine started is views dealt) in
-    all_there k.kind c.keeps_laws.ensures net c.keeps_rules.ensures n c.args.budget.turns (view_at k.state k.note c.in_ok-blocks-2.blocks.items) come.gone.running (vec_len c.in_ok-blocks-2.blocks) c.in_ok-blocks-2.ensures.count
+    record { there = all_there k.kind c.keeps_laws.ensures net c.keeps_rules.ensures n c.args.budget.turns (view_at k.state k.note c.in_ok-blocks-2.blocks.items) come.gone.running (vec_len c.in_ok-blocks-2.blocks) c.in_ok-blocks-2.ensures.count }
 
 pub returns : goal.returns
 returns g c machine is =

@@ -46,9 +46,9 @@ overflow_add-totals g c =
     let nodes = c.loop-totals.nodes in
     let made = c.deliver.new.self in
     let gone = c.loop-totals.invariant.gone began.0 began.1 began.2 began.3 began.4 in
-    let delivered = subst (λ m. HasDelivered all.kind m (all.machine nodes) (all.log nodes) c.in_ok-deliver.field-0 (all.machine made) (all.log made)) c.loop-totals.invariant.same c.in_ok-deliver.ensures.delivered in
+    let delivered = subst (λ m. HasDelivered all.kind m (all.machine nodes) (all.log nodes) c.in_ok-totals.field-0 (all.machine made) (all.log made)) c.loop-totals.invariant.same c.in_ok-totals.ensures.delivered in
     let small = (sent_small all.kind g.met.A.AllNodes.lawful net c.requires.is_net c.args.turns began.0 (all.machine nodes) (all.log nodes) c.loop-totals.totals began.1 gone c.requires.turns began.2).0 in
-    let few = sent_few all.kind g.met.A.AllNodes.lawful net c.requires.is_net (all.machine nodes) (all.machine made) (all.log nodes) (all.log made) c.in_ok-deliver.field-0 delivered gone.running in
+    let few = sent_few all.kind g.met.A.AllNodes.lawful net c.requires.is_net (all.machine nodes) (all.machine made) (all.log nodes) (all.log made) c.in_ok-totals.field-0 delivered gone.running in
     omega (arith, small, few)
 
 pub loop-totals-preserved : goal.loop-totals-preserved
@@ -58,9 +58,9 @@ loop-totals-preserved g c =
     let nodes = c.loop-totals.nodes in
     let made = c.deliver.new.self in
     let totals = c.loop-totals.totals in
-    let sent = c.in_ok-deliver.field-0 in
+    let sent = c.in_ok-totals.field-0 in
     let more : Totals = record { sent = totals.sent + sent; taken = totals.taken + 1 } in
-    let delivered = subst (λ m. HasDelivered all.kind m (all.machine nodes) (all.log nodes) sent (all.machine made) (all.log made)) c.loop-totals.invariant.same c.in_ok-deliver.ensures.delivered in
+    let delivered = subst (λ m. HasDelivered all.kind m (all.machine nodes) (all.log nodes) sent (all.machine made) (all.log made)) c.loop-totals.invariant.same c.in_ok-totals.ensures.delivered in
     record {
       same = c.deliver.ensures.net ∙ c.loop-totals.invariant.same;
       gone = λ machine running few up first.

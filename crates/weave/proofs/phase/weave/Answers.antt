@@ -11,14 +11,14 @@ from_logs-requires-clause-nodes g c =
     let k = g.N.NodeCore in
     let nodes = map k.state c.args.nodes in
     let is = c.in_ok-started.ensures in
-    (mergeable k.kind c.args.net.now c.args.turns nodes is.running (map k.state c.in_ok-nodes.nodes) c.in_ok-nodes.logs c.in_ok-nodes.totals (c.in_ok-nodes.ensures (Start k.kind nodes) is)).0
+    (mergeable k.kind c.args.net.now c.args.turns nodes is.running (map k.state c.in_ok-ended.ended.nodes) c.in_ok-ended.ended.logs c.in_ok-ended.ended.totals (c.in_ok-ended.ensures (Start k.kind nodes) is)).0
 
 pub from_logs-requires-clause-clocks : goal.from_logs-requires-clause-clocks
 from_logs-requires-clause-clocks g c =
     let k = g.N.NodeCore in
     let nodes = map k.state c.args.nodes in
     let is = c.in_ok-started.ensures in
-    (mergeable k.kind c.args.net.now c.args.turns nodes is.running (map k.state c.in_ok-nodes.nodes) c.in_ok-nodes.logs c.in_ok-nodes.totals (c.in_ok-nodes.ensures (Start k.kind nodes) is)).1
+    (mergeable k.kind c.args.net.now c.args.turns nodes is.running (map k.state c.in_ok-ended.ended.nodes) c.in_ok-ended.ended.logs c.in_ok-ended.ended.totals (c.in_ok-ended.ensures (Start k.kind nodes) is)).1
 
 pub returns : goal.returns
 returns g c =
@@ -27,7 +27,7 @@ returns g c =
     let is_net = c.keeps_rules.ensures in
     let nodes = map k.state c.args.nodes in
     let is = c.in_ok-started.ensures in
-    phase_ends k.kind net c.args.turns nodes is.running (map k.state c.in_ok-nodes.nodes) c.in_ok-nodes.logs c.in_ok-nodes.totals (c.in_ok-nodes.ensures (Start k.kind nodes) is)
+    phase_ends k.kind net c.args.turns nodes is.running (map k.state c.in_ok-ended.ended.nodes) c.in_ok-ended.ended.logs c.in_ok-ended.ended.totals (c.in_ok-ended.ensures (Start k.kind nodes) is)
     (c.histories_replay.ensures net)
     (λ journal d e. c.replays_count.ensures net nodes journal d is_net c.requires.nodes e)
     (λ d history w. c.histories_count.ensures net (Start k.kind nodes) d history is_net w)
