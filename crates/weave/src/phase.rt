@@ -43,12 +43,13 @@ pub struct WeaveEnd<N: NodeCore> {
 }
 
 /// Begins the nodes, one for each of the network in order, and has 1 to [`quiet_ledger::MAX_WORKERS`] workers make
-/// deliveries, at most so many as there are turns, until nothing is on its way. Node k is with worker k modulo their
-/// number, so a node and its log belong to one worker at a time. The workers run at once, on threads of their own, and
-/// pass each other messages by links, so which of the possible deliveries are made in which order is theirs: the
-/// journal is one order that fits all that the nodes saw. The gate gets a report of each delivery, with its worker's
-/// number; with their number where it was made between two rounds of theirs. There are at most [`node_core::MAX_CLOCK`]
-/// turns. It is refused for want of memory alone, and then the nodes are dropped.
+/// deliveries, at most so many as there are turns, until nothing is on its way. One worker makes them on the caller's
+/// thread, in the order in which the messages were sent. Of several, node k is with worker k modulo their number, so a
+/// node and its log belong to one worker at a time; they run at once, on threads of their own, and pass each other
+/// messages by links, so which of the possible deliveries are made in which order is theirs. The journal is one order
+/// that fits all that the nodes saw. The gate gets a report of each delivery, with its worker's number; with their number
+/// where it was made between two rounds of theirs. There are at most [`node_core::MAX_CLOCK`] turns. It is refused for
+/// want of memory alone, and then the nodes are dropped.
 pub fn weave<N: NodeCore + Send, G: Gate, R: Threads + Wait + Sync>(
     rt: &R,
     alloc: Global,
