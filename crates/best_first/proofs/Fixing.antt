@@ -144,6 +144,23 @@ module _ {S : Type 0} (value : S → PureValue) (is_sig : S → Type 0) (c : Pur
               by true e = rw (rows_written k, e) (ap (λ z. Some z) row_is)
               by false e = rw (rows_written k, e, paths_is) (reported-more value paths (route.place.node ∷ path_after paths (found_at rows route.place.next.0)) (found_at rows k) (fixed.ids k) ∙ sym (found-map (fixed_route value paths) rows k))
 
+          -- the route that is fixed has as many nodes as its place says
+          size_is : route.place.size ≡ length r.path
+          unfolding r
+          size_is = by at_best.shaped
+            where
+              by : IsShaped (reported_by value paths rows) (key_of value route) → route.place.size ≡ suc (length (path_or_none (reported_by value paths rows route.place.next.0)))
+              by (inl own) =
+                  let none : reported_by value paths rows route.place.next.0 ≡ None = ap (reported_by value paths rows) (own.0 ∙ node_is) ∙ at_best.is_open in
+                  rw none own.1
+              by (inr b) = rw b.is_reported (let size = b.size in omega arith)
+
+          pub size_there : IfSome (reported_by value new_paths new_rows route.place.node.0) (λ q. route.place.size ≡ length q.path)
+          size_there =
+              let itself : (i == i) ≡ true = grind (arith, nat_tests) in
+              let there : reported_by value new_paths new_rows i ≡ Some r = reported_at i ∙ rw itself refl in
+              rw (node_is, there) size_is
+
           reported_is : reported_by value new_paths new_rows ≡ with_reported (reported_by value paths rows) i r
           reported_is = fun_ext reported_at
 

@@ -1,5 +1,6 @@
 pub mod Found
 pub mod Numbered
+pub mod Trails
 pub mod Ranges
 pub mod Keys
 pub mod KeyOrder

@@ -1,13 +1,14 @@
-ghost use Rattle.std.specs.Prelude.{◌≡◌, ◌<◌, ◌∷◌, ◌++◌, [], Some, None, length, option_map, replicate, is_some, IfOk, IfSome, OnErr, OnOk};
+ghost use Rattle.std.specs.Prelude.{◌≡◌, ◌<◌, ◌∷◌, ◌++◌, [], Some, None, length, option_map, replicate, is_some, IfOk, OnOk};
 ghost use Rattle.std.proofs.Math.ListN.{set};
 ghost use Rattle.path_store.specs.PathOf.{HasNumber};
 ghost use Rattle.best_first.specs.Found.{found_at};
 ghost use Rattle.best_first.specs.Fixed.{path_after};
-ghost use Rattle.best_first.specs.Numbered.{lent_fixed, path_by};
+ghost use Rattle.best_first.specs.Numbered.{lent_fixed};
 
 use crate::route::OpenRoute;
+use crate::trails::Trails;
 use meta_base::{NoMemory, NodeId};
-use path_store::{PathId, Paths};
+use path_store::PathId;
 use std::alloc::Global;
 use std::marker::Model;
 
@@ -25,7 +26,7 @@ pub struct Fixed<S> {
     ids: Vec<Option<PathId>>,
     // The values of the routes, in the order of their paths.
     sigs: Vec<S>,
-    paths: Paths,
+    paths: Trails,
 }
 
 impl<S> Model for Fixed<S> {
@@ -47,7 +48,7 @@ impl<S: Drop> Fixed<S> {
         Ok(Fixed {
             ids: none_of(alloc, count)?,
             sigs: Vec::with_capacity(alloc, count)?,
-            paths: Paths::with_room(alloc, count, count)?,
+            paths: Trails::with_room(alloc, count)?,
         })
     }
 
@@ -64,7 +65,7 @@ impl<S: Drop> Fixed<S> {
         let OpenRoute { sig, place } = route;
         self.sigs.reserve(1)?;
         let next = self.ids[place.next.0 as usize];
-        let path = add_path(&mut self.paths, place.node, next)?;
+        let path = self.paths.add(place.node, next)?;
         self.sigs.push_reserved(sig);
         self.ids[place.node.0 as usize] = Some(path);
         Ok(())
@@ -104,7 +105,7 @@ impl<S> Fixed<S> {
     }
 
     /// Lends the paths of the routes.
-    pub fn paths(&self) -> &Paths
+    pub fn paths(&self) -> &Trails
         ensures { result.now ≡ self.now.paths }
     {
         &self.paths
@@ -120,18 +121,4 @@ pub(crate) fn none_of<T: Drop>(alloc: Global, count: usize) -> Result<Vec<Option
         places.push_reserved(None);
     }
     Ok(places)
-}
-
-// Adds the path that goes from the node on along that of the next node, or the node's own alone.
-fn add_path(paths: &mut Paths, node: NodeId, next: Option<PathId>) -> Result<PathId, NoMemory>
-    requires few { HasNumber (length paths.old) }
-    requires id { IfSome next (λ id. id.0 < length paths.old) }
-    ensures ok { OnOk result (paths.new ≡ paths.old ++ (node ∷ path_by paths.old next) ∷ []) }
-    ensures id { IfOk result (λ id. id.0 ≡ length paths.old) }
-    ensures err { OnErr result (paths.new ≡ paths.old) }
-{
-    match next {
-        Some(id) => paths.add_before(node, id),
-        None => paths.add(&[node]),
-    }
 }

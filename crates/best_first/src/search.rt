@@ -57,12 +57,12 @@ pub(crate) fn offer_own<A: Algebra, L: Ledger>(
     Ok(())
 }
 
-// Fixes the node whose best route is the best of all, if a route is open, and says which.
+// Fixes the node whose best route is the best of all, if a route is open, and says where its route went.
 pub(crate) fn fix_next<A: Algebra, L: Ledger>(
     algebra: &A,
     fixed: &mut Fixed<A::Sig>,
     search: &mut Open<A, L>,
-) -> Result<Option<NodeId>, NoMemory>
+) -> Result<Option<OpenPlace>, NoMemory>
     requires count { length fixed.old.rows ≡ vec_len search.old.best }
     requires few { CanBeNumbered (length fixed.old.rows) }
     requires fixed { AreFixedBy (A.is_sig algebra.now) fixed.old.rows fixed.old.paths }
@@ -71,30 +71,33 @@ pub(crate) fn fix_next<A: Algebra, L: Ledger>(
         (reported_by value fixed.old.paths fixed.old.rows) search.old.best.items search.old.standing }
     ensures rows { OnOk result (length fixed.new.rows ≡ length fixed.old.rows) }
     ensures best { vec_len search.new.best ≡ vec_len search.old.best }
-    ensures none { IfOk result (λ node. IfNone node (FixesNone fixed.old.rows fixed.old.paths
+    ensures none { IfOk result (λ place. IfNone place (FixesNone fixed.old.rows fixed.old.paths
         search.old.best.items fixed.new.rows fixed.new.paths)) }
-    ensures clear { IfOk result (λ node. IfNone node
+    ensures clear { IfOk result (λ place. IfNone place
         (IsClear (vec_len search.old.best) search.new.best.items search.new.standing)) }
-    ensures next { IfOk result (λ node. IfSome node (λ node.
+    ensures next { IfOk result (λ place. IfSome place (λ place.
         FixesNext (A.sig_value algebra.now) (carrier_of (A.expression algebra.now))
         fixed.old.rows fixed.old.paths search.old.best.items
-        fixed.new.rows fixed.new.paths search.new.best.items node.0)) }
-    ensures fixed { IfOk result (λ node.
-        OnSome node (AreFixedBy (A.is_sig algebra.now) fixed.new.rows fixed.new.paths)) }
+        fixed.new.rows fixed.new.paths search.new.best.items place.node.0)) }
+    ensures size { IfOk result (λ place. IfSome place (λ place. IfSome
+        (reported_by (A.sig_value algebra.now) fixed.new.paths fixed.new.rows place.node.0)
+        (λ r. place.size ≡ length r.path))) }
+    ensures fixed { IfOk result (λ place.
+        OnSome place (AreFixedBy (A.is_sig algebra.now) fixed.new.rows fixed.new.paths)) }
     ensures queue { let value = A.sig_value algebra.now in
-        IfOk result (λ node. OnSome node (IsOpen value (A.is_sig algebra.now) (carrier_of (A.expression algebra.now))
+        IfOk result (λ place. OnSome place (IsOpen value (A.is_sig algebra.now) (carrier_of (A.expression algebra.now))
         (reported_by value fixed.new.paths fixed.new.rows) search.new.best.items search.new.standing)) }
 {
     let Some(route) = search.take_best(algebra) else {
         return Ok(None);
     };
-    let node = route.place.node;
+    let place = route.place;
     fixed.fix(route)?;
-    Ok(Some(node))
+    Ok(Some(place))
 }
 
-// Offers the route of the node, which is fixed, to its listeners that are not. The clauses speak of the network,
-// and the labels are all that is read of it.
+// Offers the route that was fixed there to the listeners of its node that are not fixed. The clauses speak of the
+// network, and the labels are all that is read of it.
 pub(crate) fn relax<A: Algebra, L: Ledger>(
     alloc: Global,
     algebra: &A,
@@ -102,17 +105,19 @@ pub(crate) fn relax<A: Algebra, L: Ledger>(
     labels: &NeighbourLabels<'_, A::Lab>,
     fixed: &Fixed<A::Sig>,
     search: &mut Open<A, L>,
-    node: NodeId,
+    place: OpenPlace,
 ) -> Result<(), NoMemory>
     requires algebra { A.expression algebra.now ≡ _net.now.alg.expression }
     requires net { IsNet _net.now }
     requires labels { AreListenerLabels (A.stands_for algebra.now) _net.now labels.now }
-    requires node { node.0 < length _net.now.nodes }
+    requires node { place.node.0 < length _net.now.nodes }
     requires rows { length fixed.now.rows ≡ length _net.now.nodes }
     requires count { vec_len search.old.best ≡ length _net.now.nodes }
     requires fixed { AreFixedBy (A.is_sig algebra.now) fixed.now.rows fixed.now.paths }
-    requires next { IsSomeAnd (reported_by (A.sig_value algebra.now) fixed.now.paths fixed.now.rows node.0)
-        (CanSpeak _net.now node.0) }
+    requires next { IsSomeAnd (reported_by (A.sig_value algebra.now) fixed.now.paths fixed.now.rows place.node.0)
+        (CanSpeak _net.now place.node.0) }
+    requires size { IfSome (reported_by (A.sig_value algebra.now) fixed.now.paths fixed.now.rows place.node.0)
+        (λ r. place.size ≡ length r.path) }
     requires queue { IsOpen (A.sig_value algebra.now) (A.is_sig algebra.now) (carrier _net.now)
         (reported_by (A.sig_value algebra.now) fixed.now.paths fixed.now.rows)
         search.old.best.items search.old.standing }
@@ -125,20 +130,21 @@ pub(crate) fn relax<A: Algebra, L: Ledger>(
         let reported = reported_by value paths rows in
         OnOk result (found_at (open_routes value paths rows search.new.best.items) k ≡
         relaxed (carrier _net.now) (reported k)
-        (found_at (open_routes value paths rows search.old.best.items) k) (spoken _net.now k node.0 (reported node.0))) }
+        (found_at (open_routes value paths rows search.old.best.items) k)
+        (spoken _net.now k place.node.0 (reported place.node.0))) }
 {
-    let Some(next) = fixed.route(node) else {
+    let Some(next) = fixed.route(place.node) else {
         unreachable!()
     };
-    let size = fixed.paths().path(next.path).len() as u32 + 1;
-    for listener in labels.of(node) {
+    let size = place.size + 1;
+    for listener in labels.of(place.node) {
         if !fixed.is_fixed(listener.node) {
-            let place = OpenPlace {
+            let offered = OpenPlace {
                 size,
                 node: listener.node,
-                next: node,
+                next: place.node,
             };
-            offer_image(alloc, algebra, listener.label, next.sig, place, search)?;
+            offer_image(alloc, algebra, listener.label, next.sig, offered, search)?;
         }
     }
     Ok(())

@@ -11,11 +11,11 @@ ghost use Rattle.arc_labels.specs.Neighbours.{AreListenerLabels};
 use crate::fixed::{Fixed, FixedRoute};
 use crate::open::Open;
 use crate::search::{fix_next, offer_own, relax};
+use crate::trails::Trails;
 use alg_model::Algebra;
 use arc_labels::{NeighbourLabels, label_forms, listener_labels};
 use meta_base::{DestId, List, NoMemory, NodeId};
 use net_graph::{DestTable, Net, Route, RouteRow};
-use path_store::Paths;
 use std::alloc::Global;
 use std::marker::Brand;
 use std::sync::ledger::{Blank, Ledger};
@@ -24,7 +24,7 @@ use std::sync::ledger::{Blank, Ledger};
 fn row_of<A: Algebra>(
     alloc: Global,
     algebra: &A,
-    paths: &Paths,
+    paths: &Trails,
     node: NodeId,
     dest: DestId,
     fixed: Option<FixedRoute<'_, A::Sig>>,
@@ -37,7 +37,7 @@ fn row_of<A: Algebra>(
     let route = match fixed {
         Some(fixed) => Some(Route {
             value: algebra.value_of(alloc, fixed.sig)?,
-            path: List::from_vec(Vec::from_slice(alloc, paths.path(fixed.path))?),
+            path: paths.path(fixed.path).to_list(alloc)?,
         }),
         None => None,
     };
@@ -207,8 +207,8 @@ fn fixed_by<A: Algebra, L: Ledger>(
 {
     let mut fixed = Fixed::new(alloc, net.node_count())?;
     offer_own(alloc, algebra, net, dest, search)?;
-    while let Some(node) = fix_next(algebra, &mut fixed, search)? {
-        relax(alloc, algebra, net, labels, &fixed, search, node)?;
+    while let Some(place) = fix_next(algebra, &mut fixed, search)? {
+        relax(alloc, algebra, net, labels, &fixed, search, place)?;
     }
     Ok(fixed)
 }

@@ -15,6 +15,7 @@ ghost use Rattle.word_text.specs.FormLaws.{prints_prop};
 ghost use Rattle.word_text.specs.PathNames.{after_space, between_spaces, name_text};
 
 use alg_model::{Carrier, Value, carrier_of};
+use best_first::Trail;
 use meta_base::{DestId, NoMemory, NodeId};
 use net_graph::{Net, RouteRow};
 use sig_text::push_value;
@@ -107,7 +108,8 @@ impl<'a> RowLines<'a> {
             Some(route) => {
                 self.put_names(row.node, row.dest)?;
                 self.push_value(&route.value)?;
-                self.push_end(route.path.as_slice())
+                self.push_path(route.path.as_slice())?;
+                self.line.push_bytes(b"\n")
             }
         }
     }
@@ -124,12 +126,14 @@ impl<'a> RowLines<'a> {
             ≡ row_text (net_of self.old) (lent_row (pure_carrier carrier.now) row.entry)) }
         ensures net { net_of self.new ≡ net_of self.old }
     {
-        match row.route {
-            None => self.put_none(row.node, row.dest),
+        let LentRow { node, dest, route } = row;
+        match route {
+            None => self.put_none(node, dest),
             Some(route) => {
-                self.put_names(row.node, row.dest)?;
+                self.put_names(node, dest)?;
                 self.form.push(&mut self.line, route.words)?;
-                self.push_end(route.path)
+                self.push_lent_path(route.path)?;
+                self.line.push_bytes(b"\n")
             }
         }
     }
@@ -156,17 +160,6 @@ impl<'a> RowLines<'a> {
     {
         self.put_names(node, dest)?;
         self.line.push_bytes(b"none\n")
-    }
-
-    // The path of a route, and the end of the line.
-    fn push_end(&mut self, path: &[NodeId]) -> Result<(), NoMemory>
-        requires { AreNodesOf (net_of self.now) (numbers path.now) }
-        ensures line { OnOk result (room_of self.new
-            ≡ room_of self.old ++ path_text (net_of self.old) (numbers path.now) ++ codes "\n") }
-        ensures net { net_of self.new ≡ net_of self.old }
-    {
-        self.push_path(path)?;
-        self.line.push_bytes(b"\n")
     }
 
     // A space, the names of a row and the space after each, in place of the line before.
@@ -219,6 +212,21 @@ impl<'a> RowLines<'a> {
                 self.push_node(*node)?;
                 self.push_path(rest)
             }
+        }
+    }
+
+    // The same of a path that is lent.
+    fn push_lent_path(&mut self, path: Trail<'_>) -> Result<(), NoMemory>
+        requires { AreNodesOf (net_of self.now) (numbers path) }
+        ensures line { OnOk result (room_of self.new ≡ room_of self.old
+            ++ path_text (net_of self.old) (numbers path.entry)) }
+        ensures net { net_of self.new ≡ net_of self.old }
+    {
+        let (node, rest) = path.split();
+        self.push_node(node)?;
+        match rest {
+            Some(rest) => self.push_lent_path(rest),
+            None => Ok(()),
         }
     }
 }

@@ -10,7 +10,7 @@ use Rattle.word_tables.specs.declared.lent.LentRow.{LentRow}
 
 -- the route and the row that are lent, where the words are those of a value of the carrier
 abbrev pub lent_route : PureCarrier → LentRoute → PureRoute
-lent_route c r = record { value = decoded c r.words.now; path = numbers r.path.now }
+lent_route c r = record { value = decoded c r.words.now; path = numbers r.path }
 
 abbrev pub lent_row : PureCarrier → LentRow → PureRow
 lent_row c row = record { node = row.node.0; dest = row.dest.0; route = option_map (lent_route c) row.route }

@@ -1,16 +1,17 @@
 // Rows that a table lends.
+use best_first::Trail;
 use label_code::Word;
 use meta_base::{DestId, NodeId};
 
 /// A route: the words of its value, and the path from the node itself to the origin.
-#[derive(Clone, Copy, Debug)]
+#[derive(Debug, Drop)]
 pub struct LentRoute<'t> {
     pub words: &'t [Word],
-    pub path: &'t [NodeId],
+    pub path: Trail<'t>,
 }
 
 /// A node's route for a destination, or none.
-#[derive(Clone, Copy, Debug)]
+#[derive(Debug, Drop)]
 pub struct LentRow<'t> {
     pub node: NodeId,
     pub dest: DestId,

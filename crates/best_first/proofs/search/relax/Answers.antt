@@ -1,10 +1,8 @@
 use Rattle.std.proofs.Common.{◌≡◌, ◌<◌, Some, None, length, true, is_some, option_map, refl, sym, ap, ◌∙◌, ◌+◌, arith}
 use Rattle.std.proofs.lemmas.List.{length-map}
 use Rattle.std.proofs.lemmas.Option.{slice_get_read}
-use Rattle.meta_base.specs.declared.ids.NodeId.{NodeId}
 use Rattle.net_graph.specs.Nets.{arcs_to}
 use Rattle.net_graph.specs.Tables.{carrier}
-use Rattle.path_store.specs.PathOf.{path_of}
 use Rattle.best_first.specs.declared.route.OpenPlace.{OpenPlace}
 use Rattle.best_first.specs.Found.{found-map, found_at}
 use Rattle.best_first.specs.State.{CanSpeak, relaxed}
@@ -24,9 +22,9 @@ is_fixed-requires g c =
     let listener = c.listener-item.result in
     let m = c.loop-listener.listener-index in
     let read = slice_get_read listeners (length listeners) m listener refl c.loop-listener-test.true c.listener-item.is in
-    let by = heard_by (g.A.Algebra.stands_for c.args.algebra.now) c.args._net.now c.requires.net c.args.node.0 m listeners listener
-    (c.requires.labels.each c.args.node.0 listeners c.of-listener-items.ensures) read in
-    let within = listener_within (g.A.Algebra.stands_for c.args.algebra.now) c.args._net.now c.args.node.0 m listener by in
+    let by = heard_by (g.A.Algebra.stands_for c.args.algebra.now) c.args._net.now c.requires.net c.args.place.node.0 m listeners listener
+    (c.requires.labels.each c.args.place.node.0 listeners c.of-listener-items.ensures) read in
+    let within = listener_within (g.A.Algebra.stands_for c.args.algebra.now) c.args._net.now c.args.place.node.0 m listener by in
     let n = c.requires.rows in
     omega arith
 
@@ -36,9 +34,9 @@ offer_image-requires-clause-node g c =
     let listener = c.listener-item.result in
     let m = c.loop-listener.listener-index in
     let read = slice_get_read listeners (length listeners) m listener refl c.loop-listener-test.true c.listener-item.is in
-    let by = heard_by (g.A.Algebra.stands_for c.args.algebra.now) c.args._net.now c.requires.net c.args.node.0 m listeners listener
-    (c.requires.labels.each c.args.node.0 listeners c.of-listener-items.ensures) read in
-    let within = listener_within (g.A.Algebra.stands_for c.args.algebra.now) c.args._net.now c.args.node.0 m listener by in
+    let by = heard_by (g.A.Algebra.stands_for c.args.algebra.now) c.args._net.now c.requires.net c.args.place.node.0 m listeners listener
+    (c.requires.labels.each c.args.place.node.0 listeners c.of-listener-items.ensures) read in
+    let within = listener_within (g.A.Algebra.stands_for c.args.algebra.now) c.args._net.now c.args.place.node.0 m listener by in
     let n = c.loop-listener.invariant.count in
     omega arith
 
@@ -48,8 +46,8 @@ offer_image-requires-clause-lab g c =
     let listener = c.listener-item.result in
     let m = c.loop-listener.listener-index in
     let read = slice_get_read listeners (length listeners) m listener refl c.loop-listener-test.true c.listener-item.is in
-    let by = heard_by (g.A.Algebra.stands_for c.args.algebra.now) c.args._net.now c.requires.net c.args.node.0 m listeners listener
-    (c.requires.labels.each c.args.node.0 listeners c.of-listener-items.ensures) read in
+    let by = heard_by (g.A.Algebra.stands_for c.args.algebra.now) c.args._net.now c.requires.net c.args.place.node.0 m listeners listener
+    (c.requires.labels.each c.args.place.node.0 listeners c.of-listener-items.ensures) read in
     (by.arc.label, by.is_listener.label)
 
 pub offer_image-requires-clause-small : goal.offer_image-requires-clause-small
@@ -57,8 +55,8 @@ offer_image-requires-clause-small g c =
     let value = g.A.Algebra.sig_value c.args.algebra.now in
     let rows = c.args.fixed.now.rows in
     let paths = c.args.fixed.now.paths in
-    let reported : reported_by value paths rows c.args.node.0 ≡ Some (fixed_route value paths (lent_fixed c.in-Some.next)) = found-map (fixed_route value paths) rows c.args.node.0 ∙ ap (option_map (fixed_route value paths)) (sym (rw c.in-Some.is at c.route.ensures)) in
-    let can : CanSpeak c.args._net.now c.args.node.0 (fixed_route value paths (lent_fixed c.in-Some.next)) = rw reported at c.requires.next in
+    let reported : reported_by value paths rows c.args.place.node.0 ≡ Some (fixed_route value paths (lent_fixed c.in-Some.next)) = found-map (fixed_route value paths) rows c.args.place.node.0 ∙ ap (option_map (fixed_route value paths)) (sym (rw c.in-Some.is at c.route.ensures)) in
+    let can : CanSpeak c.args._net.now c.args.place.node.0 (fixed_route value paths (lent_fixed c.in-Some.next)) = rw reported at c.requires.next in
     can.small
 
 pub offer_image-requires-clause-ranked : goal.offer_image-requires-clause-ranked
@@ -69,7 +67,7 @@ offer_image-requires-clause-ranked g c =
 pub loop-listener-preserved : goal.loop-listener-preserved
 loop-listener-preserved g c =
     let net = c.args._net.now in
-    let node = c.args.node.0 in
+    let node = c.args.place.node.0 in
     let value = g.A.Algebra.sig_value c.args.algebra.now in
     let rows = c.args.fixed.now.rows in
     let paths = c.args.fixed.now.paths in
@@ -93,8 +91,8 @@ loop-listener-preserved g c =
     elim c.if-not-is_fixed.branch [
       | then-not-is_fixed+in_ok-offer_image w ↦
           let none : reported_by value paths rows tail ≡ None = row ∙ mapped_none (fixed_route value paths) (found_at rows tail) (sym is ∙ grind (arith, w.if-not-is_fixed.true)) in
-          let place : OpenPlace = record { size = length c.path.result.now + 1; node = listener.node; next = c.args.node } in
-          let size : length c.path.result.now + 1 ≡ length r.path + 1 = rw (c.path.ensures, c.paths.ensures) (let l = length-map (path_of paths c.in-Some.next.path) (λ (n : NodeId). n.0) in omega arith) in
+          let place : OpenPlace = record { size = c.args.place.size + 1; node = listener.node; next = c.args.place.node } in
+          let size : c.args.place.size + 1 ≡ length r.path + 1 = (let s : c.args.place.size ≡ length r.path = rw reported at c.requires.size in ap (λ n. n + 1) s) in
           let offered = rw c.requires.algebra at (w.in_ok-offer_image.ensures.offered arc.label by.is_listener.label) in
           let new_best = w.offer_image.new.search.best.items in
           let new_t = w.offer_image.new.search.standing in
@@ -126,7 +124,7 @@ loop-listener-preserved g c =
 pub returns-clause-routes : goal.returns-clause-routes
 returns-clause-routes g c = λ k.
     let net = c.args._net.now in
-    let node = c.args.node.0 in
+    let node = c.args.place.node.0 in
     let value = g.A.Algebra.sig_value c.args.algebra.now in
     let rows = c.args.fixed.now.rows in
     let paths = c.args.fixed.now.paths in

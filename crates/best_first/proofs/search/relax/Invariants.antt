@@ -17,5 +17,5 @@ invariant-loop-listener g l =
     record {
       count : vec_len l.search.best ≡ length l._net.nodes;
       queue : IsOpen value (g.A.Algebra.is_sig l.algebra) (carrier l._net) reported l.search.best.items l.search.standing;
-      found : (k : ℕ) → found_at (open_routes value paths rows l.search.best.items) k ≡ relaxed (carrier l._net) (reported k) (found_at (open_routes value paths rows l.fn.search.best.items) k) (spoken_so_far l._net l.fn.node.0 (reported l.fn.node.0) l.listener-index k);
+      found : (k : ℕ) → found_at (open_routes value paths rows l.search.best.items) k ≡ relaxed (carrier l._net) (reported k) (found_at (open_routes value paths rows l.fn.search.best.items) k) (spoken_so_far l._net l.fn.place.node.0 (reported l.fn.place.node.0) l.listener-index k);
     }

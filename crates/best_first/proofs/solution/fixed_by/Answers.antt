@@ -43,8 +43,8 @@ relax-requires-clause-node g c =
     let new_rows = c.fix_next.new.fixed.rows in
     let new_paths = c.fix_next.new.fixed.paths in
     let taken = c.fix_next.new.search.best.items in
-    let node = c.in-Some.node.0 in
-    let fixes = rw (c.in-Some.is, c.requires.algebra) at c.in_ok-node.ensures.next in
+    let node = c.in-Some.place.node.0 in
+    let fixes = rw (c.in-Some.is, c.requires.algebra) at c.in_ok-place.ensures.next in
     node_in value net dest rows new_rows paths new_paths best taken node is_net st fixes
 
 pub relax-requires-clause-next : goal.relax-requires-clause-next
@@ -60,12 +60,15 @@ relax-requires-clause-next g c =
     let new_rows = c.fix_next.new.fixed.rows in
     let new_paths = c.fix_next.new.fixed.paths in
     let taken = c.fix_next.new.search.best.items in
-    let node = c.in-Some.node.0 in
-    let fixes = rw (c.in-Some.is, c.requires.algebra) at c.in_ok-node.ensures.next in
+    let node = c.in-Some.place.node.0 in
+    let fixes = rw (c.in-Some.is, c.requires.algebra) at c.in_ok-place.ensures.next in
     rw (reported_next value net dest rows new_rows paths new_paths best taken node is_net st fixes) (speaks value net dest rows new_rows paths new_paths best taken node is_net st fixes)
 
+pub relax-requires-clause-size : goal.relax-requires-clause-size
+relax-requires-clause-size g c = rw c.in-Some.is at c.in_ok-place.ensures.size
+
 pub relax-requires-clause-queue : goal.relax-requires-clause-queue
-relax-requires-clause-queue g c = rw (c.in-Some.is, c.requires.algebra) at c.in_ok-node.ensures.queue
+relax-requires-clause-queue g c = rw (c.in-Some.is, c.requires.algebra) at c.in_ok-place.ensures.queue
 
 pub loop-fixed-preserved : goal.loop-fixed-preserved
 loop-fixed-preserved g c =
@@ -80,15 +83,15 @@ loop-fixed-preserved g c =
     let new_rows = c.fix_next.new.fixed.rows in
     let new_paths = c.fix_next.new.fixed.paths in
     let taken = c.fix_next.new.search.best.items in
-    let node = c.in-Some.node.0 in
-    let fixes = rw (c.in-Some.is, c.requires.algebra) at c.in_ok-node.ensures.next in
+    let node = c.in-Some.place.node.0 in
+    let fixes = rw (c.in-Some.is, c.requires.algebra) at c.in_ok-place.ensures.next in
     let next_best = c.relax.new.search.best.items in
-    let rows_count : length new_rows ≡ length net.nodes = let e = c.in_ok-node.ensures.rows in let f = c.loop-fixed.invariant.rows_count in omega arith in
+    let rows_count : length new_rows ≡ length net.nodes = let e = c.in_ok-place.ensures.rows in let f = c.loop-fixed.invariant.rows_count in omega arith in
     let best_count : length next_best ≡ length net.nodes = let e = c.in_ok-relax.ensures.count in omega arith in
     record {
-      rows_count = c.in_ok-node.ensures.rows ∙ c.loop-fixed.invariant.rows_count;
+      rows_count = c.in_ok-place.ensures.rows ∙ c.loop-fixed.invariant.rows_count;
       best_count = c.in_ok-relax.ensures.count;
-      fixed = rw c.in-Some.is at c.in_ok-node.ensures.fixed;
+      fixed = rw c.in-Some.is at c.in_ok-place.ensures.fixed;
       queue = c.in_ok-relax.ensures.queue;
       state = state_next value net dest rows new_rows paths new_paths best taken node is_net st fixes next_best rows_count best_count c.in_ok-relax.ensures.routes;
     }
@@ -101,7 +104,7 @@ returns-clause-fixed g c =
     let rows = c.loop-fixed.fixed.rows in
     let paths = c.loop-fixed.fixed.paths in
     let best = c.loop-fixed.search.best.items in
-    let done = rw c.in_default.is at c.in_ok-node.ensures.none in
+    let done = rw c.in_default.is at c.in_ok-place.ensures.none in
     rw (done.rows_same, done.paths_same) record {
       best_first = last_state net dest (fixed_routes value paths rows) (open_routes value paths rows best) c.node_count.ensures.net c.loop-fixed.invariant.state (nothing_found value (reported_by value paths rows) best done.none);
       fixed = c.loop-fixed.invariant.fixed;
@@ -110,4 +113,4 @@ returns-clause-fixed g c =
     }
 
 pub returns-clause-clear : goal.returns-clause-clear
-returns-clause-clear g c = rw (c.in_default.is, c.loop-fixed.invariant.best_count) at c.in_ok-node.ensures.clear
+returns-clause-clear g c = rw (c.in_default.is, c.loop-fixed.invariant.best_count) at c.in_ok-place.ensures.clear
