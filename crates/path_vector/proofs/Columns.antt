@@ -144,3 +144,25 @@ module _ {N M X : Type 0} (join : N → List (Option X) → M) where
   joined_set rows ns entries row place x n r count e =
       subst (λ z. joined join rows ns (set entries (row * length ns + z) x) ≡ set (joined join rows ns entries) place (join n (set (column rows (length ns) z entries) row x)))
       (zero-add place) (joined_from_set rows (length ns) 0 ns entries row place x n r (omega arith) count e)
+
+  -- a thing that is put at a place gets the column there
+  joined_from_put : (rows width k : ℕ) (ns : List N) (entries : List (Option X)) (place : ℕ) (n : N)
+      → joined_from join rows width k (set ns place n) entries ≡ set (joined_from join rows width k ns entries) place (join n (column rows width (k + place) entries))
+  joined_from_put rows width k [] entries place n = refl
+  joined_from_put rows width k (m ∷ ns) entries zero n =
+      let here : k + zero ≡ k = omega arith in
+      rw here refl
+  joined_from_put rows width k (m ∷ ns) entries (suc place) n =
+      let further : k + suc place ≡ suc k + place = omega arith in
+      rw further (ap (λ z. join m (column rows width k entries) ∷ z) (joined_from_put rows width (suc k) ns entries place n))
+
+  pub joined_put : (rows : ℕ) (ns : List N) (entries : List (Option X)) (place : ℕ) (n : N)
+      → joined join rows (set ns place n) entries ≡ set (joined join rows ns entries) place (join n (column rows (length ns) place entries))
+  joined_put rows ns entries place n =
+      ap (λ z. joined_from join rows z 0 (set ns place n) entries) (many ns place n) ∙ joined_from_put rows (length ns) 0 ns entries place n
+      ∙ ap (λ z. set (joined join rows ns entries) place (join n (column rows (length ns) z entries))) (zero-add place)
+    where
+      many : (xs : List N) (i : ℕ) (y : N) → length (set xs i y) ≡ length xs
+      many [] i y = refl
+      many (x ∷ xs) zero y = refl
+      many (x ∷ xs) (suc i) y = ap suc (many xs i y)

@@ -1,3 +1,4 @@
+pub mod Alike
 pub mod Beginnings
 pub mod Bounds
 pub mod Carrying
@@ -5,6 +6,7 @@ pub mod Choices
 pub mod Columns
 pub mod Hearings
 pub mod PathMarks
+pub mod Keepings
 pub mod Moving
 pub mod NodeRows
 pub mod Nodes

@@ -7,7 +7,7 @@ use Rattle.path_vector.specs.Known.{entry_of, HasHeard, Listened}
 use Rattle.path_vector.specs.declared.known.Known.{Known}
 use Rattle.path_vector.proofs.Hearings.{entry_set, set_length}
 
-get_set : {X : Type 0} (xs : List X) (k : ℕ) (y : X) → k < length xs → slice_get (set xs k y) k ≡ Some y
+pub get_set : {X : Type 0} (xs : List X) (k : ℕ) (y : X) → k < length xs → slice_get (set xs k y) k ≡ Some y
 get_set [] k y l = absurd (omega arith)
 get_set (x ∷ xs) zero y l = refl
 get_set (x ∷ xs) (suc k) y l = get_set xs k y (omega arith)

@@ -1,5 +1,5 @@
 -- The state of a node by its fields.
-use Rattle.std.proofs.Common.{◌≡◌, ℕ, ◌<◌, ◌==◌, List, [], ◌∷◌, Bool, true, false, ◌&&◌, cond, length, map, Option, Some, None, refl, sym, ap, subst, ◌∙◌}
+use Rattle.std.proofs.Common.{◌≡◌, ℕ, ◌<◌, ◌==◌, List, [], ◌∷◌, Bool, true, false, ◌&&◌, ◌||◌, cond, length, map, Option, Some, None, refl, sym, ap, subst, ◌∙◌}
 use Rattle.std.specs.Prelude.{option_map, option_and_then, slice_get, IfSome, OnErr, Result, Ok, Err}
 use Rattle.std.proofs.Math.ListN.{set}
 use Rattle.std.proofs.Math.Path.{fun_ext}
@@ -144,6 +144,15 @@ pub still_chosen : (net : PureNet) (i a : ℕ) (u : PureUpdate) (heard new : ℕ
 still_chosen net i a u heard new rows e chosen stays dest =
     sym (ap (λ f. f dest) (changed_to_itself rows u.dest)) ∙ chosen_after net i a u heard new rows (rows u.dest) e chosen (sym stays) dest
 
+-- a node that is begun or settled has chosen
+pub either_first : (b c : Bool) → b ≡ true → (b || c) ≡ true
+either_first true c e = refl
+either_first false c e = absurd (cc)
+
+pub either_second : (b c : Bool) → c ≡ true → (b || c) ≡ true
+either_second true c e = refl
+either_second false c e = e
+
 -- ---- states by fields
 
 abbrev pub state_with : PureNet → Option PureNet → ℕ → Bool → (ℕ → ℕ → Option PureRoute) → (ℕ → Option PureRoute) → ℕ → PvState
@@ -206,6 +215,15 @@ module _ {L S : Type 0} (value : S → PureValue) where
   begun_is net before number begun ns rows new last e =
       state_is net before number true ns new 0 ∙ ap (λ r. state_with net before number true (heard_by value ns) r 0) e
       ∙ ap (λ s. (Begin s).0) (sym (state_is net before number begun ns rows last))
+
+  -- rows are choices in the lists of a node where they are as routes, and the other way round
+  pub chosen_in_lists : (net : PureNet) (number : ℕ) (ns : List (Listened L S)) (rows : List (Option (Known S))) → ((dest : ℕ) → row_routes value rows dest ≡ choice net dest number (heard_by value ns))
+      → (dest : ℕ) → entry_of (row_list value rows) dest ≡ choice net dest number (heard_in (heard_lists value ns))
+  chosen_in_lists net number ns rows chosen dest = ap (λ f. f dest) (rows_are value rows) ∙ (chosen dest ∙ ap (choice net dest number) (sym (heard_is value ns)))
+
+  pub chosen_as_routes : (net : PureNet) (number : ℕ) (ns : List (Listened L S)) (rows : List (Option (Known S))) → ((dest : ℕ) → entry_of (row_list value rows) dest ≡ choice net dest number (heard_in (heard_lists value ns)))
+      → (dest : ℕ) → row_routes value rows dest ≡ choice net dest number (heard_by value ns)
+  chosen_as_routes net number ns rows chosen dest = ap (λ f. f dest) (sym (rows_are value rows)) ∙ (chosen dest ∙ ap (choice net dest number) (heard_is value ns))
 
   module _ (net : PureNet) (before : Option PureNet) (number : ℕ) (begun : Bool) (ns new : List (Listened L S)) (rows : List (Option (Known S))) (last : ℕ) (a : ℕ) (u : PureUpdate) (clock : ℕ)
       (heard : heard_by value new ≡ heard_with (heard_by value ns) a u)

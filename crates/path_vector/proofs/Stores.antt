@@ -2,13 +2,14 @@
 use Rattle.std.proofs.Common.{◌≡◌, ℕ, suc, ◌+◌, ◌*◌, ◌<◌, ◌^◌, List, [], ◌∷◌, length, slice_get, Option, Some, None, refl, sym, ap, subst, ◌∙◌, arith}
 use Rattle.std.specs.Prelude.{Vec, vec_len}
 use Rattle.std.proofs.Math.ListN.{get_or, set}
-use Rattle.std.proofs.lemmas.Option.{slice_get_within}
+use Rattle.std.proofs.lemmas.Option.{get_or_from_slice_get, slice_get_within}
+use Rattle.meta_base.specs.declared.ids.ArcId.{ArcId}
 use Rattle.path_vector.specs.Columns.{column, joined_from, listened, listened_to, AreSilent, HasEntry}
 use Rattle.path_vector.specs.Known.{entry_of, HasHeard, Listened}
 use Rattle.path_vector.specs.declared.known.Known.{Known}
 use Rattle.path_vector.specs.declared.neighbour.Neighbour.{Neighbour}
 use Rattle.path_vector.proofs.Choices.{entry_is}
-use Rattle.path_vector.proofs.Columns.{column_entry, column_length, column_none, joined_from_at, joined_set, place_within}
+use Rattle.path_vector.proofs.Columns.{column_entry, column_length, column_none, joined_from_at, joined_put, joined_set, place_within}
 
 -- a place in a vector, by the beginning of its row
 pub record IsPlaceIn (len row place : ℕ) : Type 0 where
@@ -67,3 +68,14 @@ nothing_heard dests width place (n ∷ ns) routes none = (
   record { arc = refl; label = refl; count = column_length dests width place routes; none = column_none dests width place routes none },
   nothing_heard dests width (suc place) ns routes none,
 )
+
+-- a neighbour that is put at another arc has heard what it heard
+pub put_heard : {L S : Type 0} (dests : ℕ) (ns : List (Neighbour L)) (routes : List (Option (Known S))) (place : ℕ) (x : Neighbour L) (arc : ArcId) → x ≡ get_or ns place x
+    → (n : Listened L S) → slice_get (listened dests ns routes) place ≡ Some n → listened dests (set ns place (record { arc = arc; label = x.label })) routes ≡ set (listened dests ns routes) place (record n { arc = arc })
+put_heard {L} {S} dests ns routes place x arc is n e =
+    let there = joined_from_at listened_to dests ns routes place n e in
+    let same : x ≡ there.0 = is ∙ get_or_from_slice_get ns place there.0 x there.1 in
+    let now : Neighbour L = record { arc = arc; label = x.label } in
+    let label : x.label ≡ n.label = ap (λ (z : Neighbour L). z.label) same ∙ ap (λ (z : Listened L S). z.label) (sym there.2) in
+    let heard : column dests (length ns) place routes ≡ n.heard = ap (λ (z : Listened L S). z.heard) (sym there.2) in
+    joined_put listened_to dests ns routes place now ∙ ap (set (listened dests ns routes) place) (rw (label, heard) refl)

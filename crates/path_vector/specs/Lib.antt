@@ -1,3 +1,4 @@
+pub mod Alike
 pub mod Beginning
 pub mod Changes
 pub mod Choosing
@@ -5,6 +6,7 @@ pub mod Coherent
 pub mod Columns
 pub mod Delivering
 pub mod Items
+pub mod Keeping
 pub mod Known
 pub mod Lawful
 pub mod Laws

@@ -43,13 +43,14 @@ row_list value rows = map (option_map (known_route value)) rows
 abbrev pub heard_lists : {L S : Type 0} → (S → PureValue) → List (Listened L S) → List (ℕ × List (Option PureRoute))
 heard_lists value neighbours = map (λ (n : Listened _ _). (n.arc.0, row_list value n.heard)) neighbours
 
--- a node of a network that keeps its rules, over the network's algebra; once it is begun, its rows are its choices
-pub record IsNodeOf {L S : Type 0} (stands_for : L → PureLabel → Type 0) (is_sig : S → Type 0) (value : S → PureValue) (expression : Expression) (net : PureNet) (number : ℕ) (is_begun : Bool)
+-- a node of a network that keeps its rules, over the network's algebra; where it is said to have chosen, its rows are
+-- its choices
+pub record IsNodeOf {L S : Type 0} (stands_for : L → PureLabel → Type 0) (is_sig : S → Type 0) (value : S → PureValue) (expression : Expression) (net : PureNet) (number : ℕ) (has_chosen : Bool)
     (own : List (Option S)) (ns : List (Listened L S)) (rows : List (Option (Known S))) : Type 0 where
   pub algebra : expression ≡ net.alg.expression
   pub is_net : IsNet net
   pub kept : IsKept stands_for is_sig value net number own ns rows
-  pub chosen : is_begun ≡ true → (dest : ℕ) → row_routes value rows dest ≡ choice net dest number (heard_by value ns)
+  pub chosen : has_chosen ≡ true → (dest : ℕ) → row_routes value rows dest ≡ choice net dest number (heard_by value ns)
 
 abbrev pub coded_route : Coded PureRoute
 coded_route =

@@ -1,11 +1,12 @@
 // What a node heard of its neighbours last.
 ghost use Rattle.std.specs.Prelude.{◌≡◌, ◌*◌, ◌<◌, ◌^◌, ℕ, None, Some, IfOk, length, slice_get};
+ghost use Rattle.std.proofs.Math.ListN.{set};
 ghost use Rattle.path_vector.specs.Known.{entry_of, HasHeard, Listened};
 ghost use Rattle.path_vector.specs.Columns.{AreSilent, HasEntry};
 
 use crate::known::Known;
 use crate::neighbour::Neighbour;
-use meta_base::NoMemory;
+use meta_base::{ArcId, NoMemory};
 use std::alloc::Global;
 use std::marker::Model;
 use std::mem::replace;
@@ -79,6 +80,15 @@ impl<L, S> Heard<L, S> {
             (result.now.arc ≡ n.arc) × (result.now.label ≡ n.label) }
     {
         &self.neighbours[place]
+    }
+
+    // Puts the neighbour at a place at another arc.
+    pub(crate) fn put_at(&mut self, place: usize, arc: ArcId)
+        requires { place < length self.old }
+        ensures { (n : Listened L S) → slice_get self.old place ≡ Some n →
+            self.new ≡ set self.old place (record n { arc = arc }) }
+    {
+        self.neighbours[place].arc = arc;
     }
 
     // What the neighbour at a place was heard to say of a destination last.

@@ -1,13 +1,15 @@
 // The neighbours of a node that begins.
-ghost use Rattle.std.specs.Prelude.{◌≡◌, ◌<◌, ℕ, None, Some, IfOk, length, slice_get};
+ghost use Rattle.std.specs.Prelude.{◌≡◌, ◌<◌, ℕ, None, Some, IfOk, length, slice_get, true};
 ghost use Rattle.std.proofs.Math.ListN.{set};
 ghost use Rattle.net_graph.specs.Nets.{IsNet, arcs_from};
+ghost use Rattle.path_vector.specs.Alike.{AreAlike};
 ghost use Rattle.path_vector.specs.Columns.{HasEntries};
 ghost use Rattle.path_vector.specs.Known.{heard_by, AreNeighbours, Listened};
 ghost use Rattle.path_vector.specs.Node.{heard_before};
 
 use crate::heard::Heard;
 use crate::neighbour::Neighbour;
+use crate::same_arcs::renewed;
 use alg_model::Algebra;
 use meta_base::{NoMemory, NodeId};
 use net_graph::Net;
@@ -94,4 +96,34 @@ pub(crate) fn carried_neighbours<A: Algebra>(
         }
     }
     Ok(neighbours)
+}
+
+// The neighbours of a node on a changed network, which heard what they heard before. Where the node's arcs are alike in
+// both networks the neighbours stay, and only the arcs' numbers are new.
+pub(crate) fn kept_neighbours<A: Algebra>(
+    alloc: Global,
+    algebra: &A,
+    before: &Net,
+    net: &Net,
+    node: NodeId,
+    are_alike: bool,
+    old: Heard<A::Lab, A::Sig>,
+) -> Result<Heard<A::Lab, A::Sig>, NoMemory>
+    requires algebra { A.expression algebra.now ≡ net.now.alg.expression }
+    requires node { node.0 < length net.now.nodes }
+    requires before { IsNet before.now }
+    requires net { net.now ≡ record before.now { arcs = net.now.arcs } }
+    requires alike { are_alike ≡ true → AreAlike (arcs_from before.now node.0) (arcs_from net.now node.0) }
+    requires old { AreNeighbours (A.stands_for algebra.now) (A.is_sig algebra.now)
+        (A.sig_value algebra.now) before.now (arcs_from before.now node.0) old }
+    ensures net { IsNet net.now }
+    ensures neighbours { IfOk result (λ ns. AreNeighbours (A.stands_for algebra.now) (A.is_sig algebra.now)
+        (A.sig_value algebra.now) net.now (arcs_from net.now node.0) ns) }
+    ensures heard { let value = A.sig_value algebra.now in IfOk result (λ ns.
+        heard_by value ns ≡ heard_before before.now net.now (heard_by value old)) }
+{
+    if are_alike {
+        return Ok(renewed(net, node, old));
+    }
+    carried_neighbours(alloc, algebra, before, net, node, old)
 }

@@ -1,10 +1,10 @@
-ghost use Rattle.std.specs.Prelude.{◌≡◌, ◌<◌, ◌≤◌, [], Some, true, IfOk, OnErr, OnOk, length, map, slice_get};
+ghost use Rattle.std.specs.Prelude.{◌≡◌, ◌<◌, ◌≤◌, ℕ, [], Some, true, IfOk, OnErr, OnOk, length, map, slice_get};
 ghost use Rattle.std.proofs.Math.ListN.{set};
 ghost use Rattle.net_graph.specs.declared.limits.TheConstants.{MOST_DESTS};
 ghost use Rattle.net_graph.specs.Nets.{PureArc};
 ghost use Rattle.net_graph.specs.Views.{pure_row};
 ghost use Rattle.path_vector.specs.Lawful.{path_vector_is_lawful};
-ghost use Rattle.path_vector.specs.Node.{PureUpdate, PvState, carried, new_node, path_vector, taken};
+ghost use Rattle.path_vector.specs.Node.{Begin, PureUpdate, PvState, carried, choice, new_node, path_vector, taken};
 ghost use Rattle.path_vector.specs.Nodes.{state_of};
 ghost use Rattle.path_vector.specs.Updates.{noted, pure_update};
 ghost use Rattle.path_vector.specs.Words.{fits_on};
@@ -13,9 +13,11 @@ use crate::beginning::begun_rows;
 use crate::fitting::fits;
 use crate::heard::{Heard, no_entries};
 use crate::hearing::hear;
+use crate::keeping::news_of_kept;
 use crate::known::{Known, route_of};
-use crate::neighbours::{carried_neighbours, silent_neighbours};
+use crate::neighbours::{kept_neighbours, silent_neighbours};
 use crate::own::own_sigs;
+use crate::same_arcs::has_arcs_alike;
 use crate::site::{Arrival, Site};
 use crate::update::Update;
 use alg_model::Algebra;
@@ -37,6 +39,8 @@ pub struct PvNode<'a, A: Algebra> {
     before: Option<&'a Net>,
     number: NodeId,
     is_begun: bool,
+    // It was carried with the arcs that it routes by as they were, so its rows are its choices on its network already.
+    is_settled: bool,
     // The values of its own origins, its neighbours in the order of their arcs, and its rows, by destination.
     own: Vec<Option<A::Sig>>,
     neighbours: Heard<A::Lab, A::Sig>,
@@ -47,7 +51,7 @@ pub struct PvNode<'a, A: Algebra> {
 }
 
 impl<'a, A: Algebra> Model for PvNode<'a, A> {
-    ghost use Rattle.std.specs.Prelude.{option_map};
+    ghost use Rattle.std.specs.Prelude.{◌||◌, option_map};
     ghost use Rattle.path_vector.specs.Nodes.{PureNode, IsNodeOf, coded_node, heard_lists, row_list};
 
     ghost Value = { PureNode };
@@ -65,7 +69,7 @@ impl<'a, A: Algebra> Model for PvNode<'a, A> {
     } };
 
     ghost invariant = { λ n. IsNodeOf (A.stands_for n.algebra.now) (A.is_sig n.algebra.now)
-        (A.sig_value n.algebra.now) (A.expression n.algebra.now) n.net.now n.number.0 n.is_begun
+        (A.sig_value n.algebra.now) (A.expression n.algebra.now) n.net.now n.number.0 (n.is_begun || n.is_settled)
         n.own.items n.neighbours n.rows.items };
 }
 
@@ -88,6 +92,7 @@ impl<'a, A: Algebra> PvNode<'a, A> {
             before: None,
             number,
             is_begun: false,
+            is_settled: false,
             own: own_sigs(alloc, algebra, net, number)?,
             neighbours: silent_neighbours(alloc, algebra, net, number)?,
             rows: no_entries(alloc, net.dest_count())?,
@@ -97,19 +102,22 @@ impl<'a, A: Algebra> PvNode<'a, A> {
     }
 
     /// The node on a changed network, which differs in its arcs alone: it isn't begun, keeps its rows, and has heard
-    /// what it heard on the arcs that were there before. The old node is begun. It is refused for want of memory
-    /// alone, and then the old node is gone.
+    /// what it heard on the arcs that were there before. Where the arcs that it routes by are as they were it takes
+    /// no memory, and chooses no row when it begins. The old node is begun. It is refused for want of memory alone,
+    /// and then the old node is gone.
     pub fn carry(alloc: Global, old: PvNode<'a, A>, net: &'a Net) -> Result<PvNode<'a, A>, NoMemory>
         requires begun { old.is_begun ≡ true }
         requires net { net.now ≡ record old.net { arcs = net.now.arcs } }
         ensures { IfOk result (λ node. state_of node ≡ carried net.now (state_of old.entry)) }
     {
-        let neighbours = carried_neighbours(
+        let is_settled = has_arcs_alike(old.net, net, old.number);
+        let neighbours = kept_neighbours(
             alloc,
             old.algebra,
             old.net,
             net,
             old.number,
+            is_settled,
             old.neighbours,
         )?;
         Ok(PvNode {
@@ -118,6 +126,7 @@ impl<'a, A: Algebra> PvNode<'a, A> {
             before: Some(old.net),
             number: old.number,
             is_begun: false,
+            is_settled,
             own: old.own,
             neighbours,
             rows: old.rows,
@@ -149,6 +158,53 @@ impl<'a, A: Algebra> PvNode<'a, A> {
             dest,
             route,
         })
+    }
+
+    // Begins the node, whose rows are its choices: they stay.
+    fn begin_settled(&mut self, out: &mut Outgoing<Update>) -> Result<(), NoMemory>
+        requires out { out.old ≡ [] }
+        requires chosen { let state = state_of self.old in (dest : ℕ) →
+            state.rows dest ≡ choice state.net dest state.number state.heard }
+        ensures node { OnOk result (state_of self.new ≡ (Begin (state_of self.old)).0) }
+        ensures out { OnOk result (map noted out.new ≡ (Begin (state_of self.old)).1) }
+        ensures err { OnErr result ((state_of self.new ≡ state_of self.old) × (out.new ≡ [])) }
+    {
+        let site = Site {
+            algebra: self.algebra,
+            net: self.net,
+            node: self.number,
+        };
+        *out = news_of_kept(*self.rows.allocator(), &site, self.before, &self.rows)?;
+        self.is_begun = true;
+        self.last = 0;
+        Ok(())
+    }
+
+    // Begins the node by choosing each of its rows.
+    fn begin_choosing(&mut self, out: &mut Outgoing<Update>) -> Result<(), NoMemory>
+        requires out { out.old ≡ [] }
+        ensures node { OnOk result (state_of self.new ≡ (Begin (state_of self.old)).0) }
+        ensures out { OnOk result (map noted out.new ≡ (Begin (state_of self.old)).1) }
+        ensures err { OnErr result ((state_of self.new ≡ state_of self.old) × (out.new ≡ [])) }
+    {
+        let site = Site {
+            algebra: self.algebra,
+            net: self.net,
+            node: self.number,
+        };
+        let (rows, reported) = begun_rows(
+            *self.rows.allocator(),
+            &site,
+            self.before,
+            &self.own,
+            &self.neighbours,
+            &self.rows,
+        )?;
+        self.rows = rows;
+        self.is_begun = true;
+        self.last = 0;
+        *out = reported;
+        Ok(())
     }
 
     // Takes an update that fits, and puts into `out`, which is empty, what the node tells then.
@@ -229,24 +285,10 @@ impl<'a, A: Algebra> NodeCore for PvNode<'a, A> {
     }
 
     fn on_start(&mut self, out: &mut Outgoing<Update>) -> Result<(), NoMemory> {
-        let site = Site {
-            algebra: self.algebra,
-            net: self.net,
-            node: self.number,
-        };
-        let (rows, reported) = begun_rows(
-            *self.rows.allocator(),
-            &site,
-            self.before,
-            &self.own,
-            &self.neighbours,
-            &self.rows,
-        )?;
-        self.rows = rows;
-        self.is_begun = true;
-        self.last = 0;
-        *out = reported;
-        Ok(())
+        if self.is_settled {
+            return self.begin_settled(out);
+        }
+        self.begin_choosing(out)
     }
 
     fn on_message(

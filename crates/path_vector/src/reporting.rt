@@ -38,7 +38,7 @@ fn report_all(alloc: Global, arcs: &[ArcId], update: Update) -> Result<Outgoing<
 }
 
 // Whether the node spoke on the arc in the network that it comes from, if it was carried.
-fn spoke_on(before: Option<&Net>, arc: &Arc<'_>) -> bool
+pub(crate) fn spoke_on(before: Option<&Net>, arc: &Arc<'_>) -> bool
     ensures { result ≡ spoken_in (option_map (λ n. n.now) before.entry) arc.now.tail.0 arc.now.head.0 }
 {
     match before {
