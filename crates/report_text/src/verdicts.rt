@@ -122,6 +122,9 @@ fn push_verdicts(
     }
 }
 
+// As many bytes as the lines of most verdicts have, so that they seldom grow.
+const USUAL_VERDICT: usize = 128;
+
 /// The line of the verdict on a property of an algebra or of labels of it: that it holds, or values at
 /// which it fails. It is refused for want of memory alone.
 pub fn verdict_line(
@@ -134,7 +137,7 @@ pub fn verdict_line(
     ensures { IfOk result (λ text.
         text ≡ verdict_text alg.now.expression (pure_property property) (pure_verdict verdict.now)) }
 {
-    let mut out = String::new(alloc);
+    let mut out = String::with_capacity(alloc, USUAL_VERDICT)?;
     push_verdict(alloc, &mut out, alg, property, verdict)?;
     Ok(Text::from_string(out))
 }
