@@ -9,6 +9,7 @@ ghost use Rattle.meta.specs.declared.WordsError.TheVariants.{NoMemory as NoMemor
 use host_io::{FileShelf, OutSink};
 use meta_base::{Failed, NoMemory, OpenGate, Shelf, Sink, Text, put_all};
 use metacli::{run_meta, status};
+use std::alloc::Global;
 use std::process::ExitCode;
 use std::rt::{Env, Files};
 use std::sync::Wait;
@@ -95,8 +96,20 @@ fn run<R: AllocGlobal + Threads + Wait + Sync, S: Shelf, K: Sink>(
     }
 }
 
+// As many bytes as most blocks have that are given back while the program works.
+const USUAL_BLOCK: usize = 1 << 20;
+
+// Has the system's allocator keep blocks that are given back for later requests. glibc hands those of 128 KiB and more
+// back to the system, until it has seen a larger one given back: then it keeps all up to that size, and memory that was
+// touched once need not be found again. The block isn't written to, so it takes no memory. Where there is none the
+// program does without.
+fn keep_blocks(alloc: Global) {
+    drop(Vec::<u8>::with_capacity(alloc, USUAL_BLOCK));
+}
+
 // The same with the words, the files and the standard output of the system.
 fn run_on_system<R: AllocGlobal + Env + Files + Print + Threads + Wait + Sync>(rt: &R) -> u8 {
+    keep_blocks(rt.alloc());
     let mut shelf = FileShelf::new(rt);
     match OutSink::new(rt.alloc(), rt) {
         Ok(mut out) => run(rt, read_args(rt), &mut shelf, &mut out),
