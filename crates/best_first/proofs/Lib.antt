@@ -10,7 +10,6 @@ pub mod Slots
 pub mod Offering
 pub mod Fixing
 pub mod Numbering
-pub mod Stepping
 pub mod Unique
 pub mod Sound
 pub mod Unbeaten

@@ -6,10 +6,11 @@ use Rattle.std.proofs.lemmas.List.{map-set}
 use Rattle.std.proofs.lemmas.Option.{slice_get_cases}
 use Rattle.std.proofs.Math.ListN.{set}
 use Rattle.meta_base.specs.declared.ids.NodeId.{NodeId}
-use Rattle.path_store.specs.declared.paths.PathId.{PathId}
+use Rattle.path_store.specs.declared.trails.PathId.{PathId}
+use Rattle.path_store.specs.PathOf.{path_by}
 use Rattle.best_first.specs.Found.{found_at, AllFound}
 use Rattle.best_first.specs.Fixed.{path_after}
-use Rattle.best_first.specs.Numbered.{PureFixedRoute, path_by, route_by, rows_by}
+use Rattle.best_first.specs.Numbered.{PureFixedRoute, route_by, rows_by}
 
 -- where no node is fixed there is no route
 pub rows_none : {S : Type 0} (sigs : List S) (n : ℕ) → rows_by sigs (replicate n None) ≡ replicate n None

@@ -1,6 +1,5 @@
 pub mod Found
 pub mod Numbered
-pub mod Trails
 pub mod Ranges
 pub mod Keys
 pub mod KeyOrder

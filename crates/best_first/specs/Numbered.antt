@@ -1,8 +1,7 @@
 -- How the routes of the nodes that are fixed are kept: values in the order of their paths.
-use Rattle.std.specs.Prelude.{◌≡◌, ◌<◌, List, [], Option, Some, None, map, option_map, option_and_then, length, slice_get}
+use Rattle.std.specs.Prelude.{◌≡◌, ◌<◌, List, Option, map, option_map, option_and_then, length, slice_get}
 use Rattle.meta_base.specs.declared.ids.NodeId.{NodeId}
-use Rattle.path_store.specs.PathOf.{path_of}
-use Rattle.path_store.specs.declared.paths.PathId.{PathId}
+use Rattle.path_store.specs.declared.trails.PathId.{PathId}
 use Rattle.best_first.specs.declared.fixed.FixedRoute.{FixedRoute}
 use Rattle.best_first.specs.Found.{AllFound}
 
@@ -23,11 +22,6 @@ lent_fixed f = record { sig = f.sig.now; path = f.path }
 -- the route that has this path, by the values of all routes
 abbrev pub route_by : {S : Type 0} → List S → PathId → Option (PureFixedRoute S)
 route_by sigs id = option_map (λ s. record { sig = s; path = id }) (slice_get sigs id.0)
-
--- the path of that number, if there is one
-abbrev pub path_by : List (List NodeId) → Option PathId → List NodeId
-path_by paths None = []
-path_by paths (Some id) = path_of paths id
 
 -- the route or none of each node, by the number of its path
 abbrev pub rows_by : {S : Type 0} → List S → List (Option PathId) → List (Option (PureFixedRoute S))

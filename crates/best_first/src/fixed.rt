@@ -6,9 +6,8 @@ ghost use Rattle.best_first.specs.Fixed.{path_after};
 ghost use Rattle.best_first.specs.Numbered.{lent_fixed};
 
 use crate::route::OpenRoute;
-use crate::trails::Trails;
 use meta_base::{NoMemory, NodeId};
-use path_store::PathId;
+use path_store::{PathId, Trails};
 use std::alloc::Global;
 use std::marker::Model;
 

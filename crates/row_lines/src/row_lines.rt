@@ -15,9 +15,9 @@ ghost use Rattle.word_text.specs.FormLaws.{prints_prop};
 ghost use Rattle.word_text.specs.PathNames.{after_space, between_spaces, name_text};
 
 use alg_model::{Carrier, Value, carrier_of};
-use best_first::Trail;
 use meta_base::{DestId, NoMemory, NodeId};
 use net_graph::{Net, RouteRow};
+use path_store::Trail;
 use sig_text::push_value;
 use std::alloc::Global;
 use word_tables::LentRow;

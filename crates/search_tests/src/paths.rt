@@ -2,29 +2,42 @@
 ghost use Rattle.std.specs.Prelude.{◌≡◌, []};
 
 use meta_base::{NoMemory, NodeId};
-use path_store::{PathId, Paths, before, compare};
+use path_store::{PathId, Trails, before, compare};
+use std::alloc::Global;
 use std::cmp::Ordering;
 use std::test::Fail;
 
-// Whether an empty store takes the path 3 1, and then 7 before it, and lends both.
-fn keeps_two_paths(mut store: Paths) -> Result<bool, NoMemory>
+// Whether an empty store takes the path 1, then 3 and 7 each before it, and then 0 alone and 4 before that, lends them,
+// and tells which of two comes first.
+fn keeps_five_paths(alloc: Global, mut store: Trails) -> Result<bool, NoMemory>
     requires { store ≡ [] }
 {
-    let short = store.add(&[NodeId(3), NodeId(1)])?;
-    let long = store.add_before(NodeId(7), short)?;
-    Ok(
-        short == PathId(0)
-            && long == PathId(1)
-            && store.len() == 2
-            && store.path(short) == [NodeId(3), NodeId(1)].as_slice()
-            && store.path(long) == [NodeId(7), NodeId(3), NodeId(1)].as_slice(),
-    )
+    let end = store.add(NodeId(1), None)?;
+    let low = store.add(NodeId(3), Some(end))?;
+    let high = store.add(NodeId(7), Some(end))?;
+    let other_end = store.add(NodeId(0), None)?;
+    let other = store.add(NodeId(3), Some(other_end))?;
+    let are_numbered = end == PathId(0) && low == PathId(1) && other == PathId(4);
+    let low_nodes = store.path(low).to_list(alloc)?;
+    let are_lent = low_nodes.as_slice() == [NodeId(3), NodeId(1)].as_slice()
+        && store.path(end).len() == 1
+        && store.path(high).len() == 2
+        && store.path(high).passes(NodeId(1))
+        && store.path(high).passes(NodeId(7))
+        && !store.path(high).passes(NodeId(3));
+    let are_in_order = store.compare(end, low) == Ordering::Less
+        && store.compare(low, end) == Ordering::Greater
+        && store.compare(low, high) == Ordering::Less
+        && store.compare(low, other) == Ordering::Greater
+        && store.compare(other_end, end) == Ordering::Less
+        && store.compare(low, low) == Ordering::Equal;
+    Ok(are_numbered && are_lent && are_in_order)
 }
 
 #[test]
 fn paths_are_kept(rt: HostRuntime) -> Result<(), Fail> {
-    let grows = keeps_two_paths(Paths::new(rt.alloc()))?;
-    let has_room = keeps_two_paths(Paths::with_room(rt.alloc(), 2, 5)?)?;
+    let grows = keeps_five_paths(rt.alloc(), Trails::new(rt.alloc()))?;
+    let has_room = keeps_five_paths(rt.alloc(), Trails::with_room(rt.alloc(), 5)?)?;
     assert!(rt; grows && has_room);
     Ok(())
 }

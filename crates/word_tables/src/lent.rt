@@ -1,7 +1,7 @@
 // Rows that a table lends.
-use best_first::Trail;
 use label_code::Word;
 use meta_base::{DestId, NodeId};
+use path_store::Trail;
 
 /// A route: the words of its value, and the path from the node itself to the origin.
 #[derive(Debug, Drop)]

@@ -1,7 +1,7 @@
 use Rattle.std.proofs.Common.{◌≡◌, ◌<◌, ◌++◌, ◌∷◌, [], length, ap, ◌∙◌, arith}
 use Rattle.std.specs.Option.{option_and_then}
 use Rattle.std.proofs.lemmas.List.{length-map}
-use Rattle.path_store.specs.declared.paths.PathId.{PathId}
+use Rattle.path_store.specs.declared.trails.PathId.{PathId}
 use Rattle.best_first.specs.Numbered.{route_by}
 use Rattle.best_first.proofs.Places.{found-read}
 use Rattle.best_first.proofs.Numbering.{path_at, rows_fixed}
