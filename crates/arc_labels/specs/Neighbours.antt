@@ -11,10 +11,11 @@ tail_of a = a.tail
 abbrev pub head_of : PureArc → ℕ
 head_of a = a.head
 
--- the node at that end of the arc, and what stands for the arc's label
-pub record IsNeighbour {L : Type 0} (stands_for : L → PureLabel → Type 0) (end_of : PureArc → ℕ) (arc : PureArc) (neighbour : Neighbour L) : Type 0 where
-  pub node : neighbour.node.0 ≡ end_of arc
-  pub label : stands_for neighbour.label.now arc.label
+-- the arc's number, the node at that end of it, and what stands for its label
+pub record IsNeighbour {L : Type 0} (stands_for : L → PureLabel → Type 0) (end_of : PureArc → ℕ) (a : PureArc) (neighbour : Neighbour L) : Type 0 where
+  pub arc : neighbour.arc.0 ≡ a.id
+  pub node : neighbour.node.0 ≡ end_of a
+  pub label : stands_for neighbour.label.now a.label
 
 -- there is one for each arc, in order
 pub record AreNeighbours {L : Type 0} (stands_for : L → PureLabel → Type 0) (end_of : PureArc → ℕ) (arcs : List PureArc) (neighbours : List (Neighbour L)) : Type 0 where

@@ -5,14 +5,15 @@ ghost use Rattle.net_graph.specs.Nets.{IsNet, arcs_from, arcs_to};
 
 use crate::LabelForms;
 use alg_model::Algebra;
-use meta_base::{List, NoMemory, NodeId};
+use meta_base::{ArcId, List, NoMemory, NodeId};
 use net_graph::Net;
 use std::alloc::Global;
 use std::marker::Model;
 
-/// A node at the other end of an arc, and the form of the arc's label.
+/// An arc, the node at its other end, and the form of its label.
 #[derive(Drop)]
 pub struct Neighbour<'f, L> {
+    pub arc: ArcId,
     pub node: NodeId,
     pub label: &'f L,
 }
@@ -96,6 +97,7 @@ fn listeners_of<'f, A: Algebra>(
     let mut listeners = Vec::with_capacity(alloc, ids.len())?;
     for id in ids {
         listeners.push(Neighbour {
+            arc: *id,
             node: net.arc(*id).tail,
             label: forms.form(*id),
         })?;
@@ -121,6 +123,7 @@ fn speakers_of<'f, A: Algebra>(
     for place in 0..arcs.count() {
         let arc = arcs.get(place);
         speakers.push(Neighbour {
+            arc: arc.id,
             node: arc.head,
             label: forms.form(arc.id),
         })?;

@@ -37,9 +37,9 @@ loop-id-preserved g c =
     let by = by_id net c.requires.net (λ (b : PureArc). b.head == c.args.node.0) ids m id c.listeners-ids.ensures (slice_get-get_or ids m record { 0 = 0 } c.loop-id-test.true) in
     let same : by.arc ≡ pure_arc c.arc.result = same_Some by.arc (pure_arc c.arc.result) (sym by.there ∙ c.arc.ensures.arc) in
     let place : m ≡ length done = let e = c.loop-id.invariant.count in omega arith in
-    let neighbour : Neighbour g.row.A-Lab.Denot = record { node = c.arc.result.tail; label = c.form.result } in
+    let neighbour : Neighbour g.row.A-Lab.Denot = record { arc = id; node = c.arc.result.tail; label = c.form.result } in
     let is : IsNeighbour stands_for tail_of by.arc neighbour =
-    record { node = ap (λ (a : PureArc). a.tail) (sym same); label = lent_stands stands_for c.args.forms.now id.0 by.arc.label (c.requires.forms id.0 by.arc by.there) c.form.result.now c.form.ensures } in
+    record { arc = sym by.number; node = ap (λ (a : PureArc). a.tail) (sym same); label = lent_stands stands_for c.args.forms.now id.0 by.arc.label (c.requires.forms id.0 by.arc by.there) c.form.result.now c.form.ensures } in
     record {
       count = omega (arith, c.in_ok-push.ensures.len, c.loop-id.invariant.count);
       each = rw c.in_ok-push.ensures.items (one_more stands_for tail_of arcs done neighbour by.arc (subst (λ x. slice_get arcs x ≡ Some by.arc) place by.at_place) is c.loop-id.invariant.each);

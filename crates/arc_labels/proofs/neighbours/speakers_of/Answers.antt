@@ -25,9 +25,9 @@ loop-place-preserved g c =
     let at_place = rw c.out_arcs-arcs.ensures.arcs at c.get-arc.ensures in
     let there = arc_there net c.requires.net (λ (b : PureArc). b.tail == c.args.node.0) c.loop-place.place arc at_place in
     let place : c.loop-place.place ≡ length done = let e = c.loop-place.invariant.count in omega arith in
-    let neighbour : Neighbour g.row.A-Lab.Denot = record { node = c.get-arc.result.head; label = c.form.result } in
+    let neighbour : Neighbour g.row.A-Lab.Denot = record { arc = c.get-arc.result.id; node = c.get-arc.result.head; label = c.form.result } in
     let is : IsNeighbour stands_for head_of arc neighbour =
-    record { node = refl; label = lent_stands stands_for c.args.forms.now arc.id arc.label (c.requires.forms arc.id arc there) c.form.result.now c.form.ensures } in
+    record { arc = refl; node = refl; label = lent_stands stands_for c.args.forms.now arc.id arc.label (c.requires.forms arc.id arc there) c.form.result.now c.form.ensures } in
     record {
       count = omega (arith, c.in_ok-push.ensures.len, c.loop-place.invariant.count);
       each = rw c.in_ok-push.ensures.items (one_more stands_for head_of arcs done neighbour arc (rw place at at_place) is c.loop-place.invariant.each);
