@@ -31,7 +31,7 @@ none_pass p [] none = refl
 none_pass p (a ∷ arcs) none = rw (none 0 a refl) (none_pass p arcs (λ k b e. none (suc k) b e))
 
 module _ (net : PureNet) (before : Option PureNet) (number : ℕ) where
-  -- of a row that isn't there nothing is told
+  -- of a row that isn't there nothing is reported
   pub no_row_told : (dest : ℕ) → kept_news net before number dest None ≡ []
   no_row_told dest = ap (λ z. reported_on z (record { dest = dest; route = None; stamp = 0 }))
       (none_pass (λ (a : PureArc). cond (spoken_in before a.tail a.head) false false) (arcs_to net number) (λ k a e. either (spoken_in before a.tail a.head)))

@@ -208,7 +208,8 @@ module _ (net : PureNet) (n : IsNet net) (nodes : List PvState) (m : MayBegin ne
       (choice_moves net dest i (reported_by net i (λ b. s.heard b dest)) (heard_of s dest) (λ j a g. sym (heard_of_is net s i dest j f.0 f.1)) (best_of (carrier net) (offers_to net dest i (λ b. s.heard b dest)))
       (choice_is net n dest i (λ b. s.heard b dest) (λ a r item tail h. (may_be_parts net a.head r (item_known i dest s e a r item tail h).1).value_in)))
 
-  link_is : (a : PureArc) (t : PvState) → slice_get net.arcs a.id ≡ Some a → slice_get nodes a.head ≡ Some t → on_arc a.id (begun_messages path_vector nodes) ≡ news_on t a (range_with_len 0 (length net.dests))
+  -- what stands on an arc is its speaker's news
+  pub link_is : (a : PureArc) (t : PvState) → slice_get net.arcs a.id ≡ Some a → slice_get nodes a.head ≡ Some t → on_arc a.id (begun_messages path_vector nodes) ≡ news_on t a (range_with_len 0 (length net.dests))
   link_is a t stands e =
       let f = m.fresh a.head t e in
       let number : t.number ≡ a.head = f.1 in
