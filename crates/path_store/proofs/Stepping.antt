@@ -9,7 +9,7 @@ use Rattle.meta_base.specs.declared.ids.NodeId.{NodeId}
 use Rattle.path_store.specs.PathOf.{path_of, path_by}
 use Rattle.path_store.specs.declared.trails.PathId.{PathId}
 use Rattle.path_store.specs.declared.trails.Step.{Step}
-use Rattle.path_store.specs.Trails.{AreSteps, IsStep, path_along, paths_after}
+use Rattle.path_store.specs.Trails.{AreSteps, IsStep, marks_of, path_along, paths_after}
 
 -- there is a path for each step
 pub count_after : (paths : List (List NodeId)) (steps : List Step) → length (paths_after paths steps) ≡ length paths + length steps
@@ -44,12 +44,13 @@ pub record IsStepOf (paths : List (List NodeId)) (id : PathId) (s : Step) : Type
   pub path : path_of paths id ≡ path_along paths s
   pub rest : IfSome s.rest (λ rest. rest.0 < id.0)
   pub after : s.after ≡ length (path_by paths s.rest)
+  pub marks : s.marks ≡ marks_of (path_of paths id)
 
 -- the path of a step is there, and its rest before it
 pub step_there : (paths : List (List NodeId)) (steps : List Step) (k : ℕ) (id : PathId) (s : Step) → AreSteps paths steps → slice_get steps k ≡ Some s → id.0 ≡ length paths + k
     → IsStepOf (paths_after paths steps) id s
 step_there paths [] k id s h e is = absurd (cc)
-step_there paths (t ∷ steps) zero id s h e is = subst (IsStepOf (paths_after paths (t ∷ steps)) id) same record { path = path; rest = by t.rest h.0.rest; after = h.0.after ∙ ap length (sym stays) }
+step_there paths (t ∷ steps) zero id s h e is = subst (IsStepOf (paths_after paths (t ∷ steps)) id) same record { path = path; rest = by t.rest h.0.rest; after = h.0.after ∙ ap length (sym stays); marks = h.0.marks ∙ ap marks_of (sym (path ∙ along)) }
   where
     same : t ≡ s
     same = cc
@@ -67,6 +68,9 @@ step_there paths (t ∷ steps) zero id s h e is = subst (IsStepOf (paths_after p
         path_stays now steps id within
         ∙ (ap (λ n. slice_index_or now n []) place ∙ get_or-append_seam paths (path_along paths t) [] [])
         ∙ ap (λ rest. t.node ∷ rest) (sym stays)
+
+    along : path_along (paths_after paths (t ∷ steps)) t ≡ path_along paths t
+    along = ap (λ rest. t.node ∷ rest) stays
 
     by : (o : Option PathId) → IfSome o (λ rest. rest.0 < length paths) → IfSome o (λ rest. rest.0 < id.0)
     by None l = tt

@@ -1,8 +1,8 @@
-ghost use Rattle.std.specs.Prelude.{◌≡◌, ◌==◌, ◌+◌, ◌<◌, ◌≤◌, ◌∷◌, ◌++◌, [], length, IfOk, IfSome, OnErr, OnOk};
+ghost use Rattle.std.specs.Prelude.{◌≡◌, ◌==◌, ◌+◌, ◌<◌, ◌≤◌, ◌∷◌, ◌++◌, List, [], length, IfOk, IfSome, OnErr, OnOk};
 ghost use Rattle.std.specs.List.{list_any};
 ghost use Rattle.meta_base.specs.NodePaths.{numbers, compare_nodes, compare_paths};
 ghost use Rattle.path_store.specs.PathOf.{HasNumber, path_of, path_by};
-ghost use Rattle.path_store.specs.Trails.{path_along, path_or_end};
+ghost use Rattle.path_store.specs.Trails.{marks_of, path_along, path_or_end};
 
 use meta_base::{List, NoMemory, NodeId};
 use std::alloc::Global;
@@ -14,12 +14,14 @@ use std::marker::Model;
 #[derive(Clone, Copy, Debug, PartialEq, Eq)]
 pub struct PathId(pub u32);
 
-// The first node of a path, how many nodes come after it, and the earlier path that goes on from there, if one does.
-// Those after it are counted, since a path of all 2^32 numbers would have a node more than the count has room for.
+// The first node of a path, how many nodes come after it, the marks of all its nodes, and the earlier path that goes on
+// from there, if one does. Those after it are counted, since a path of all 2^32 numbers would have a node more than the
+// count has room for. The mark of a node is the bit of its number modulo 64, which it shares with other nodes.
 #[derive(Clone, Copy, Debug)]
 pub(crate) struct Step {
     node: NodeId,
     after: u32,
+    marks: u64,
     rest: Option<PathId>,
 }
 
@@ -71,10 +73,24 @@ impl Trails {
         ensures id { IfOk result (λ id. id.0 ≡ length self.old) }
         ensures err { OnErr result (self.new ≡ self.old) }
     {
-        let after = self.count(rest);
+        let after = self.nodes_after(rest);
+        let marks = self.marks_after(rest) | (1u64 << (node.0 % 64));
         let id = PathId(self.steps.len() as u32);
-        self.steps.push(Step { node, after, rest })?;
+        self.steps.push(Step {
+            node,
+            after,
+            marks,
+            rest,
+        })?;
         Ok(id)
+    }
+
+    /// How many paths there are.
+    #[inline(always)]
+    pub fn count(&self) -> usize
+        ensures { result ≡ length self.now }
+    {
+        self.steps.len()
     }
 
     /// Lends the path of that number.
@@ -84,6 +100,55 @@ impl Trails {
         ensures { result ≡ path_of self.now id }
     {
         Trail { trails: self, id }
+    }
+
+    /// The first node of the path of that number.
+    #[inline(always)]
+    pub fn first(&self, id: PathId) -> NodeId
+        requires { id.0 < length self.now }
+        ensures { (rest : List NodeId) × (path_of self.now id ≡ result ∷ rest) }
+    {
+        self.step(id).node
+    }
+
+    /// The number of what lies after the first node of the path, if it goes on.
+    #[inline(always)]
+    pub fn rest(&self, id: PathId) -> Option<PathId>
+        requires { id.0 < length self.now }
+        ensures within { IfSome result (λ rest. rest.0 < id.0) }
+        ensures path { (node : NodeId) × (path_of self.now id ≡ node ∷ path_by self.now result) }
+    {
+        self.step(id).rest
+    }
+
+    /// Whether the path of that number passes the node. Where no node of the path has its number modulo 64, the path
+    /// isn't walked.
+    #[inline(always)]
+    pub fn passes(&self, id: PathId, node: NodeId) -> bool
+        requires { id.0 < length self.now }
+        ensures { result ≡ list_any (λ n. n.0 == node.0) (path_of self.now id) }
+    {
+        if (self.step(id).marks >> (node.0 % 64)) & 1 == 0 {
+            return false;
+        }
+        self.passes_by_walk(id, node)
+    }
+
+    // The same, by a walk along the path.
+    #[inline(never)]
+    fn passes_by_walk(&self, id: PathId, node: NodeId) -> bool
+        requires { id.0 < length self.now }
+        ensures { result ≡ list_any (λ n. n.0 == node.0) (path_of self.now id) }
+    {
+        let mut left = Some(id);
+        while let Some(path) = left {
+            let step = self.step(path);
+            if step.node.0 == node.0 {
+                return true;
+            }
+            left = step.rest;
+        }
+        false
     }
 
     /// Which of two paths of the store comes first, `Less` for the first: the shorter one, and of two of one length the
@@ -139,19 +204,32 @@ impl Trails {
         ensures after { length (path_of self.now id) ≡ result.after + 1 }
         ensures more { IfSome result.rest (λ rest. 0 < result.after) }
         ensures small { result.after ≤ id.0 }
+        ensures marks { result.marks ≡ marks_of (path_of self.now id) }
     {
         self.steps[id.0 as usize]
     }
 
     // How many nodes the path of that number has, if there is one.
     #[inline(always)]
-    fn count(&self, rest: Option<PathId>) -> u32
+    fn nodes_after(&self, rest: Option<PathId>) -> u32
         requires few { HasNumber (length self.now) }
         requires rest { IfSome rest (λ id. id.0 < length self.now) }
         ensures { result ≡ length (path_by self.now rest) }
     {
         match rest {
             Some(id) => self.step(id).after + 1,
+            None => 0,
+        }
+    }
+
+    // The marks of the nodes of the path of that number, if there is one.
+    #[inline(always)]
+    fn marks_after(&self, rest: Option<PathId>) -> u64
+        requires { IfSome rest (λ id. id.0 < length self.now) }
+        ensures { result ≡ marks_of (path_by self.now rest) }
+    {
+        match rest {
+            Some(id) => self.step(id).marks,
             None => 0,
         }
     }
@@ -197,21 +275,6 @@ impl<'t> Trail<'t> {
             None => None,
         };
         (step.node, rest)
-    }
-
-    /// Whether the path passes the node.
-    pub fn passes(self, node: NodeId) -> bool
-        ensures { result ≡ list_any (λ n. n.0 == node.0) self.entry }
-    {
-        let mut rest = Some(self);
-        while let Some(path) = rest {
-            let (passed, after) = path.split();
-            if passed.0 == node.0 {
-                return true;
-            }
-            rest = after;
-        }
-        false
     }
 
     /// A list of the path's nodes, in order. It is refused for want of memory alone.

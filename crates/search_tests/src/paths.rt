@@ -1,4 +1,4 @@
-// Tests of `path_store`: that a path is found as it was added, and which of two comes first.
+// Tests of `path_store`: that a path is found as it was added, which nodes it passes, and which of two comes first.
 ghost use Rattle.std.specs.Prelude.{◌≡◌, []};
 
 use meta_base::{NoMemory, NodeId};
@@ -21,10 +21,7 @@ fn keeps_five_paths(alloc: Global, mut store: Trails) -> Result<bool, NoMemory>
     let low_nodes = store.path(low).to_list(alloc)?;
     let are_lent = low_nodes.as_slice() == [NodeId(3), NodeId(1)].as_slice()
         && store.path(end).len() == 1
-        && store.path(high).len() == 2
-        && store.path(high).passes(NodeId(1))
-        && store.path(high).passes(NodeId(7))
-        && !store.path(high).passes(NodeId(3));
+        && store.path(high).len() == 2;
     let are_in_order = store.compare(end, low) == Ordering::Less
         && store.compare(low, end) == Ordering::Greater
         && store.compare(low, high) == Ordering::Less
@@ -39,6 +36,29 @@ fn paths_are_kept(rt: HostRuntime) -> Result<(), Fail> {
     let grows = keeps_five_paths(rt.alloc(), Trails::new(rt.alloc()))?;
     let has_room = keeps_five_paths(rt.alloc(), Trails::with_room(rt.alloc(), 5)?)?;
     assert!(rt; grows && has_room);
+    Ok(())
+}
+
+// Whether an empty store takes the path 1 and 7 before it, tells how many paths it holds, and takes a path apart; and
+// whether 7 before 1 passes 7 and 1, but neither 65, which shares the mark of 1, nor 3, whose mark isn't there.
+fn tells_what_is_passed(mut store: Trails) -> Result<bool, NoMemory>
+    requires { store ≡ [] }
+{
+    let end = store.add(NodeId(1), None)?;
+    let high = store.add(NodeId(7), Some(end))?;
+    let are_parts = store.count() == 2
+        && store.first(high) == NodeId(7)
+        && store.rest(high) == Some(end)
+        && store.rest(end).is_none();
+    let are_passed = store.passes(high, NodeId(7)) && store.passes(high, NodeId(1));
+    let are_missed = !store.passes(high, NodeId(65)) && !store.passes(high, NodeId(3));
+    Ok(are_parts && are_passed && are_missed)
+}
+
+#[test]
+fn paths_tell_what_they_pass(rt: HostRuntime) -> Result<(), Fail> {
+    let tells = tells_what_is_passed(Trails::new(rt.alloc()))?;
+    assert!(rt; tells);
     Ok(())
 }
 

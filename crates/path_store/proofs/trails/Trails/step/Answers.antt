@@ -63,3 +63,14 @@ returns-clause-more c =
     let within : k < length steps = omega (arith, there, count_after [] steps) in
     let read = slice_get_read steps (length steps) k step refl within c.index.ensures in
     goes_on steps c.args.id step there c.self.invariant (step_there [] steps k c.args.id step c.self.invariant read (omega arith))
+
+pub returns-clause-marks : goal.returns-clause-marks
+returns-clause-marks c =
+    let steps = c.self.inside.steps.items in
+    let step = c.index.result.now in
+    let k = c.args.id.0 in
+    let there = rw (← c.self.view_is) at c.requires in
+    let within : k < length steps = omega (arith, there, count_after [] steps) in
+    let read = slice_get_read steps (length steps) k step refl within c.index.ensures in
+    let is : IsStepOf c.args.self.now c.args.id step = rw c.self.view_is at (step_there [] steps k c.args.id step c.self.invariant read (omega arith)) in
+    is.marks
