@@ -1,10 +1,12 @@
-//! Runs of path-vector nodes through the networks of a file, phase by phase, on several workers, over any algebra. It
-//! stands on `path_vector`, `node_runs` and `vector_rest`; it reads no words and prints nothing.
+//! Runs of path-vector nodes through the networks of a file, phase by phase, on several workers, over any algebra. One
+//! worker on a network that doesn't change keeps all nodes in one store. It stands on `path_vector`, `vector_block`,
+//! `node_runs` and `vector_rest`; it reads no words and prints nothing.
 #![tactic(auto)]
 
 mod finder;
 mod laws;
 mod nodes;
+mod one_worker;
 mod run;
 
 pub use laws::{

@@ -5,6 +5,7 @@ ghost use Rattle.vector_runs.specs.Runs.{AreLater, IsRun, pure_phase};
 
 use crate::finder::VectorFinder;
 use crate::nodes::{carried_nodes, new_nodes};
+use crate::one_worker::run_alone;
 use alg_model::Algebra;
 use meta_base::{Gate, List, NoMemory};
 use net_graph::{Net, RouteRow};
@@ -35,8 +36,8 @@ pub struct PhasedRun {
 /// Runs the new nodes of a network until nothing is on its way, and then carries them to each of the networks that it
 /// changes to, one after another, and runs them there; it ends before that where all turns are used up. The budget's
 /// turns are for all phases together. In each phase its workers make the deliveries, at once, on threads of their own,
-/// so which are made in which order is theirs; the gate gets a report of each. The algebra is that of all networks,
-/// which differ in their arcs alone. It is refused for want of memory alone.
+/// so which are made in which order is theirs; one worker makes them on the caller's thread. The gate gets a report of
+/// each. The algebra is that of all networks, which differ in their arcs alone. It is refused for want of memory alone.
 pub fn run_phases<A: Algebra + Sync, G: Gate, R: Threads + Wait + Sync>(
     rt: &R,
     alloc: Global,
@@ -56,6 +57,9 @@ where
     ensures { IfOk result (λ run. IsRun net.now changed.now budget.turns
         (map pure_phase run.past) (pure_phase run.last) run.is_quiet) }
 {
+    if budget.workers == 1 && changed.is_empty() {
+        return run_alone(alloc, algebra, net, budget.turns, gate);
+    }
     let finder = VectorFinder::new();
     let mut past = List::new(alloc);
     let mut left = budget;

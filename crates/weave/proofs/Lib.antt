@@ -7,11 +7,11 @@ mod Changing
 mod Linking
 mod Deals
 mod Parting
-mod Round
+pub mod Round
 mod OneRound
 mod Waiting
 mod Returns
-mod Going
+pub mod Going
 mod Delivering
 mod Starting
 mod Queues

@@ -1,0 +1,12 @@
+pub mod Nexts
+pub mod Delivering
+pub mod Views
+pub mod Changing
+pub mod Offers
+pub mod Stores
+pub mod Starting
+pub mod Begun
+pub mod Chooses
+pub mod Counting
+pub mod Logs
+pub mod Rows

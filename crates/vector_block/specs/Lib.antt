@@ -1,0 +1,5 @@
+pub mod Stores
+pub mod Hearings
+pub mod Nexts
+pub mod Blocks
+pub mod Starts
