@@ -46,7 +46,8 @@ pub(crate) fn rechoose<A: Algebra>(
         let heard = (pure_store (A.sig_value at.algebra.now) store.old).heard in
         (a : PureArc) (r : PureRoute) → slice_get at.net.now.arcs a.id ≡ Some a → a.tail ≡ h.node.0 →
         heard a.id h.dest.0 ≡ Some r → may_be_of at.net.now a.head r ≡ true }
-    requires begins { let h = hearing.now in let rows = (pure_store (A.sig_value site.now.algebra.now) store.old).rows in
+    requires begins { let h = hearing.now in
+        let rows = (pure_store (A.sig_value site.now.algebra.now) store.old).rows in
         (r : PureRoute) → rows h.node.0 h.dest.0 ≡ Some r → begins_with h.node.0 r.path ≡ true }
     ensures stored { let at = site.now in IsStored (A.is_sig at.algebra.now) at.net.now store.new }
     ensures rechosen { let at = site.now in let value = A.sig_value at.algebra.now in
@@ -124,7 +125,8 @@ fn choose_anew<A: Algebra>(
         let heard = (pure_store (A.sig_value at.algebra.now) store.old).heard in
         (a : PureArc) (r : PureRoute) → slice_get at.net.now.arcs a.id ≡ Some a → a.tail ≡ h.node.0 →
         heard a.id h.dest.0 ≡ Some r → may_be_of at.net.now a.head r ≡ true }
-    requires begins { let h = hearing.now in let rows = (pure_store (A.sig_value site.now.algebra.now) store.old).rows in
+    requires begins { let h = hearing.now in
+        let rows = (pure_store (A.sig_value site.now.algebra.now) store.old).rows in
         (r : PureRoute) → rows h.node.0 h.dest.0 ≡ Some r → begins_with h.node.0 r.path ≡ true }
     ensures stored { let at = site.now in IsStored (A.is_sig at.algebra.now) at.net.now store.new }
     ensures rechosen { let at = site.now in let value = A.sig_value at.algebra.now in
@@ -157,7 +159,8 @@ fn is_row<A: Algebra>(
     requires dest { hearing.now.dest.0 < length site.now.net.now.dests }
     requires best { let at = site.now in
         IfSome best.now (MayBeChosen (A.is_sig at.algebra.now) at.net.now store.now) }
-    requires begins { let h = hearing.now in let rows = (pure_store (A.sig_value site.now.algebra.now) store.now).rows in
+    requires begins { let h = hearing.now in
+        let rows = (pure_store (A.sig_value site.now.algebra.now) store.now).rows in
         (r : PureRoute) → rows h.node.0 h.dest.0 ≡ Some r → begins_with h.node.0 r.path ≡ true }
     ensures { let value = A.sig_value site.now.algebra.now in let h = hearing.now in IfOk result (λ same.
         same ≡ same_row (option_map (chosen_route value store.now.paths h.node.0) best.now)

@@ -133,7 +133,8 @@ fn is_better<A: Algebra>(
     requires offer { A.is_sig site.now.algebra.now offer.now }
     requires path { path.0 < length store.now.paths }
     requires best { let at = site.now in MayBeChosen (A.is_sig at.algebra.now) at.net.now store.now best.now }
-    ensures { (node : ℕ) → let at = site.now in let route = chosen_route (A.sig_value at.algebra.now) store.now.paths node in
+    ensures { (node : ℕ) → let at = site.now in
+        let route = chosen_route (A.sig_value at.algebra.now) store.now.paths node in
         result ≡ is_better (carrier_of (A.expression at.algebra.now))
         (route (record { sig = offer.now; rest = Some path })) (route best.now) }
 {

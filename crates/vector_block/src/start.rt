@@ -142,7 +142,8 @@ fn begin<A: Algebra>(
     requires dest { dest.0 < length site.now.net.now.dests }
     requires stored { let at = site.now in IsStored (A.is_sig at.algebra.now) at.net.now store.old }
     ensures stored { let at = site.now in IsStored (A.is_sig at.algebra.now) at.net.now store.new }
-    ensures begun { let at = site.now in let value = A.sig_value at.algebra.now in OnOk result (pure_store value store.new
+    ensures begun { let at = site.now in let value = A.sig_value at.algebra.now in
+        OnOk result (pure_store value store.new
         ≡ with_origins (pure_store value store.old) (origins_of at.net.now dest.0)) }
 {
     for origin in site.net.origins_of(dest) {

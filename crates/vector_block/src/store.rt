@@ -34,7 +34,8 @@ pub(crate) fn said<'s, A: Algebra>(
 ) -> Option<&'s Reported<A::Sig>>
     requires stored { let at = _site.now in IsStored (A.is_sig at.algebra.now) at.net.now store.now }
     requires id { IfSome id (λ id. id.0 < length store.now.reports.items) }
-    ensures route { let value = A.sig_value _site.now.algebra.now in option_map (λ r. route_of value store.now.paths r.now) result
+    ensures route { let value = A.sig_value _site.now.algebra.now in
+        option_map (λ r. route_of value store.now.paths r.now) result
         ≡ said_by value store.now.paths store.now.reports.items id }
     ensures kept { let at = _site.now in IfSome result (λ r. (node : ℕ)
         × IsReported (A.is_sig at.algebra.now) at.net.now store.now.paths node r.now) }
@@ -179,7 +180,8 @@ fn kept<A: Algebra>(
     requires stored { let at = site.now in IsStored (A.is_sig at.algebra.now) at.net.now store.old }
     requires choice { MayBeChosen (A.is_sig site.now.algebra.now) site.now.net.now store.old choice }
     ensures stored { let at = site.now in IsStored (A.is_sig at.algebra.now) at.net.now store.new }
-    ensures same { let value = A.sig_value site.now.algebra.now in pure_store value store.new ≡ pure_store value store.old }
+    ensures same { let value = A.sig_value site.now.algebra.now in
+        pure_store value store.new ≡ pure_store value store.old }
     ensures reports { store.new.reports ≡ store.old.reports }
     ensures columns { store.new.columns ≡ store.old.columns }
     ensures kept { let at = site.now in IfOk result
