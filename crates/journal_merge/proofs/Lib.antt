@@ -1,2 +1,1 @@
 mod Sorting
-mod Totals

@@ -1,36 +1,34 @@
-ghost use Rattle.std.specs.Prelude.{◌≡◌, [], length, IfOk};
+ghost use Rattle.std.specs.Prelude.{◌≡◌, [], length, map, IfOk};
 ghost use Rattle.std.specs.List.{AllByRecursion};
-ghost use Rattle.journal_merge.specs.Merged.{entry_total};
-ghost use Rattle.journal_merge.specs.Merging.{AreOfDifferentNodes, ClocksAscend, IsMerged};
+ghost use Rattle.journal_merge.specs.Merging.{AreOfDifferentNodes, ClocksAscend, IsJournalOf, IsMerged, NodesAscend};
+ghost use Rattle.journal_merge.specs.Timing.{tagged_of};
 
-use crate::NodeLog;
-use crate::merging::merge;
+use crate::gathering::entries_of_logs;
+use crate::merging::in_order;
+use crate::{NodeDelivery, NodeLog};
 use meta_base::{Delivery, List, NoMemory};
 use std::alloc::Global;
 use std::marker::Model;
 
-/// The deliveries that nodes logged, each its own. They are brought into one order where they are asked for, and not
-/// before. Contracts see the list of them in that order: by clock, and where clocks are equal by node.
+/// The deliveries of all nodes, in whatever order they were logged. They are brought into one order where they are asked
+/// for, and not before. Contracts see the list of them in that order: by clock, and where clocks are equal by node.
 #[derive(Debug, Drop)]
 pub struct Journal {
-    logs: List<NodeLog>,
-    // How many entries the logs have.
-    count: usize,
+    entries: Vec<NodeDelivery>,
 }
 
 impl Model for Journal {
-    ghost use Rattle.std.specs.Prelude.{◌≡◌, List};
-    ghost use Rattle.std.specs.List.{AllByRecursion};
+    ghost use Rattle.std.specs.Prelude.{List, map};
     ghost use Rattle.meta_base.specs.declared.ids.Delivery.{Delivery};
-    ghost use Rattle.journal_merge.specs.Merged.{entry_total, merged};
-    ghost use Rattle.journal_merge.specs.Merging.{AreOfDifferentNodes, ClocksAscend};
+    ghost use Rattle.journal_merge.specs.Merged.{journal_of};
+    ghost use Rattle.journal_merge.specs.Merging.{NodesAscend};
+    ghost use Rattle.journal_merge.specs.Timing.{tagged_of};
 
     ghost Value = { List Delivery };
 
-    ghost view = { λ s. merged s.logs };
+    ghost view = { λ s. journal_of (map tagged_of s.entries.items) };
 
-    ghost invariant = { λ s. AreOfDifferentNodes s.logs × AllByRecursion (λ log. ClocksAscend log.entries) s.logs
-        × (s.count ≡ entry_total s.logs) };
+    ghost invariant = { λ s. NodesAscend (map tagged_of s.entries.items) };
 }
 
 impl Journal {
@@ -39,48 +37,40 @@ impl Journal {
         ensures { result ≡ [] }
     {
         Journal {
-            logs: List::new(alloc),
-            count: 0,
+            entries: Vec::new(alloc),
         }
     }
 
-    /// The journal that these logs come to. They must be of different nodes, and the clocks of each must ascend. It is
-    /// refused where they have more entries than memory could hold, and takes no memory itself.
-    pub fn from_logs(logs: List<NodeLog>) -> Result<Journal, NoMemory>
-        requires nodes { AreOfDifferentNodes logs }
-        requires clocks { AllByRecursion (λ log. ClocksAscend log.entries) logs }
-        ensures { IfOk result (λ journal. IsMerged logs journal) }
+    /// The journal of these deliveries, each with its node; the clocks of each node must ascend. It takes no memory.
+    pub fn from_entries(entries: Vec<NodeDelivery>) -> Journal
+        requires { NodesAscend (map tagged_of entries.items) }
+        ensures { IsJournalOf (map tagged_of entries.items) result }
     {
-        let count = entry_count(logs.as_slice())?;
-        Ok(Journal { logs, count })
+        Journal { entries }
+    }
+
+    /// The journal that these logs come to. They must be of different nodes, and the clocks of each must ascend. It is
+    /// refused for want of memory alone.
+    pub fn from_logs(alloc: Global, logs: &[NodeLog]) -> Result<Journal, NoMemory>
+        requires nodes { AreOfDifferentNodes logs.now }
+        requires clocks { AllByRecursion (λ log. ClocksAscend log.entries) logs.now }
+        ensures { IfOk result (λ journal. IsMerged logs.now journal) }
+    {
+        let entries = entries_of_logs(alloc, logs)?;
+        Ok(Journal { entries })
     }
 
     /// How many deliveries it has.
     pub fn len(&self) -> usize
         ensures { result ≡ length self.now }
     {
-        self.count
+        self.entries.as_slice().len()
     }
 
-    /// All deliveries in order. The time is that of a sort.
+    /// All deliveries in order. The time is that of a sort. It is refused for want of memory alone.
     pub fn entries(&self, alloc: Global) -> Result<List<Delivery>, NoMemory>
         ensures { IfOk result (λ entries. entries ≡ self.now) }
     {
-        merge(alloc, self.logs.as_slice(), self.count)
+        in_order(alloc, self.entries.as_slice())
     }
-}
-
-// How many entries the logs have, where that is a number of the machine.
-fn entry_count(logs: &[NodeLog]) -> Result<usize, NoMemory>
-    ensures { IfOk result (λ count. count ≡ entry_total logs.now) }
-{
-    let mut count = 0usize;
-    for log in logs {
-        let more = log.entries.as_slice().len();
-        if more > usize::MAX - count {
-            return Err(NoMemory);
-        }
-        count += more;
-    }
-    Ok(count)
 }

@@ -1,15 +1,18 @@
-//! One journal of the deliveries that the nodes of a network logged, each its own: by clock, and where clocks are equal
-//! by node. A [`Journal`] has the logs, and merges them where its deliveries are asked for. It keeps the entries of each
-//! log, in their order, and no receipt stands before its sending. It knows no network.
+//! One journal of the deliveries that the nodes of a network took, from logs that they kept each by itself or from one log
+//! of all: by clock, and where clocks are equal by node. A [`Journal`] has the deliveries as they were logged, and orders
+//! them where they are asked for. It keeps those of each node in their order, and no receipt stands before its sending. It
+//! knows no network.
 #![tactic(auto)]
 
+mod entry;
+mod gathering;
 mod journal;
 mod laws;
 mod log;
 mod merging;
 mod placing;
-mod timed;
 
+pub use entry::NodeDelivery;
 pub use journal::Journal;
 pub use laws::{keeps_each_log, logs_have_one_journal, receipts_follow_sendings};
 pub use log::NodeLog;

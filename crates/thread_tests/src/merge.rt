@@ -34,7 +34,7 @@ fn by_clock(rt: HostRuntime) -> Result<(), Fail> {
     let mut logs = List::new(rt.alloc());
     logs.push(log(rt.alloc(), 0, 2, 1)?)?;
     logs.push(log(rt.alloc(), 1, 1, 0)?)?;
-    let journal = Journal::from_logs(logs)?;
+    let journal = Journal::from_logs(rt.alloc(), logs.as_slice())?;
     let deliveries = journal.entries(rt.alloc())?;
     assert_eq!(rt; journal.len(), 2);
     assert_eq!(rt;
@@ -49,7 +49,7 @@ fn equal_clocks_by_node(rt: HostRuntime) -> Result<(), Fail> {
     let mut logs = List::new(rt.alloc());
     logs.push(log(rt.alloc(), 1, 3, 0)?)?;
     logs.push(log(rt.alloc(), 0, 3, 1)?)?;
-    let journal = Journal::from_logs(logs)?;
+    let journal = Journal::from_logs(rt.alloc(), logs.as_slice())?;
     let deliveries = journal.entries(rt.alloc())?;
     assert_eq!(rt; journal.len(), 2);
     assert_eq!(rt;
@@ -61,7 +61,7 @@ fn equal_clocks_by_node(rt: HostRuntime) -> Result<(), Fail> {
 
 #[test]
 fn no_logs(rt: HostRuntime) -> Result<(), Fail> {
-    let none = Journal::from_logs(List::new(rt.alloc()))?;
+    let none = Journal::from_logs(rt.alloc(), &[])?;
     assert!(rt; none.entries(rt.alloc())?.as_slice().is_empty());
     let empty = Journal::new(rt.alloc());
     assert!(rt; empty.entries(rt.alloc())?.as_slice().is_empty());

@@ -75,7 +75,7 @@ where
     let started = start(alloc, net, nodes)?;
     let budget = Budget { workers, turns };
     let ended = run_all(rt, alloc, net, started, budget, gate)?;
-    let journal = Journal::from_logs(ended.logs)?;
+    let journal = Journal::from_logs(alloc, ended.logs.as_slice())?;
     Ok(WeaveEnd {
         nodes: ended.nodes,
         journal,

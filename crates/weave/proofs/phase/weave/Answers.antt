@@ -1,4 +1,6 @@
-use Rattle.std.proofs.Common.{map, refl}
+use Rattle.std.proofs.Common.{map, refl, subst, sym}
+use Rattle.std.specs.List.{AllByRecursion}
+use Rattle.journal_merge.specs.Merging.{AreOfDifferentNodes, ClocksAscend, IsMerged}
 use Rattle.node_core.specs.Machine.{Start}
 use Rattle.weave.proofs.Going.{mergeable, phase_ends}
 use Rattle.weave.proofs.phase.weave.Goals as goal
@@ -11,14 +13,14 @@ from_logs-requires-clause-nodes g c =
     let k = g.N.NodeCore in
     let nodes = map k.state c.args.nodes in
     let is = c.in_ok-started.ensures in
-    (mergeable k.kind c.args.net.now c.args.turns nodes is.running (map k.state c.in_ok-ended.ended.nodes) c.in_ok-ended.ended.logs c.in_ok-ended.ended.totals (c.in_ok-ended.ensures (Start k.kind nodes) is)).0
+    subst AreOfDifferentNodes (sym c.as_slice.ensures) (mergeable k.kind c.args.net.now c.args.turns nodes is.running (map k.state c.in_ok-ended.ended.nodes) c.in_ok-ended.ended.logs c.in_ok-ended.ended.totals (c.in_ok-ended.ensures (Start k.kind nodes) is)).0
 
 pub from_logs-requires-clause-clocks : goal.from_logs-requires-clause-clocks
 from_logs-requires-clause-clocks g c =
     let k = g.N.NodeCore in
     let nodes = map k.state c.args.nodes in
     let is = c.in_ok-started.ensures in
-    (mergeable k.kind c.args.net.now c.args.turns nodes is.running (map k.state c.in_ok-ended.ended.nodes) c.in_ok-ended.ended.logs c.in_ok-ended.ended.totals (c.in_ok-ended.ensures (Start k.kind nodes) is)).1
+    subst (AllByRecursion (λ log. ClocksAscend log.entries)) (sym c.as_slice.ensures) (mergeable k.kind c.args.net.now c.args.turns nodes is.running (map k.state c.in_ok-ended.ended.nodes) c.in_ok-ended.ended.logs c.in_ok-ended.ended.totals (c.in_ok-ended.ensures (Start k.kind nodes) is)).1
 
 pub returns : goal.returns
 returns g c =
@@ -31,4 +33,4 @@ returns g c =
     (c.histories_replay.ensures net)
     (λ journal d e. c.replays_count.ensures net nodes journal d is_net c.requires.nodes e)
     (λ d history w. c.histories_count.ensures net (Start k.kind nodes) d history is_net w)
-    c.in_ok-journal.journal c.in_ok-journal.ensures _ refl
+    c.in_ok-journal.journal (subst (λ l. IsMerged l c.in_ok-journal.journal) c.as_slice.ensures c.in_ok-journal.ensures) _ refl

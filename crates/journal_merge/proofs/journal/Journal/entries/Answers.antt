@@ -1,13 +1,14 @@
-use Rattle.std.proofs.Common.{◌≡◌, subst, ◌∙◌}
+use Rattle.std.proofs.Common.{◌≡◌, map, subst, ◌∙◌}
 use Rattle.std.proofs.lemmas.Result.{IfOk-weaker}
-use Rattle.journal_merge.specs.Merged.{merged}
-use Rattle.journal_merge.specs.MergedLaws.{merged_is, one_journal}
-use Rattle.journal_merge.specs.Merging.{IsMerged}
+use Rattle.journal_merge.specs.Merged.{journal_of}
+use Rattle.journal_merge.specs.MergedLaws.{journal_is, one_journal}
+use Rattle.journal_merge.specs.Merging.{IsJournalOf}
+use Rattle.journal_merge.specs.Timing.{tagged_of}
 use Rattle.journal_merge.proofs.journal.Journal.entries.Goals as goal
 
 pub returns : goal.returns
 returns c =
-    let logs = c.self.inside.logs in
-    IfOk-weaker c.merge.result (IsMerged c.as_slice.result.now) (λ entries. entries ≡ c.args.self.now)
-    (λ entries is. one_journal logs entries (merged logs) (subst (λ z. IsMerged z entries) c.as_slice.ensures is) (merged_is logs c.self.invariant.0 c.self.invariant.1) ∙ c.self.view_is)
-    c.merge.ensures
+    let entries = map tagged_of c.self.inside.entries.items in
+    IfOk-weaker c.in_order.result (IsJournalOf (map tagged_of c.as_slice.result.now)) (λ journal. journal ≡ c.args.self.now)
+    (λ journal is. one_journal entries journal (journal_of entries) (subst (λ z. IsJournalOf (map tagged_of z) journal) c.as_slice.ensures.value is) (journal_is entries c.self.invariant) ∙ c.self.view_is)
+    c.in_order.ensures
