@@ -1,14 +1,12 @@
 -- Nodes that have begun: what the block keeps of them is the machine at the start.
 use Rattle.std.proofs.Common.{◌≡◌, ℕ, ◌+◌, ◌<◌, ◌≤◌, ◌==◌, ◌&&◌, ◌||◌, zero, suc, Bool, true, false, List, [], ◌∷◌, ◌++◌, Option, Some, None, length, map, cond, get_or, replicate, slice_get, inl, inr, refl, sym, ap, ◌∙◌, subst, append_assoc, arith}
 use Rattle.std.specs.Prelude.{filter, find, is_some, option_map, option_and_then}
-use Rattle.std.specs.Option.{option_map_or}
 use Rattle.std.specs.List.{AllByRecursion, filter_map, list_any, range_with_len}
 use Rattle.std.proofs.lemmas.Bool.{and_parts, cases_order, eqb-true}
 use Rattle.std.proofs.lemmas.Bool.Decides.{nat_tests}
 use Rattle.std.proofs.lemmas.List.{append-nil}
 use Rattle.std.proofs.lemmas.Option.{slice_get_past}
 use mathlib.Core.Path.{fun_ext}
-use Rattle.meta_base.specs.declared.ids.Delivery.{Delivery}
 use Rattle.alg_model.specs.Expressions.{PureValue}
 use Rattle.alg_model.specs.Carriers.{In}
 use Rattle.net_graph.specs.Nets.{AreDistinct, PureArc, PureNet, PureOrigin, IsNet, arcs_from, arcs_to, is_origin_at, origin_value, origins_of, stands_same}
@@ -403,12 +401,3 @@ module _ (net : PureNet) (n : IsNet net) where
 
   pub begun_coherent : (clocks : List ℕ) → clocks ≡ replicate (length net.nodes) 0 → IsCoherent net (block_machine net begun clocks 0 0)
   begun_coherent clocks are = subst (IsCoherent net) (sym (begun_machine clocks are)) (start_is_coherent net n new_nodes (new_nodes_may_begin net))
-
--- no node took a delivery
-pub nothing_logged : (logs : List (List Delivery)) (k i : ℕ) → logs ≡ replicate k [] → option_map_or (λ (log : List Delivery). log) (slice_get logs i) [] ≡ []
-nothing_logged logs k i are = ap (λ l. option_map_or (λ (log : List Delivery). log) (slice_get l i) []) are ∙ none k i
-  where
-    none : (k i : ℕ) → option_map_or (λ (log : List Delivery). log) (slice_get {X = List Delivery} (replicate k []) i) [] ≡ []
-    none zero i = refl
-    none (suc k) zero = refl
-    none (suc k) (suc i) = none k i

@@ -136,7 +136,7 @@ pub record CanDeliver (net : PureNet) (s : PureStore) (clocks : List ℕ) (front
   pub is_coherent : IsCoherent net (block_machine net s clocks front passed)
 
 module _ {L S : Type 0} {stands_for : L → PureLabel → Type 0} {is_sig : S → Type 0} {value : S → PureValue} {expression : Expression} {net : PureNet} {listeners speakers : List (List (Neighbour L))} {store : Store S}
-    {clocks : List ℕ} {logs : List (List Delivery)} {front passed : ℕ} (b : IsBlock stands_for is_sig value expression net listeners speakers store clocks logs front passed) where
+    {clocks : List ℕ} {log : List (ℕ × Delivery)} {front passed : ℕ} (b : IsBlock stands_for is_sig value expression net listeners speakers store clocks log front passed) where
   pub can_deliver : (later more : ℕ) → waiting net more (drop later (pure_store value store).reports) ≡ waiting net passed (drop front (pure_store value store).reports)
       → (read : List ℕ) → read ≡ clocks → (a : PureArc) (h : Hearing) → IsNext net (pure_store value store).reports read later more a h → CanDeliver net (pure_store value store) clocks later more a h
   can_deliver later more same read is a h next = record {

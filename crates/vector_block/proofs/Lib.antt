@@ -8,5 +8,4 @@ pub mod Starting
 pub mod Begun
 pub mod Chooses
 pub mod Counting
-pub mod Logs
 pub mod Rows

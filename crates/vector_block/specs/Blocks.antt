@@ -1,9 +1,9 @@
 -- All path-vector nodes of a network with what is on its way between them, as contracts see them.
 use Rattle.std.specs.Prelude.{◌≡◌, ℕ, ◌<◌, true, List, [], ◌∷◌, ◌++◌, length, drop, get_or, Option, None, option_map, option_and_then, slice_get}
-use Rattle.std.specs.Option.{option_map_or}
-use Rattle.std.specs.List.{filter_map, range_with_len}
+use Rattle.std.specs.List.{AllByRecursion, filter_map, range_with_len}
 use Rattle.std.specs.Coded.{Coded, code_by, coded×, coded_list, coded_option, coded_ℕ}
 use Rattle.std.proofs.Common.{refl}
+use Rattle.journal_merge.specs.Merging.{entries_of}
 use Rattle.meta_base.specs.declared.ids.Delivery.{Delivery}
 use Rattle.alg_model.specs.Expressions.{Expression, PureLabel, PureValue}
 use Rattle.arc_labels.specs.declared.neighbours.Neighbour.{Neighbour}
@@ -22,15 +22,15 @@ use Rattle.vector_block.specs.Hearings.{heard_at}
 use Rattle.vector_block.specs.Stores.{PureStore, IsStored, pure_store}
 
 -- All reports in order, each with its speaker; by destination, then arc, what was heard last; by destination, then node, the
--- rows; and by node its last clock and the deliveries that it took. The report at the place `front` is being heard: so many
--- of its speaker's listeners have passed.
+-- rows; by node its last clock; and the deliveries in the order in which they were made, each with the node that took it. The
+-- report at the place `front` is being heard: so many of its speaker's listeners have passed.
 pub record PureBlock : Type 0 where
   pub net : PureNet
   pub reports : List (ℕ × PureUpdate)
   pub heard : List (List (Option PureRoute))
   pub rows : List (List (Option PureRoute))
   pub clocks : List ℕ
-  pub logs : List (List Delivery)
+  pub log : List (ℕ × Delivery)
   pub front : ℕ
   pub passed : ℕ
 
@@ -81,20 +81,20 @@ states_of b = filter_map (λ i. (machine_of b).node i) (range_with_len 0 (length
 
 -- the deliveries that a node took
 abbrev pub log_of : PureBlock → ℕ → List Delivery
-log_of b i = option_map_or (λ log. log) (slice_get b.logs i) []
+log_of b i = entries_of i b.log
 
 -- ---- what the block keeps
 
 module _ {L S : Type 0} (stands_for : L → PureLabel → Type 0) (is_sig : S → Type 0) (value : S → PureValue) (expression : Expression) (net : PureNet) where
   -- the block of a network that keeps its rules, over the network's algebra
-  pub record IsBlock (listeners speakers : List (List (Neighbour L))) (s : Store S) (clocks : List ℕ) (logs : List (List Delivery)) (front passed : ℕ) : Type 0 where
+  pub record IsBlock (listeners speakers : List (List (Neighbour L))) (s : Store S) (clocks : List ℕ) (log : List (ℕ × Delivery)) (front passed : ℕ) : Type 0 where
     pub algebra : expression ≡ net.alg.expression
     pub is_net : IsNet net
     pub listeners_are : AreListenerLabels stands_for net listeners
     pub speakers_are : AreSpeakerLabels stands_for net speakers
     pub stored : IsStored is_sig net s
     pub clock_count : length clocks ≡ length net.nodes
-    pub log_count : length logs ≡ length net.nodes
+    pub logged : AllByRecursion (λ (t : ℕ × Delivery). t.0 < length net.nodes) log
     pub chosen : (i dest : ℕ) → i < length net.nodes → (pure_store value s).rows i dest ≡ choice net dest i (heard_at net (pure_store value s) i)
     pub coherent : IsCoherent net (block_machine net (pure_store value s) clocks front passed)
 
@@ -112,7 +112,7 @@ coded_delivery =
 
 abbrev pub coded_block : Coded PureBlock
 coded_block =
-    code_by (PureNet × (List (ℕ × PureUpdate) × (List (List (Option PureRoute)) × (List (List (Option PureRoute)) × (List ℕ × (List (List Delivery) × (ℕ × ℕ)))))))
-    (coded× coded_net (coded× (coded_list (coded× coded_ℕ coded_update)) (coded× (coded_list coded_rows) (coded× (coded_list coded_rows) (coded× (coded_list coded_ℕ) (coded× (coded_list (coded_list coded_delivery)) (coded× coded_ℕ coded_ℕ)))))))
-    (λ b. (b.net, (b.reports, (b.heard, (b.rows, (b.clocks, (b.logs, (b.front, b.passed))))))))
-    (λ p. record { net = p.0; reports = p.1.0; heard = p.1.1.0; rows = p.1.1.1.0; clocks = p.1.1.1.1.0; logs = p.1.1.1.1.1.0; front = p.1.1.1.1.1.1.0; passed = p.1.1.1.1.1.1.1 }) (λ _. refl)
+    code_by (PureNet × (List (ℕ × PureUpdate) × (List (List (Option PureRoute)) × (List (List (Option PureRoute)) × (List ℕ × (List (ℕ × Delivery) × (ℕ × ℕ)))))))
+    (coded× coded_net (coded× (coded_list (coded× coded_ℕ coded_update)) (coded× (coded_list coded_rows) (coded× (coded_list coded_rows) (coded× (coded_list coded_ℕ) (coded× (coded_list (coded× coded_ℕ coded_delivery)) (coded× coded_ℕ coded_ℕ)))))))
+    (λ b. (b.net, (b.reports, (b.heard, (b.rows, (b.clocks, (b.log, (b.front, b.passed))))))))
+    (λ p. record { net = p.0; reports = p.1.0; heard = p.1.1.0; rows = p.1.1.1.0; clocks = p.1.1.1.1.0; log = p.1.1.1.1.1.0; front = p.1.1.1.1.1.1.0; passed = p.1.1.1.1.1.1.1 }) (λ _. refl)

@@ -13,8 +13,8 @@ use crate::report::ReportId;
 use crate::store::{Site, Store, hear};
 use alg_model::Algebra;
 use arc_labels::NeighbourLabels;
-use meta_base::{Delivery, Gate, List, NoMemory};
-use net_graph::Net;
+use journal_merge::NodeDelivery;
+use meta_base::{Delivery, Gate, NoMemory};
 use std::alloc::Global;
 use std::marker::Model;
 use woven_laws::AllNodes;
@@ -24,14 +24,14 @@ use woven_laws::AllNodes;
 /// takes memory only where a row changes, and for the log (Griffin and Sobrinho 2005 have the protocol).
 #[derive(Drop)]
 pub struct VectorBlock<'a, A: Algebra> {
-    pub(crate) algebra: &'a A,
-    pub(crate) net: &'a Net,
+    pub(crate) site: Site<'a, A>,
     pub(crate) listeners: &'a NeighbourLabels<'a, A::Lab>,
     pub(crate) speakers: &'a NeighbourLabels<'a, A::Lab>,
     pub(crate) store: Store<A::Sig>,
-    // By node: its last clock, and the deliveries that it took.
+    // By node: its last clock.
     pub(crate) clocks: Vec<u64>,
-    pub(crate) logs: Vec<List<Delivery>>,
+    // The deliveries in the order in which they were made.
+    pub(crate) log: Vec<NodeDelivery>,
     // The report that is being heard, and how many of its speaker's listeners have passed.
     pub(crate) front: usize,
     pub(crate) passed: usize,
@@ -41,6 +41,7 @@ pub struct VectorBlock<'a, A: Algebra> {
 
 impl<'a, A: Algebra> Model for VectorBlock<'a, A> {
     ghost use Rattle.std.specs.Prelude.{map};
+    ghost use Rattle.journal_merge.specs.Timing.{tagged_of};
     ghost use Rattle.vector_block.specs.Blocks.{IsBlock, PureBlock, coded_block};
     ghost use Rattle.vector_block.specs.Stores.{said_by, update_of};
 
@@ -48,19 +49,19 @@ impl<'a, A: Algebra> Model for VectorBlock<'a, A> {
 
     ghost coded = { coded_block };
 
-    ghost view = { λ b. let said = said_by (A.sig_value b.algebra.now) b.store.paths b.store.reports.items in record {
-      net = b.net.now;
-      reports = map (λ r. (r.node.0, update_of (A.sig_value b.algebra.now) b.store.paths r)) b.store.reports.items;
+    ghost view = { λ b. let said = said_by (A.sig_value b.site.algebra.now) b.store.paths b.store.reports.items in record {
+      net = b.site.net.now;
+      reports = map (λ r. (r.node.0, update_of (A.sig_value b.site.algebra.now) b.store.paths r)) b.store.reports.items;
       heard = map (λ c. map said c.heard.items) b.store.columns.items;
       rows = map (λ c. map said c.rows.items) b.store.columns.items;
       clocks = b.clocks.items;
-      logs = b.logs.items;
+      log = map tagged_of b.log.items;
       front = b.front;
       passed = b.passed;
     } };
 
-    ghost invariant = { λ b. IsBlock (A.stands_for b.algebra.now) (A.is_sig b.algebra.now) (A.sig_value b.algebra.now)
-        (A.expression b.algebra.now) b.net.now b.listeners.now b.speakers.now b.store b.clocks.items b.logs.items
+    ghost invariant = { λ b. IsBlock (A.stands_for b.site.algebra.now) (A.is_sig b.site.algebra.now) (A.sig_value b.site.algebra.now)
+        (A.expression b.site.algebra.now) b.site.net.now b.listeners.now b.speakers.now b.store b.clocks.items (map tagged_of b.log.items)
         b.front b.passed };
 }
 
@@ -155,12 +156,8 @@ impl<'a, A: Algebra> AllNodes for VectorBlock<'a, A> {
 
     fn deliver<G: Gate>(&mut self, gate: &G) -> Result<u64, NoMemory> {
         let alloc = *self.clocks.allocator();
-        let site = Site {
-            algebra: self.algebra,
-            net: self.net,
-        };
         skip_heard(
-            &site,
+            &self.site,
             self.listeners,
             &self.store,
             &mut self.front,
@@ -171,7 +168,7 @@ impl<'a, A: Algebra> AllNodes for VectorBlock<'a, A> {
             return Err(NoMemory);
         }
         let Next { hearing, label } = next_hearing(
-            &site,
+            &self.site,
             self.listeners,
             &self.store,
             &self.clocks,
@@ -186,11 +183,12 @@ impl<'a, A: Algebra> AllNodes for VectorBlock<'a, A> {
             report,
             ..
         } = hearing;
-        self.logs[node.0 as usize].push(Delivery { clock, arc })?;
-        let earlier = hear(&site, &mut self.store, dest, arc, Some(report));
+        let made = Delivery { clock, arc };
+        self.log.push(NodeDelivery::new(node, made))?;
+        let earlier = hear(&self.site, &mut self.store, dest, arc, Some(report));
         let changed = rechoose(
             alloc,
-            &site,
+            &self.site,
             &mut self.store,
             self.speakers,
             &hearing,
@@ -199,7 +197,7 @@ impl<'a, A: Algebra> AllNodes for VectorBlock<'a, A> {
         );
         match changed {
             Ok(is_changed) => {
-                gate.pass(0, &Delivery { clock, arc });
+                gate.pass(0, &made);
                 self.clocks[node.0 as usize] = clock;
                 self.passed += 1;
                 Ok(if is_changed {
@@ -209,7 +207,7 @@ impl<'a, A: Algebra> AllNodes for VectorBlock<'a, A> {
                 })
             }
             Err(refusal) => {
-                hear(&site, &mut self.store, dest, arc, earlier);
+                hear(&self.site, &mut self.store, dest, arc, earlier);
                 Err(refusal)
             }
         }

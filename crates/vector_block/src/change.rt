@@ -55,8 +55,8 @@ pub(crate) fn rechoose<A: Algebra>(
 {
     match look(alloc, site, store, hearing, label, spare)? {
         Finding::Stays => Ok(false),
-        Finding::Takes => take_offer(site, store, hearing, spare),
-        Finding::Lost => choose_anew(alloc, site, store, speakers, hearing, spare),
+        Finding::Takes => take_offer(site, store, *hearing, spare),
+        Finding::Lost => choose_anew(alloc, site, store, speakers, *hearing, spare),
     }
 }
 
@@ -65,16 +65,16 @@ pub(crate) fn rechoose<A: Algebra>(
 fn take_offer<A: Algebra>(
     site: &Site<'_, A>,
     store: &mut Store<A::Sig>,
-    hearing: &Hearing,
+    hearing: Hearing,
     spare: &mut Option<A::Sig>,
 ) -> Result<bool, NoMemory>
     requires stored { let at = site.now in IsStored (A.is_sig at.algebra.now) at.net.now store.old }
-    requires node { hearing.now.node.0 < length site.now.net.now.nodes }
-    requires dest { hearing.now.dest.0 < length site.now.net.now.dests }
-    requires report { hearing.now.report.0 < length store.old.reports.items }
+    requires node { hearing.node.0 < length site.now.net.now.nodes }
+    requires dest { hearing.dest.0 < length site.now.net.now.dests }
+    requires report { hearing.report.0 < length store.old.reports.items }
     requires spare { IfSome spare.old (A.is_sig site.now.algebra.now) }
     ensures stored { let at = site.now in IsStored (A.is_sig at.algebra.now) at.net.now store.new }
-    ensures taken { let value = A.sig_value site.now.algebra.now in let h = hearing.now in
+    ensures taken { let value = A.sig_value site.now.algebra.now in let h = hearing in
         (sig : A.Sig) (said : PureRoute) → spare.old ≡ Some sig →
         said_by value store.old.paths store.old.reports.items (Some h.report) ≡ Some said →
         OnOk result (pure_store value store.new ≡ with_report (pure_store value store.old) h.node.0 (record {
@@ -112,32 +112,32 @@ fn choose_anew<A: Algebra>(
     site: &Site<'_, A>,
     store: &mut Store<A::Sig>,
     speakers: &NeighbourLabels<'_, A::Lab>,
-    hearing: &Hearing,
+    hearing: Hearing,
     spare: &mut Option<A::Sig>,
 ) -> Result<bool, NoMemory>
     requires algebra { let at = site.now in A.expression at.algebra.now ≡ at.net.now.alg.expression }
     requires net { IsNet site.now.net.now }
     requires stored { let at = site.now in IsStored (A.is_sig at.algebra.now) at.net.now store.old }
     requires speakers { let at = site.now in AreSpeakerLabels (A.stands_for at.algebra.now) at.net.now speakers.now }
-    requires node { hearing.now.node.0 < length site.now.net.now.nodes }
-    requires dest { hearing.now.dest.0 < length site.now.net.now.dests }
-    requires known { let at = site.now in let h = hearing.now in
+    requires node { hearing.node.0 < length site.now.net.now.nodes }
+    requires dest { hearing.dest.0 < length site.now.net.now.dests }
+    requires known { let at = site.now in let h = hearing in
         let heard = (pure_store (A.sig_value at.algebra.now) store.old).heard in
         (a : PureArc) (r : PureRoute) → slice_get at.net.now.arcs a.id ≡ Some a → a.tail ≡ h.node.0 →
         heard a.id h.dest.0 ≡ Some r → may_be_of at.net.now a.head r ≡ true }
-    requires begins { let h = hearing.now in
+    requires begins { let h = hearing in
         let rows = (pure_store (A.sig_value site.now.algebra.now) store.old).rows in
         (r : PureRoute) → rows h.node.0 h.dest.0 ≡ Some r → begins_with h.node.0 r.path ≡ true }
     ensures stored { let at = site.now in IsStored (A.is_sig at.algebra.now) at.net.now store.new }
     ensures rechosen { let at = site.now in let value = A.sig_value at.algebra.now in
-        HasRechosen at.net.now hearing.now (pure_store value store.old) (pure_store value store.new) result }
+        HasRechosen at.net.now hearing (pure_store value store.old) (pure_store value store.new) result }
 {
     let Hearing {
         node,
         dest,
         clock,
         ..
-    } = *hearing;
+    } = hearing;
     let best = choose(alloc, site, store, speakers.of(node), dest, node, spare)?;
     if is_row(alloc, site, store, hearing, &best)? {
         return Ok(false);
@@ -151,18 +151,18 @@ fn is_row<A: Algebra>(
     alloc: Global,
     site: &Site<'_, A>,
     store: &Store<A::Sig>,
-    hearing: &Hearing,
+    hearing: Hearing,
     best: &Option<Choice<A::Sig>>,
 ) -> Result<bool, NoMemory>
     requires stored { let at = site.now in IsStored (A.is_sig at.algebra.now) at.net.now store.now }
-    requires node { hearing.now.node.0 < length site.now.net.now.nodes }
-    requires dest { hearing.now.dest.0 < length site.now.net.now.dests }
+    requires node { hearing.node.0 < length site.now.net.now.nodes }
+    requires dest { hearing.dest.0 < length site.now.net.now.dests }
     requires best { let at = site.now in
         IfSome best.now (MayBeChosen (A.is_sig at.algebra.now) at.net.now store.now) }
-    requires begins { let h = hearing.now in
+    requires begins { let h = hearing in
         let rows = (pure_store (A.sig_value site.now.algebra.now) store.now).rows in
         (r : PureRoute) → rows h.node.0 h.dest.0 ≡ Some r → begins_with h.node.0 r.path ≡ true }
-    ensures { let value = A.sig_value site.now.algebra.now in let h = hearing.now in IfOk result (λ same.
+    ensures { let value = A.sig_value site.now.algebra.now in let h = hearing in IfOk result (λ same.
         same ≡ same_row (option_map (chosen_route value store.now.paths h.node.0) best.now)
         ((pure_store value store.now).rows h.node.0 h.dest.0)) }
 {

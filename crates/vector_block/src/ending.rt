@@ -3,26 +3,26 @@ ghost use Rattle.std.specs.Prelude.{◌≡◌, ◌<◌, ◌++◌, IfOk, OnOk, le
 ghost use Rattle.net_graph.specs.Tables.{PureRow};
 ghost use Rattle.net_graph.specs.Views.{pure_route, pure_row};
 ghost use Rattle.path_vector.specs.Node.{dest_rows, node_rows};
-ghost use Rattle.vector_block.specs.Blocks.{at_place, log_of, states_of};
-ghost use Rattle.weave.specs.Going.{logs_by};
+ghost use Rattle.std.specs.List.{AllByRecursion};
+ghost use Rattle.journal_merge.specs.Timing.{tagged_of};
+ghost use Rattle.vector_block.specs.Blocks.{at_place, states_of};
 
 use crate::block::VectorBlock;
 use crate::report::Reported;
-use crate::store::{Site, Store, row};
+use crate::store::row;
 use alg_model::Algebra;
-use journal_merge::NodeLog;
+use journal_merge::NodeDelivery;
 use meta_base::{DestId, List, NoMemory, NodeId};
 use net_graph::{Route, RouteRow};
 use std::alloc::Global;
-use std::collections::VecDeque;
 
 impl<'a, A: Algebra> VectorBlock<'a, A> {
     /// The rows of the nodes, by destination, then node. It is refused for want of memory alone.
     pub fn rows(&self, alloc: Global) -> Result<List<RouteRow>, NoMemory>
         ensures { IfOk result (λ rows. map pure_row rows ≡ node_rows self.now.net (states_of self.now)) }
     {
-        let dests = self.net.dest_count();
-        let mut rows = Vec::with_capacity(alloc, self.net.node_count() * dests)?;
+        let dests = self.site.net.dest_count();
+        let mut rows = Vec::with_capacity(alloc, self.site.net.node_count() * dests)?;
         for dest in 0..dests {
             self.push_rows(alloc, DestId(dest as u32), &mut rows)?;
         }
@@ -40,7 +40,7 @@ impl<'a, A: Algebra> VectorBlock<'a, A> {
         ensures { OnOk result (map pure_row rows.new.items ≡ map pure_row rows.old.items
             ++ dest_rows (states_of self.now) dest.0) }
     {
-        for node in 0..self.net.node_count() {
+        for node in 0..self.site.net.node_count() {
             rows.push(self.row_at(alloc, dest, NodeId(node as u32))?)?;
         }
         Ok(())
@@ -56,13 +56,9 @@ impl<'a, A: Algebra> VectorBlock<'a, A> {
           route = at_place self.now.rows node.0 dest.0;
         }) }
     {
-        let site = Site {
-            algebra: self.algebra,
-            net: self.net,
-        };
-        let route = match row(&site, &self.store, dest, node) {
+        let route = match row(&self.site, &self.store, dest, node) {
             Some(route) => Some(Route {
-                value: self.algebra.value_of(alloc, &route.sig)?,
+                value: self.site.algebra.value_of(alloc, &route.sig)?,
                 path: self.store.paths.path(route.path).to_list(alloc)?,
             }),
             None => None,
@@ -70,20 +66,11 @@ impl<'a, A: Algebra> VectorBlock<'a, A> {
         Ok(RouteRow { node, dest, route })
     }
 
-    /// The deliveries that each node took, in the order of the nodes. It is refused for want of memory alone.
-    pub fn into_logs(self, alloc: Global) -> Result<List<NodeLog>, NoMemory>
-        ensures { IfOk result (λ logs. logs ≡ logs_by (log_of self.entry) (length self.entry.net.nodes)) }
+    /// The deliveries in the order in which they were made, each with the node that took it.
+    pub fn into_log(self) -> Vec<NodeDelivery>
+        ensures log { map tagged_of result.items ≡ self.entry.log }
+        ensures nodes { AllByRecursion (λ entry. entry.0 < length self.entry.net.nodes) self.entry.log }
     {
-        let mut logs = Vec::with_capacity(alloc, self.logs.len())?;
-        let mut left = VecDeque::from_vec(self.logs);
-        let mut number: usize = 0;
-        while let Some(entries) = left.pop_front() {
-            logs.push(NodeLog {
-                node: NodeId(number as u32),
-                entries,
-            })?;
-            number += 1;
-        }
-        Ok(List::from_vec(logs))
+        self.log
     }
 }

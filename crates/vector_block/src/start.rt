@@ -15,7 +15,7 @@ use crate::report::{Choice, Column, ReportId};
 use crate::store::{Site, Store, report};
 use alg_model::Algebra;
 use arc_labels::NeighbourLabels;
-use meta_base::{DestId, List, NoMemory};
+use meta_base::{DestId, NoMemory};
 use net_graph::Net;
 use path_store::Trails;
 use std::alloc::Global;
@@ -41,15 +41,14 @@ impl<'a, A: Algebra> VectorBlock<'a, A> {
         let site = Site { algebra, net };
         let store = begun(alloc, &site)?;
         let clocks = vec![in alloc; 0; net.node_count()]?;
-        let logs = no_logs(alloc, net.node_count())?;
+        let log = Vec::with_capacity(alloc, room(net.arc_count(), net))?;
         Ok(VectorBlock {
-            algebra,
-            net,
+            site,
             listeners,
             speakers,
             store,
             clocks,
-            logs,
+            log,
             front: 0,
             passed: 0,
             spare: None,
@@ -74,15 +73,17 @@ impl<'a, A: Algebra> VectorBlock<'a, A> {
     }
 }
 
-// A log without deliveries for each of so many nodes.
-fn no_logs<T: Drop>(alloc: Global, count: usize) -> Result<Vec<List<T>>, NoMemory>
-    ensures { IfOk result (λ logs. logs.items ≡ replicate count []) }
-{
-    let mut logs = Vec::with_capacity(alloc, count)?;
-    for _node in 0..count {
-        logs.push(List::new(alloc))?;
-    }
-    Ok(logs)
+// How many reports a node makes of a destination until its network is quiet: on networks of shortest paths two to three,
+// as measured.
+const REPORTS_EACH: usize = 4;
+
+// No more room than this is taken before it is needed.
+const MOST_ROOM: usize = 1 << 20;
+
+// Room for what is made for each of so many, and each destination, until the network is quiet.
+fn room(count: usize, net: &Net) -> usize {
+    let all = count.saturating_mul(net.dest_count());
+    all.saturating_mul(REPORTS_EACH).min(MOST_ROOM)
 }
 
 // Nothing at each of so many places.
@@ -110,9 +111,10 @@ fn nothing_said<A: Algebra>(alloc: Global, site: &Site<'_, A>) -> Result<Store<A
             rows: nothing(alloc, net.node_count())?,
         })?;
     }
+    let reports = room(net.node_count(), net);
     Ok(Store {
-        reports: Vec::new(alloc),
-        paths: Trails::new(alloc),
+        reports: Vec::with_capacity(alloc, reports)?,
+        paths: Trails::with_room(alloc, reports)?,
         columns,
     })
 }

@@ -122,7 +122,7 @@ pub(crate) fn hear<A: Algebra>(
 
 // Lets the choice be the node's row for the destination, or that there is none, and reports it. It is refused for want
 // of memory alone, or of numbers of reports, of which there are 2^32.
-#[inline(never)]
+#[inline(always)]
 pub(crate) fn report<A: Algebra>(
     site: &Site<'_, A>,
     store: &mut Store<A::Sig>,

@@ -1,11 +1,12 @@
 -- A run of all nodes in one store, from its start to its end.
-use Rattle.std.proofs.Common.{ltb, ◌≡◌, ℕ, zero, suc, ◌+◌, ◌*◌, ◌<◌, ◌≤◌, ◌^◌, Bool, true, false, List, [], ◌∷◌, Option, Some, None, length, slice_get, refl, sym, ap, ◌∙◌, arith}
+use Rattle.std.proofs.Common.{ltb, ◌≡◌, ℕ, zero, suc, ◌+◌, ◌*◌, ◌<◌, ◌≤◌, ◌^◌, Bool, true, false, List, [], ◌∷◌, Option, Some, None, length, slice_get, subst, refl, sym, ap, ◌∙◌, arith}
 use Rattle.std.specs.Prelude.{◌==◌}
 use Rattle.std.proofs.lemmas.Bool.{ltb-true, ltb-false}
+use Rattle.std.proofs.lemmas.List.Sorted.{IsPermutation-trans}
 use Rattle.std.specs.List.{AllByRecursion, filter_map, range_with_len}
 use Rattle.meta_base.specs.declared.ids.Delivery.{Delivery}
 use Rattle.journal_merge.specs.declared.log.NodeLog.{NodeLog}
-use Rattle.journal_merge.specs.Merging.{AreOfDifferentNodes, ClocksAscend, IsMerged}
+use Rattle.journal_merge.specs.Merging.{ClocksAscend, IsJournalOf, IsMerged, NodesAscend, tagged_entries}
 use Rattle.net_graph.specs.Nets.{PureNet, IsNet}
 use Rattle.net_graph.specs.Tables.{PureRow}
 use Rattle.node_core.specs.Machine.{Machine, Start}
@@ -18,11 +19,13 @@ use Rattle.quiet_ledger.specs.declared.totals.Totals.{Totals}
 use Rattle.vector_block.specs.Blocks.{PureBlock, log_of, machine_of, states_of}
 use Rattle.weave.specs.Going.{HasEnded, HasGone, IsOver, logs_by}
 use Rattle.weave.specs.Phases.{IsPhaseEnd}
-use Rattle.weave.proofs.Going.{gone_first, mergeable, phase_ends}
+use Rattle.weave.proofs.Going.{gone_first, phase_ends}
 use Rattle.weave.proofs.Round.{begun_link_few}
 use Rattle.woven_laws.specs.Counts.{total, waiting_on}
 use Rattle.woven_laws.proofs.Counting.{journal_count, woven_count}
 use Rattle.woven_laws.proofs.Replays.{replay_woven}
+use Rattle.woven_laws.specs.MergedLogs.{timed_ascends}
+use Rattle.vector_runs.proofs.Grouped.{grouped}
 use Rattle.vector_runs.specs.NodeLaws.{states_are}
 use Rattle.vector_runs.specs.Runs.{IsRun, new_nodes}
 use Rattle.vector_runs.proofs.Phases.{new_are_unbegun}
@@ -103,41 +106,51 @@ module _ (net : PureNet) (is_net : IsNet net) (turns : ℕ) where
             let nodes = ap (λ (n : PureNet). length n.nodes) same in
             gone.running.past i (omega (arith, far, nodes)) ∙ sym (past_end (states_of b) i (omega (arith, far, count, nodes)))
 
-    module _ (logs : List NodeLog) (logs_are : logs ≡ logs_by (log_of b) (length b.net.nodes)) where
-      has_ended : HasEnded path_vector net turns (first_machine net) (states_of b) logs totals
-      has_ended = record {
-        end = machine_of b;
-        log = log_of b;
-        gone = gone;
-        nodes_are = nodes_are;
-        logs_are = logs_are ∙ ap (λ (n : PureNet). logs_by (log_of b) (length n.nodes)) same;
-        over = over;
+    abbrev logs : List NodeLog
+    logs = logs_by (log_of b) (length b.net.nodes)
+
+    has_ended : HasEnded path_vector net turns (first_machine net) (states_of b) logs totals
+    has_ended = record {
+      end = machine_of b;
+      log = log_of b;
+      gone = gone;
+      nodes_are = nodes_are;
+      logs_are = ap (λ (n : PureNet). logs_by (log_of b) (length n.nodes)) same;
+      over = over;
+    }
+
+    -- its log can be made a journal
+    pub nodes_ascend : NodesAscend b.log
+    nodes_ascend i = subst ClocksAscend (sym (gone.log_is i)) (timed_ascends path_vector ((first_machine net).clock i) (gone.history i) (gone.woven.timed i)).0
+
+    module _ (within : AllByRecursion (λ (t : ℕ × Delivery). t.0 < length b.net.nodes) b.log) (journal : List Delivery) (is : IsJournalOf b.log journal) where
+      merged : IsMerged logs journal
+      merged = record {
+        tagged = is.tagged;
+        journal_is = is.journal_is;
+        ascends = is.ascends;
+        permuted = IsPermutation-trans (tagged_entries logs) b.log is.tagged (grouped b.log (length b.net.nodes) within) is.permuted;
       }
 
-      -- its logs can be merged
-      pub can_merge : AreOfDifferentNodes logs × AllByRecursion (λ (log : NodeLog). ClocksAscend log.entries) logs
-      can_merge = mergeable path_vector net turns (new_nodes net) (first_runs net is_net) (states_of b) logs totals has_ended
+      phase_end : IsPhaseEnd path_vector net (new_nodes net) turns journal (states_of b) totals (totals.sent == totals.taken)
+      phase_end =
+          phase_ends path_vector net turns (new_nodes net) (first_runs net is_net) (states_of b) logs totals has_ended
+          (λ c d history j w merge ordered. replay_woven path_vector net path_vector_is_lawful j c d history w merge ordered)
+          (λ j d e. journal_count path_vector net is_net path_vector_is_lawful (new_nodes net) j d (new_are_unbegun net) e)
+          (λ d history w. woven_count path_vector net is_net (first_machine net) d history w)
+          journal merged (totals.sent == totals.taken) refl
 
-      module _ (journal : List Delivery) (merged : IsMerged logs journal) where
-        phase_end : IsPhaseEnd path_vector net (new_nodes net) turns journal (states_of b) totals (totals.sent == totals.taken)
-        phase_end =
-            phase_ends path_vector net turns (new_nodes net) (first_runs net is_net) (states_of b) logs totals has_ended
-            (λ c d history j w merge ordered. replay_woven path_vector net path_vector_is_lawful j c d history w merge ordered)
-            (λ j d e. journal_count path_vector net is_net path_vector_is_lawful (new_nodes net) j d (new_are_unbegun net) e)
-            (λ d history w. woven_count path_vector net is_net (first_machine net) d history w)
-            journal merged (totals.sent == totals.taken) refl
-
-        -- and with its rows it is a run of one phase
-        pub is_run : (rows : List PureRow) → rows ≡ node_rows b.net (states_of b) → IsRun net [] turns [] (record { rows = rows; journal = journal }) (totals.sent == totals.taken)
-        is_run rows rows_are =
-            let e = phase_end in (
-              states_of b,
-              record {
-                end = e.end;
-                phase = e.phase;
-                states_are = states_are e.end (states_of b) e.nodes_are;
-                count = states_count;
-                rows_are = rows_are ∙ ap (λ n. node_rows n (states_of b)) same;
-              },
-              λ q. refl,
-            )
+      -- and with its rows it is a run of one phase
+      pub is_run : (rows : List PureRow) → rows ≡ node_rows b.net (states_of b) → IsRun net [] turns [] (record { rows = rows; journal = journal }) (totals.sent == totals.taken)
+      is_run rows rows_are =
+          let e = phase_end in (
+            states_of b,
+            record {
+              end = e.end;
+              phase = e.phase;
+              states_are = states_are e.end (states_of b) e.nodes_are;
+              count = states_count;
+              rows_are = rows_are ∙ ap (λ n. node_rows n (states_of b)) same;
+            },
+            λ q. refl,
+          )

@@ -1,2 +1,3 @@
 pub mod Phases
 mod Alone
+mod Grouped

@@ -60,8 +60,7 @@ fn run_labelled<A: Algebra, G: Gate>(
     let totals = Totals { sent, taken: 0 };
     let totals = run_in_turn(&mut block, totals, turns, gate)?;
     let rows = block.rows(alloc)?;
-    let logs = block.into_logs(alloc)?;
-    let journal = Journal::from_logs(logs)?;
+    let journal = Journal::from_entries(block.into_log());
     Ok(PhasedRun {
         past: List::new(alloc),
         last: Phase { rows, journal },

@@ -10,12 +10,12 @@ use Rattle.vector_block.proofs.change.is_row.Goals as goal
 pub returns-then-ne : goal.returns-then-ne
 returns-then-ne g c =
     let value = g.A.Algebra.sig_value c.args.site.now.algebra.now in
-    let node = c.args.hearing.now.node.0 in
+    let node = c.args.hearing.node.0 in
     let paths = c.args.store.now.paths in
     let best = c.in-Some-Some.best in
     let row = c.in-Some-Some.row.now in
     let rest = c.rest-rest.result in
-    let route : Option PureRoute = (pure_store value c.args.store.now).rows node c.args.hearing.now.dest.0 in
+    let route : Option PureRoute = (pure_store value c.args.store.now).rows node c.args.hearing.dest.0 in
     let row_is : route ≡ Some (route_of value paths row) = sym c.in-Some-Some.ensures.route in
     let begins = c.requires.begins (route_of value paths row) row_is in
     let goes = c.rest-rest.ensures.path in
@@ -25,12 +25,12 @@ returns-then-ne g c =
 pub returns-else-ne : goal.returns-else-ne
 returns-else-ne g c =
     let value = g.A.Algebra.sig_value c.args.site.now.algebra.now in
-    let node = c.args.hearing.now.node.0 in
+    let node = c.args.hearing.node.0 in
     let paths = c.args.store.now.paths in
     let best = c.in-Some-Some.best in
     let row = c.in-Some-Some.row.now in
     let rest = c.rest-rest.result in
-    let route : Option PureRoute = (pure_store value c.args.store.now).rows node c.args.hearing.now.dest.0 in
+    let route : Option PureRoute = (pure_store value c.args.store.now).rows node c.args.hearing.dest.0 in
     let row_is : route ≡ Some (route_of value paths row) = sym c.in-Some-Some.ensures.route in
     let begins = c.requires.begins (route_of value paths row) row_is in
     let goes = c.rest-rest.ensures.path in

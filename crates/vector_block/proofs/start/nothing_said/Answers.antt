@@ -23,7 +23,7 @@ loop-dest-preserved g c =
 pub returns-clause-stored : goal.returns-clause-stored
 returns-clause-stored g c =
     let net = c.args.site.now.net.now in
-    let empty = c.new.ensures.items in
+    let empty = c.in_ok-with_capacity.ensures.items in
     let count = c.loop-dest.invariant.count in
     let end = c.loop-dest-test.false in
     let most = c.loop-dest.auto._dest-end in

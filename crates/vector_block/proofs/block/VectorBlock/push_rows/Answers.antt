@@ -17,7 +17,7 @@ pub returns : goal.returns
 returns g c =
     let self = c.args.self.now in
     let dest = c.args.dest.0 in
-    let same : length c.self.inside.net.now.nodes ≡ length self.net.nodes = ap (λ (b : PureBlock). length b.net.nodes) c.self.view_is in
+    let same : length c.self.inside.site.net.now.nodes ≡ length self.net.nodes = ap (λ (b : PureBlock). length b.net.nodes) c.self.view_is in
     let all : c.loop-node.node ≡ length self.net.nodes = omega (arith, c.loop-node.auto.node-end, c.loop-node-test.false, c.node_count-node-end.ensures.count, same) in
     let count = subst (λ (b : PureBlock). length b.clocks ≡ length b.net.nodes) c.self.view_is c.self.invariant.clock_count in
     c.loop-node.invariant ∙ (ap (λ k. map pure_row c.args.rows.now.items ++ map (λ node. record { node = node; dest = dest; route = at_place self.rows node dest }) (range_with_len 0 k)) all

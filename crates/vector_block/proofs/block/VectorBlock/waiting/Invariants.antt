@@ -7,6 +7,6 @@ use Rattle.vector_block.proofs.block.VectorBlock.waiting.Given as goal
 abbrev pub invariant-loop-place : goal.invariant-loop-place
 invariant-loop-place g l =
     let self = l.self-inside in
-    let net = self.net.now in
-    let reports = (pure_store (g.A.Algebra.sig_value self.algebra.now) self.store).reports in
+    let net = self.site.net.now in
+    let reports = (pure_store (g.A.Algebra.sig_value self.site.algebra.now) self.store).reports in
     l.waiting + length (waiting net l.passed (drop l.place reports)) ≡ length (waiting net self.passed (drop self.front reports))

@@ -1,7 +1,7 @@
-use Rattle.std.proofs.Common.{◌≡◌, ◌<◌, ◌+◌, ℕ, Some, Ok, length, cond, slice_get, refl, sym, ap, ◌∙◌, subst, arith}
+use Rattle.std.proofs.Common.{◌≡◌, ◌<◌, ◌+◌, ℕ, ◌∷◌, ◌++◌, [], Ok, length, map, cond, sym, ap, ◌∙◌, subst, arith}
 use Rattle.std.proofs.Math.ListN.{set}
 use Rattle.std.proofs.Common.{length-set}
-use Rattle.std.proofs.lemmas.Option.{slice_get_read}
+use Rattle.journal_merge.specs.Timing.{tagged_of}
 use Rattle.meta_base.specs.declared.errors.NoMemory.{NoMemory}
 use Rattle.net_graph.specs.Nets.{arcs_to}
 use Rattle.path_vector.specs.Coherent.{IsCoherent}
@@ -11,27 +11,16 @@ use Rattle.vector_block.specs.Blocks.{PureBlock, block_machine, log_of, machine_
 use Rattle.vector_block.specs.Hearings.{HasRechosen, heard_at}
 use Rattle.vector_block.specs.Stores.{PureStore, pure_store}
 use Rattle.vector_block.proofs.Delivering.{begins_new, can_deliver, dest_in, heard_back, heard_new, is_arc, is_hearing, known_new, out, passed_fits, rechosen_new, sent_count, settles_new, stays_chosen, stays_coherent, store_is, within}
-use Rattle.vector_block.proofs.Views.{delivery_view, is_early, pure_block}
+use Rattle.vector_block.proofs.Views.{delivery_view, is_early, log_more, logged_one, pure_block}
 use Rattle.vector_block.proofs.block.VectorBlockAllNodes.deliver.Goals as goal
 use Rattle.vector_block.proofs.block.VectorBlockAllNodes.deliver.Goals.{then-is_changed, else-is_changed}
-
-pub index_mut-requires : goal.index_mut-requires
-index_mut-requires g c =
-    let A = g.A.Algebra in
-    let self = c.self.inside in
-    let b = c.self.invariant in
-    let value = A.sig_value self.algebra.now in
-    let h = c.next_hearing.result.hearing in
-    let next = c.next_hearing.ensures in
-    let d = can_deliver b c.skip_heard.new.front c.skip_heard.new.passed c.skip_heard.ensures.same c.deref.result.now c.deref.ensures.value next.0 h next.2 in
-    omega (arith, (is_arc d).tail_in, next.2.node, b.log_count)
 
 pub hear-earlier-requires-clause-dest : goal.hear-earlier-requires-clause-dest
 hear-earlier-requires-clause-dest g c =
     let A = g.A.Algebra in
     let self = c.self.inside in
     let b = c.self.invariant in
-    let value = A.sig_value self.algebra.now in
+    let value = A.sig_value self.site.algebra.now in
     let h = c.next_hearing.result.hearing in
     let next = c.next_hearing.ensures in
     let d = can_deliver b c.skip_heard.new.front c.skip_heard.new.passed c.skip_heard.ensures.same c.deref.result.now c.deref.ensures.value next.0 h next.2 in
@@ -42,7 +31,7 @@ hear-earlier-requires-clause-arc g c =
     let A = g.A.Algebra in
     let self = c.self.inside in
     let b = c.self.invariant in
-    let value = A.sig_value self.algebra.now in
+    let value = A.sig_value self.site.algebra.now in
     let h = c.next_hearing.result.hearing in
     let next = c.next_hearing.ensures in
     let d = can_deliver b c.skip_heard.new.front c.skip_heard.new.passed c.skip_heard.ensures.same c.deref.result.now c.deref.ensures.value next.0 h next.2 in
@@ -53,7 +42,7 @@ rechoose-changed-requires-clause-hearing g c =
     let A = g.A.Algebra in
     let self = c.self.inside in
     let b = c.self.invariant in
-    let value = A.sig_value self.algebra.now in
+    let value = A.sig_value self.site.algebra.now in
     let h = c.next_hearing.result.hearing in
     let next = c.next_hearing.ensures in
     let d = can_deliver b c.skip_heard.new.front c.skip_heard.new.passed c.skip_heard.ensures.same c.deref.result.now c.deref.ensures.value next.0 h next.2 in
@@ -66,7 +55,7 @@ rechoose-changed-requires-clause-heard g c =
     let A = g.A.Algebra in
     let self = c.self.inside in
     let b = c.self.invariant in
-    let value = A.sig_value self.algebra.now in
+    let value = A.sig_value self.site.algebra.now in
     let h = c.next_hearing.result.hearing in
     let next = c.next_hearing.ensures in
     let d = can_deliver b c.skip_heard.new.front c.skip_heard.new.passed c.skip_heard.ensures.same c.deref.result.now c.deref.ensures.value next.0 h next.2 in
@@ -79,7 +68,7 @@ rechoose-changed-requires-clause-known g c =
     let A = g.A.Algebra in
     let self = c.self.inside in
     let b = c.self.invariant in
-    let value = A.sig_value self.algebra.now in
+    let value = A.sig_value self.site.algebra.now in
     let h = c.next_hearing.result.hearing in
     let next = c.next_hearing.ensures in
     let d = can_deliver b c.skip_heard.new.front c.skip_heard.new.passed c.skip_heard.ensures.same c.deref.result.now c.deref.ensures.value next.0 h next.2 in
@@ -92,7 +81,7 @@ rechoose-changed-requires-clause-begins g c =
     let A = g.A.Algebra in
     let self = c.self.inside in
     let b = c.self.invariant in
-    let value = A.sig_value self.algebra.now in
+    let value = A.sig_value self.site.algebra.now in
     let h = c.next_hearing.result.hearing in
     let next = c.next_hearing.ensures in
     let d = can_deliver b c.skip_heard.new.front c.skip_heard.new.passed c.skip_heard.ensures.same c.deref.result.now c.deref.ensures.value next.0 h next.2 in
@@ -100,12 +89,12 @@ rechoose-changed-requires-clause-begins g c =
     let hears = c.hear-earlier.ensures.heard in
     begins_new value self.store new d hears
 
-pub index_mut-requires-in-Ok : goal.index_mut-requires-in-Ok
-index_mut-requires-in-Ok g c =
+pub index_mut-requires : goal.index_mut-requires
+index_mut-requires g c =
     let A = g.A.Algebra in
     let self = c.self.inside in
     let b = c.self.invariant in
-    let value = A.sig_value self.algebra.now in
+    let value = A.sig_value self.site.algebra.now in
     let h = c.next_hearing.result.hearing in
     let next = c.next_hearing.ensures in
     let d = can_deliver b c.skip_heard.new.front c.skip_heard.new.passed c.skip_heard.ensures.same c.deref.result.now c.deref.ensures.value next.0 h next.2 in
@@ -116,7 +105,7 @@ overflow_add-self g c =
     let A = g.A.Algebra in
     let self = c.self.inside in
     let b = c.self.invariant in
-    let value = A.sig_value self.algebra.now in
+    let value = A.sig_value self.site.algebra.now in
     let h = c.next_hearing.result.hearing in
     let next = c.next_hearing.ensures in
     let d = can_deliver b c.skip_heard.new.front c.skip_heard.new.passed c.skip_heard.ensures.same c.deref.result.now c.deref.ensures.value next.0 h next.2 in
@@ -127,7 +116,7 @@ of-requires g c =
     let A = g.A.Algebra in
     let self = c.self.inside in
     let b = c.self.invariant in
-    let value = A.sig_value self.algebra.now in
+    let value = A.sig_value self.site.algebra.now in
     let h = c.next_hearing.result.hearing in
     let next = c.next_hearing.ensures in
     let d = can_deliver b c.skip_heard.new.front c.skip_heard.new.passed c.skip_heard.ensures.same c.deref.result.now c.deref.ensures.value next.0 h next.2 in
@@ -138,7 +127,7 @@ hear-requires-clause-dest g c =
     let A = g.A.Algebra in
     let self = c.self.inside in
     let b = c.self.invariant in
-    let value = A.sig_value self.algebra.now in
+    let value = A.sig_value self.site.algebra.now in
     let h = c.next_hearing.result.hearing in
     let next = c.next_hearing.ensures in
     let d = can_deliver b c.skip_heard.new.front c.skip_heard.new.passed c.skip_heard.ensures.same c.deref.result.now c.deref.ensures.value next.0 h next.2 in
@@ -149,7 +138,7 @@ hear-requires-clause-arc g c =
     let A = g.A.Algebra in
     let self = c.self.inside in
     let b = c.self.invariant in
-    let value = A.sig_value self.algebra.now in
+    let value = A.sig_value self.site.algebra.now in
     let h = c.next_hearing.result.hearing in
     let next = c.next_hearing.ensures in
     let d = can_deliver b c.skip_heard.new.front c.skip_heard.new.passed c.skip_heard.ensures.same c.deref.result.now c.deref.ensures.value next.0 h next.2 in
@@ -160,11 +149,11 @@ invariant_of-self-in-Ok g c =
     let A = g.A.Algebra in
     let self = c.self.inside in
     let b = c.self.invariant in
-    let value = A.sig_value self.algebra.now in
+    let value = A.sig_value self.site.algebra.now in
     let h = c.next_hearing.result.hearing in
     let next = c.next_hearing.ensures in
     let d = can_deliver b c.skip_heard.new.front c.skip_heard.new.passed c.skip_heard.ensures.same c.deref.result.now c.deref.ensures.value next.0 h next.2 in
-    let net = self.net.now in
+    let net = self.site.net.now in
     let t = pure_store value c.rechoose-changed.new.store in
     let is = rechosen_new value self.store c.hear-earlier.new.store d c.hear-earlier.ensures.heard NoMemory t c.in-Ok.is_changed c.in-Ok.ensures.rechosen in
     let early = is_early value b c.args.self.now c.self.view_is c.requires.early c.skip_heard.new.front c.skip_heard.new.passed c.skip_heard.ensures.same d in
@@ -175,7 +164,7 @@ invariant_of-self-in-Ok g c =
       speakers_are = b.speakers_are;
       stored = c.in-Ok.ensures.stored;
       clock_count = length-set self.clocks.items h.node.0 h.clock ∙ b.clock_count;
-      log_count = length-set self.logs.items h.node.0 c.push.new.self ∙ b.log_count;
+      logged = logged_one self.log.items c.push.new.self.items c.new.result (length net.nodes) c.in_ok-push.ensures.items (subst (λ z. z < length net.nodes) (sym (ap (λ t. t.0) c.new.ensures)) (omega (arith, (is_arc d).tail_in, next.2.node))) b.logged;
       chosen = stays_chosen d early t is;
       coherent = subst (λ k. IsCoherent net (block_machine net t (set self.clocks.items k h.clock) c.skip_heard.new.front (c.skip_heard.new.passed + 1))) (sym next.2.node) (stays_coherent d early t is);
     }
@@ -185,11 +174,11 @@ invariant_of-self-in-Err g c =
     let A = g.A.Algebra in
     let self = c.self.inside in
     let b = c.self.invariant in
-    let value = A.sig_value self.algebra.now in
+    let value = A.sig_value self.site.algebra.now in
     let h = c.next_hearing.result.hearing in
     let next = c.next_hearing.ensures in
     let d = can_deliver b c.skip_heard.new.front c.skip_heard.new.passed c.skip_heard.ensures.same c.deref.result.now c.deref.ensures.value next.0 h next.2 in
-    let net = self.net.now in
+    let net = self.site.net.now in
     let s = pure_store value self.store in
     let back : pure_store value c.hear.new.store ≡ s = heard_back value self.store c.hear-earlier.new.store c.rechoose-changed.new.store c.hear.new.store h.arc.0 h.dest.0 _ c.hear-earlier.result c.hear-earlier.ensures.heard c.in-Err.ensures.rechosen c.hear.ensures.heard c.hear-earlier.ensures.was in
     record {
@@ -199,7 +188,7 @@ invariant_of-self-in-Err g c =
       speakers_are = b.speakers_are;
       stored = c.hear.ensures.stored;
       clock_count = b.clock_count;
-      log_count = length-set self.logs.items h.node.0 c.push.new.self ∙ b.log_count;
+      logged = logged_one self.log.items c.push.new.self.items c.new.result (length net.nodes) c.in_ok-push.ensures.items (subst (λ z. z < length net.nodes) (sym (ap (λ t. t.0) c.new.ensures)) (omega (arith, (is_arc d).tail_in, next.2.node))) b.logged;
       chosen = subst (λ (z : PureStore). (i dest : ℕ) → i < length net.nodes → z.rows i dest ≡ choice net dest i (heard_at net z i)) (sym back) b.chosen;
       coherent = subst (λ (z : PureStore). IsCoherent net (block_machine net z self.clocks.items c.skip_heard.new.front c.skip_heard.new.passed)) (sym back) d.is_coherent;
     }
@@ -209,23 +198,21 @@ returns-after-is_changed-clause-delivered g c =
     let A = g.A.Algebra in
     let self = c.self.inside in
     let b = c.self.invariant in
-    let value = A.sig_value self.algebra.now in
+    let value = A.sig_value self.site.algebra.now in
     let h = c.next_hearing.result.hearing in
     let next = c.next_hearing.ensures in
     let d = can_deliver b c.skip_heard.new.front c.skip_heard.new.passed c.skip_heard.ensures.same c.deref.result.now c.deref.ensures.value next.0 h next.2 in
-    let net = self.net.now in
+    let net = self.site.net.now in
     let new = c.rechoose-changed.new.store in
     let t = pure_store value new in
     let is = rechosen_new value self.store c.hear-earlier.new.store d c.hear-earlier.ensures.heard NoMemory t c.in-Ok.is_changed c.in-Ok.ensures.rechosen in
     let early = is_early value b c.args.self.now c.self.view_is c.requires.early c.skip_heard.new.front c.skip_heard.new.passed c.skip_heard.ensures.same d in
-    let inside : h.node.0 < length self.logs.items = omega (arith, (is_arc d).tail_in, next.2.node, b.log_count) in
-    let there : slice_get self.logs.items h.node.0 ≡ Some c.index_mut.result.now = slice_get_read self.logs.items (length self.logs.items) h.node.0 c.index_mut.result.now refl inside c.index_mut.ensures.value in
+    let pushed = log_more self.log.items c.push.new.self.items c.new.result c.in_ok-push.ensures.items ∙ ap (λ t. map tagged_of self.log.items ++ t ∷ []) c.new.ensures in
     let changed = sent_count d NoMemory t c.in-Ok.is_changed (subst (λ z. HasRechosen {E = NoMemory} net h z t (Ok c.in-Ok.is_changed)) (store_is value self.store c.hear-earlier.new.store d c.hear-earlier.ensures.heard) c.in-Ok.ensures.rechosen) in
     let many : length (out d) ≡ c.if-is_changed.result = elim c.if-is_changed.branch [
       | then-is_changed w ↦ changed ∙ (ap (λ z. cond z (length (arcs_to net next.0.tail)) 0) w.if-is_changed.true ∙ (ap (λ k. length (arcs_to net k)) (sym next.2.node) ∙ (sym (b.listeners_are.each h.node.0 w.of.result.now w.of.ensures).count ∙ sym w.result-is)))
       | else-is_changed w ↦ changed ∙ (ap (λ z. cond z (length (arcs_to net next.0.tail)) 0) w.if-is_changed.false ∙ sym w.result-is)
     ] in
-    let after = pure_block value net new (set self.clocks.items h.node.0 h.clock) (set self.logs.items h.node.0 c.push.new.self) c.skip_heard.new.front (c.skip_heard.new.passed + 1) in
+    let after = pure_block value net new (set self.clocks.items h.node.0 h.clock) (map tagged_of c.push.new.self.items) c.skip_heard.new.front (c.skip_heard.new.passed + 1) in
     subst (λ (z : PureBlock). HasDelivered path_vector z.net (machine_of z) (log_of z) c.if-is_changed.result (machine_of after) (log_of after)) c.self.view_is
-    (delivery_view value net self.store new self.clocks.items self.logs.items self.front self.passed c.skip_heard.new.front c.skip_heard.new.passed d c.skip_heard.ensures.same early is c.if-is_changed.result many
-    c.index_mut.result.now c.push.new.self inside there c.in_ok-push.ensures.ok)
+    (delivery_view value net self.store new self.clocks.items (map tagged_of self.log.items) (map tagged_of c.push.new.self.items) self.front self.passed c.skip_heard.new.front c.skip_heard.new.passed d c.skip_heard.ensures.same early is c.if-is_changed.result many pushed)
