@@ -15,7 +15,7 @@ use Rattle.net_graph.specs.declared.route.RouteRow.{RouteRow}
 use Rattle.meta_base.specs.Sink.{Held, Appended, AppendedPart}
 use Rattle.meta_base.specs.declared.ids.Delivery.{Delivery}
 use Rattle.net_graph.specs.Tables.{PureRow}
-use Rattle.report_text.specs.RunTexts.{delivery_text}
+use Rattle.trace_lines.specs.DeliveryLines.{delivery_text}
 use Rattle.report_text.specs.SummaryTexts.{reach_text, reaches_text}
 use Rattle.report_text.specs.Refusals.{words, expr, network, report, misses, read, long, memory}
 use Rattle.report_text.specs.VerdictTexts.{verdict_text, lines_on}

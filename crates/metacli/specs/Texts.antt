@@ -18,7 +18,8 @@ use Rattle.wedge_nets.specs.GadgetTexts.{gadget_text}
 use Rattle.alg_model.specs.Properties.{PureProperty}
 use Rattle.report_text.specs.CodeTexts.{CanList, code_text}
 use Rattle.report_text.specs.Refusals.{memory, refusal_text, CanRefuse}
-use Rattle.report_text.specs.RunTexts.{delivery_text, end_text, phase_text}
+use Rattle.report_text.specs.RunTexts.{end_text, phase_text}
+use Rattle.trace_lines.specs.DeliveryLines.{delivery_text}
 use Rattle.report_text.specs.SummaryTexts.{AreSummed, summary_text}
 use Rattle.vector_runs.specs.Runs.{AreOfNetworks, PurePhase}
 use Rattle.metacli.specs.Answers.{PureAnswer, done, refused, spent, unmet, write_fault}

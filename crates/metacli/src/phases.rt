@@ -12,10 +12,11 @@ use crate::putting::{Cut, put_line, put_room, room_for_lines};
 use crate::writing::put_rows;
 use distance_runs::{DistanceRun, HopRow};
 use flood_runs::FloodRun;
-use meta_base::{Delivery, Sink};
+use meta_base::{Delivery, Sink, put_all};
 use net_graph::Net;
-use report_text::{end_line, phase_line, push_delivery_line, push_hop_row_line};
+use report_text::{end_line, phase_line, push_hop_row_line};
 use std::alloc::Global;
+use trace_lines::DeliveryLines;
 use vector_runs::{Journal, Phase};
 
 /// Puts the phases of a run from one number on: these of the past, the first on this network and the others on the
@@ -164,10 +165,10 @@ fn put_deliveries<K: Sink>(
     requires { AllByRecursion (λ d. d.arc.0 < length net.now.arcs) journal.now }
     ensures { PutsText (K.holds out.old) (journal_text net.now journal.now) result (K.holds out.new) }
 {
-    let mut room = room_for_lines(alloc)?;
+    let mut lines = DeliveryLines::new(alloc, net)?;
     for delivery in journal {
-        push_delivery_line(&mut room, net, delivery)?;
-        put_room(out, &mut room)?;
+        lines.write(delivery)?;
+        put_all(out, lines.line())?;
     }
     Ok(())
 }

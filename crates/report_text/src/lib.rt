@@ -18,7 +18,7 @@ pub use hop_rows::push_hop_row_line;
 pub use judged::{hops_line, judgement_lines, push_hops_line};
 pub use refusals::{Refusal, misses_line, refusal_line};
 pub use rows::{push_row_line, row_line};
-pub use runs::{end_line, phase_line, push_delivery_line};
+pub use runs::{end_line, phase_line};
 pub use summary::{
     MAX_SUMMED, numbers_are_specified, reach_line, size_line, summary_end_line, summary_lines,
 };

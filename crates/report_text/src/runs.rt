@@ -1,24 +1,9 @@
 // The lines of runs.
-ghost use Rattle.std.specs.Prelude.{◌≡◌, ◌<◌, IfOk, length, OnOk};
-ghost use Rattle.meta_base.specs.Appending.{Gains};
-ghost use Rattle.report_text.specs.RunTexts.{delivery_text, end_text, phase_text};
+ghost use Rattle.std.specs.Prelude.{◌≡◌, IfOk};
+ghost use Rattle.report_text.specs.RunTexts.{end_text, phase_text};
 
-use crate::refusals::push_arc;
-use meta_base::{Delivery, NoMemory, Text, push_number};
-use net_graph::Net;
+use meta_base::{NoMemory, Text, push_number};
 use std::alloc::Global;
-
-/// Appends the line of a delivery on a network: its clock, and the listener and the speaker of its arc. It is refused
-/// for want of memory alone; what the text holds then isn't said.
-pub fn push_delivery_line(out: &mut String, net: &Net, delivery: &Delivery) -> Result<(), NoMemory>
-    requires { delivery.now.arc.0 < length net.now.arcs }
-    ensures { OnOk result (Gains out.old (delivery_text net.now delivery.now) out.new) }
-{
-    push_number(out, u128::from(delivery.clock))?;
-    out.push_str(" ")?;
-    push_arc(out, net, delivery.arc)?;
-    Ok(out.push_str("\n")?)
-}
 
 /// The line at the beginning of a phase, with its number. It is refused for want of memory alone.
 pub fn phase_line(alloc: Global, number: usize) -> Result<Text, NoMemory>

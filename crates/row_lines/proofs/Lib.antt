@@ -1,1 +1,1 @@
-mod PathNames
+pub mod PathNames

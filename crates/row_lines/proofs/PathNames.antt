@@ -23,17 +23,9 @@ pub dests_more : (names : List PathName) (name : PathName) (dests : List (List �
     → map name_text names ++ map between_spaces (drop i dests) ≡ whole → map name_text (names ++ name ∷ []) ++ map between_spaces (drop (i + 1) dests) ≡ whole
 dests_more = prepared_more between_spaces
 
--- the name of a node or a destination, by its number
-prepared_at : (make : List ℕ → List ℕ) (names : List PathName) (nodes : List (List ℕ)) (i : ℕ) (name : PathName) → map name_text names ≡ map make nodes → i < length nodes → name ≡ get_or names i name
-    → name_text name ≡ make (get_or nodes i [])
-prepared_at make names nodes i name e h is =
-    let same : length names ≡ length nodes = sym (length-map names name_text) ∙ ap length e ∙ length-map nodes make in
-    ap name_text is ∙ sym (get_or-map name_text names i name [] (omega (arith, same))) ∙ ap (λ l. get_or l i []) e ∙ get_or-map make nodes i [] [] h
+-- a name by its number
+pub text_at : (names : List PathName) (i : ℕ) (name : PathName) → i < length names → name ≡ get_or names i name → name_text name ≡ get_or (map name_text names) i []
+text_at names i name h is = ap name_text is ∙ sym (get_or-map name_text names i name [] h)
 
-pub name_at : (names : List PathName) (nodes : List (List ℕ)) (i : ℕ) (name : PathName) → map name_text names ≡ map after_space nodes → i < length nodes → name ≡ get_or names i name
-    → name_text name ≡ after_space (get_or nodes i [])
-name_at = prepared_at after_space
-
-pub dest_at : (names : List PathName) (dests : List (List ℕ)) (i : ℕ) (name : PathName) → map name_text names ≡ map between_spaces dests → i < length dests → name ≡ get_or names i name
-    → name_text name ≡ between_spaces (get_or dests i [])
-dest_at = prepared_at between_spaces
+pub name_at : (make : List ℕ → List ℕ) (texts names : List (List ℕ)) (i : ℕ) → texts ≡ map make names → i < length names → get_or texts i [] ≡ make (get_or names i [])
+name_at make texts names i e h = ap (λ l. get_or l i []) e ∙ get_or-map make names i [] [] h

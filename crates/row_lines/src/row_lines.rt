@@ -12,8 +12,9 @@ ghost use Rattle.net_graph.specs.RowTexts.{AreNodesOf, IsRowOf, dest_text, node_
 ghost use Rattle.word_tables.specs.Routes.{lent_row};
 ghost use Rattle.word_text.specs.Forms.{Prints};
 ghost use Rattle.word_text.specs.FormLaws.{prints_prop};
-ghost use Rattle.word_text.specs.PathNames.{after_space, between_spaces, name_text};
+ghost use Rattle.word_text.specs.PathNames.{after_space, between_spaces};
 
+use crate::names::Names;
 use alg_model::{Carrier, Value, carrier_of};
 use meta_base::{DestId, NoMemory, NodeId};
 use net_graph::{Net, RouteRow};
@@ -21,7 +22,7 @@ use path_store::Trail;
 use sig_text::push_value;
 use std::alloc::Global;
 use word_tables::LentRow;
-use word_text::{Line, PathName, ValueForm};
+use word_text::{Line, ValueForm};
 
 /// The lines of rows of a network, which are written one after another in the same room. The names of nodes and
 /// destinations are prepared for all of them, with the spaces round them: so the line stands after a space.
@@ -29,44 +30,13 @@ use word_text::{Line, PathName, ValueForm};
 pub struct RowLines<'a> {
     net: &'a Net,
     form: ValueForm,
-    names: Vec<PathName>,
-    dests: Vec<PathName>,
+    names: Names,
+    dests: Names,
     value: String,
     line: Line,
     ghost form_is: { Prints (net_carrier net.now) form } by { prints_prop (net_carrier net.now) form },
-    ghost names_are: { map name_text names.items ≡ map after_space net.now.nodes },
-    ghost dests_are: { map name_text dests.items ≡ map between_spaces net.now.dests },
-}
-
-// The names of all nodes of a network.
-fn path_names(alloc: Global, net: &Net) -> Result<Vec<PathName>, NoMemory>
-    ensures { IfOk result (λ names. map name_text names.items ≡ map after_space net.now.nodes) }
-{
-    let mut names = Vec::with_capacity(alloc, net.node_count())?;
-    let mut text = Line::new(alloc)?;
-    for node in 0..net.node_count() {
-        text.clear();
-        text.push_bytes(b" ")?;
-        text.push_bytes(net.node_text(NodeId(node as u32)).as_bytes())?;
-        names.push(PathName::of(alloc, text.as_bytes())?)?;
-    }
-    Ok(names)
-}
-
-// The names of all destinations of a network.
-fn dest_names(alloc: Global, net: &Net) -> Result<Vec<PathName>, NoMemory>
-    ensures { IfOk result (λ names. map name_text names.items ≡ map between_spaces net.now.dests) }
-{
-    let mut names = Vec::with_capacity(alloc, net.dest_count())?;
-    let mut text = Line::new(alloc)?;
-    for dest in 0..net.dest_count() {
-        text.clear();
-        text.push_bytes(b" ")?;
-        text.push_bytes(net.dest_text(DestId(dest as u32)).as_bytes())?;
-        text.push_bytes(b" ")?;
-        names.push(PathName::of(alloc, text.as_bytes())?)?;
-    }
-    Ok(names)
+    ghost names_are: { names ≡ map after_space net.now.nodes },
+    ghost dests_are: { dests ≡ map between_spaces net.now.dests },
 }
 
 impl<'a> RowLines<'a> {
@@ -79,8 +49,8 @@ impl<'a> RowLines<'a> {
         Ok(RowLines {
             net,
             form: ValueForm::of(alloc, carrier_of(alloc, net.alg())?)?,
-            names: path_names(alloc, net)?,
-            dests: dest_names(alloc, net)?,
+            names: Names::of_nodes(alloc, net)?,
+            dests: Names::of_dests(alloc, net)?,
             value: String::new(alloc),
             line: Line::new(alloc)?,
         })
@@ -177,14 +147,14 @@ impl<'a> RowLines<'a> {
 
     // The name of a destination, between spaces.
     #[inline(always)]
-    #[tactic(auto, using(crate::proofs::PathNames::dest_at))]
+    #[tactic(auto, using(crate::proofs::PathNames::name_at))]
     fn push_dest(&mut self, dest: DestId) -> Result<(), NoMemory>
         requires { dest.0 < length (net_of self.now).dests }
         ensures line { OnOk result (room_of self.new ≡ room_of self.old
             ++ between_spaces (dest_text (net_of self.old) dest.0)) }
         ensures net { net_of self.new ≡ net_of self.old }
     {
-        self.line.push_name(&self.dests[dest.0 as usize])
+        self.dests.push(&mut self.line, dest.0 as usize)
     }
 
     // The name of a node, after a space.
@@ -196,7 +166,7 @@ impl<'a> RowLines<'a> {
             ++ after_space (node_text (net_of self.old) node.0)) }
         ensures net { net_of self.new ≡ net_of self.old }
     {
-        self.line.push_name(&self.names[node.0 as usize])
+        self.names.push(&mut self.line, node.0 as usize)
     }
 
     // The names of the nodes of a path, each after a space.

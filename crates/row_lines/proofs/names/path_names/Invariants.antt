@@ -1,6 +1,6 @@
 use Rattle.std.proofs.Common.{◌≡◌, ◌++◌, drop, map}
 use Rattle.word_text.specs.PathNames.{after_space, name_text}
-use Rattle.row_lines.proofs.row_lines.path_names.Given as goal
+use Rattle.row_lines.proofs.names.path_names.Given as goal
 
 -- with those that are left they are the names of all nodes
 abbrev pub invariant-loop-node : goal.invariant-loop-node

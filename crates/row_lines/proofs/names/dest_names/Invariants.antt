@@ -1,6 +1,6 @@
 use Rattle.std.proofs.Common.{◌≡◌, ◌++◌, drop, map}
 use Rattle.word_text.specs.PathNames.{between_spaces, name_text}
-use Rattle.row_lines.proofs.row_lines.dest_names.Given as goal
+use Rattle.row_lines.proofs.names.dest_names.Given as goal
 
 -- with those that are left they are the names of all destinations
 abbrev pub invariant-loop-dest : goal.invariant-loop-dest
